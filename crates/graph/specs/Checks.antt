@@ -1,0 +1,19 @@
+-- The checks of a graph that several rows of "Where each check stands" share.
+use mathlib.Core.Bool.{_||_, not}
+use mathlib.Core.List.{[], _∷_}
+use lib.Dec.{ltb, leb}
+use lib.ListN.{length}
+use Rattle.node.specs.Answers.{refused, Row}
+use Rattle.node.specs.Nodes.{KBWG}
+use Rattle.graph.specs.Runs.{Graph, largestArc, lastEnds}
+
+-- "8 largest arc (carried) at least the node count; 9 last node no end"
+abbrev pub nodesRow : Graph → Row
+nodesRow g =
+    (leb (length g) (largestArc KBWG g), refused 8 (largestArc KBWG g ∷ []))
+    ∷ (not (lastEnds KBWG g), refused 9 [])
+    ∷ []
+
+-- "10+ under 2 nodes or over 16,777,216; 8; 9"
+abbrev pub graphRow : Graph → Row
+graphRow g = (ltb (length g) 2 || ltb 16_777_216 (length g), refused 10 []) ∷ nodesRow g

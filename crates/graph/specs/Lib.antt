@@ -1,0 +1,7 @@
+pub mod Runs
+pub mod Words
+pub mod Order
+pub mod Loops
+pub mod Checks
+pub mod WordsAscend
+pub mod WordsEquation

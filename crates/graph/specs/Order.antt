@@ -1,0 +1,17 @@
+-- The order of words, from document 01, "Nodes and words".
+use mathlib.Core.List.{List, [], _∷_}
+use Prim.Native.Nat.{ℕ, _<_}
+use Rattle.laws.specs.Lists.{All}
+use Rattle.graph.specs.Words.{Word}
+
+infix 20 _≺_
+-- "Words compare by tiles, a prefix first."
+pub data _≺_ : Word → Word → Type 0 where
+  prefix : {b : ℕ} {v : Word} → [] ≺ (b ∷ v)
+  lower : {a b : ℕ} {u v : Word} → a < b → (a ∷ u) ≺ (b ∷ v)
+  later : {a : ℕ} {u v : Word} → u ≺ v → (a ∷ u) ≺ (a ∷ v)
+
+-- each word is below all that come after it
+abbrev pub Ascending : List Word → Type 0
+Ascending [] = Unit
+Ascending (w ∷ ws) = All (w ≺_) ws × Ascending ws

@@ -1,0 +1,139 @@
+-- On a graph whose runs ascend the words from a node ascend strictly. The idea: the words of one node begin with its tile, and those
+-- of the nodes after it with higher ones.
+use mathlib.Core.Path.{_≡_, refl}
+use mathlib.Core.Bool.{true, false, _||_}
+use mathlib.Core.List.{List, [], _∷_, _++_, map}
+use Prim.Native.Nat.{ℕ, zero, suc, zero-le, _≤_, _<_}
+use native.Mathlib.Omega.{arith}
+use lib.Dec.{eqb, ltb}
+use borrow.Author.Tests.{ltb-true}
+use lib.ListN.{length, getD, drop}
+use Rattle.laws.specs.Cases.{split, and-left, and-right}
+use Rattle.laws.specs.Lists.{All, all-append, all-weaken}
+use Rattle.node.specs.Nodes.{Places, tile, arc, accepts, isEnd}
+use Rattle.graph.specs.Runs.{Graph, run, ascends}
+use Rattle.graph.specs.Words.{Word, inOrder, spelled, wordsWithin, words}
+use Rattle.graph.specs.Order.{_≺_, prefix, lower, later, Ascending}
+
+-- a word's first tile: at least t, or t
+abbrev pub From : ℕ → Word → Type 0
+From t [] = ⊥
+From t (a ∷ u) = t ≤ a
+
+abbrev pub Begins : ℕ → Word → Type 0
+Begins t [] = ⊥
+Begins t (a ∷ u) = a ≡ t
+
+begins-map : (t : ℕ) (ws : List Word) → All (Begins t) (map (t ∷_) ws)
+begins-map t [] = tt
+begins-map t (w ∷ ws) = (refl, begins-map t ws)
+
+below : (t : ℕ) (x y : Word) → Begins t x → From (suc t) y → x ≺ y
+below t (a ∷ u) (b ∷ v) h k = let l : a < b = omega arith in lower l
+below t [] y h k = absurd h
+below t (a ∷ u) [] h k = absurd k
+
+ascending-append : (t : ℕ) (xs ys : List Word) → All (Begins t) xs → All (From (suc t)) ys → Ascending xs → Ascending ys → Ascending (xs ++ ys)
+ascending-append t [] ys h k a b = b
+ascending-append t (x ∷ xs) ys h k a b =
+    (all-append (x ≺_) xs ys (a .0) (all-weaken (From (suc t)) (x ≺_) (λ y f. below t x y (h .0) f) ys k), ascending-append t xs ys (h .1) k (a .1) b)
+
+all-under : (t : ℕ) (w : Word) (ws : List Word) → All (w ≺_) ws → All ((t ∷ w) ≺_) (map (t ∷_) ws)
+all-under t w [] h = tt
+all-under t w (v ∷ vs) h = (later (h .0), all-under t w vs (h .1))
+
+ascending-map : (t : ℕ) (ws : List Word) → Ascending ws → Ascending (map (t ∷_) ws)
+ascending-map t [] a = tt
+ascending-map t (w ∷ ws) a = (all-under t w ws (a .0), ascending-map t ws (a .1))
+
+alone-first : (t : ℕ) (ws : List Word) → All (From 0) ws → All ((t ∷ []) ≺_) (map (t ∷_) ws)
+alone-first t [] h = tt
+alone-first t ([] ∷ ws) h = absurd (h .0)
+alone-first t ((a ∷ u) ∷ ws) h = (later prefix, alone-first t ws (h .1))
+
+module _ (y : Places) where
+  pub ascends-tail : (v w : ℕ) (l : Graph) → ascends y (v ∷ w ∷ l) ≡ true → ascends y (w ∷ l) ≡ true
+  unfolding ascends
+  ascends-tail v w l a = and-right (isEnd y v || ltb (tile y v) (tile y w)) (ascends y (w ∷ l)) a
+
+  pub ascends-head : (v w : ℕ) (l : Graph) → ascends y (v ∷ w ∷ l) ≡ true → isEnd y v ≡ false → tile y v < tile y w
+  unfolding ascends
+  ascends-head v w l a e = ltb-true (tile y v) (tile y w) (rw e at (and-left (isEnd y v || ltb (tile y v) (tile y w)) (ascends y (w ∷ l)) a))
+
+  module _ (from : ℕ → List Word) (nonempty : (q : ℕ) → All (From 0) (from q)) (sorted : (q : ℕ) → Ascending (from q)) where
+    pub spelled-begins : (v : ℕ) → All (Begins (tile y v)) (spelled y from v)
+    unfolding spelled
+    spelled-begins v =
+        split (accepts y v)
+        (λ a. split (eqb (arc y v) 0) (λ z. rw (a, z, spelled) (refl, tt)) (λ z. rw (a, z, spelled) (refl, begins-map (tile y v) (from (arc y v)))))
+        (λ a. split (eqb (arc y v) 0) (λ z. rw (a, z, spelled) tt) (λ z. rw (a, z, spelled) (begins-map (tile y v) (from (arc y v)))))
+
+    spelled-ascending : (v : ℕ) → Ascending (spelled y from v)
+    unfolding spelled
+    spelled-ascending v =
+        split (accepts y v)
+        (λ a. split (eqb (arc y v) 0)
+        (λ z. rw (a, z, spelled) (tt, tt))
+        (λ z. rw (a, z, spelled) (alone-first (tile y v) (from (arc y v)) (nonempty (arc y v)), ascending-map (tile y v) (from (arc y v)) (sorted (arc y v)))))
+        (λ a. split (eqb (arc y v) 0)
+        (λ z. rw (a, z, spelled) tt)
+        (λ z. rw (a, z, spelled) (ascending-map (tile y v) (from (arc y v)) (sorted (arc y v)))))
+
+    at-least : (t : ℕ) (v : ℕ) → t ≤ tile y v → (w : Word) → Begins (tile y v) w → From t w
+    at-least t v h [] b = b
+    at-least t v h (a ∷ u) b = omega arith
+
+    one-head : (t : ℕ) (v : ℕ) → t ≤ tile y v → All (From t) (spelled y from v)
+    one-head t v h = all-weaken (Begins (tile y v)) (From t) (at-least t v h) (spelled y from v) (spelled-begins v)
+
+    -- the words of an ascending run, t at most its first tile
+    pub heads : (l : Graph) (t : ℕ) → ascends y l ≡ true → t ≤ tile y (getD l 0 0) → All (From t) (inOrder (spelled y from) (run y l))
+    unfolding run inOrder ascends
+    heads [] t a h = tt
+    heads (v ∷ []) t a h =
+        split (isEnd y v)
+        (λ e. rw (e, run) (all-append (From t) (spelled y from v) [] (one-head t v h) tt))
+        (λ e. rw (e, run) (all-append (From t) (spelled y from v) [] (one-head t v h) tt))
+    heads (v ∷ w ∷ l) t a h =
+        split (isEnd y v)
+        (λ e. rw (e, run) (all-append (From t) (spelled y from v) [] (one-head t v h) tt))
+        (λ e.
+        let lt : tile y v < tile y w = ascends-head v w l a e in
+        rw (e, run) (all-append (From t) (spelled y from v) (inOrder (spelled y from) (run y (w ∷ l))) (one-head t v h)
+        (heads (w ∷ l) t (ascends-tail v w l a) (omega arith))))
+
+    run-ascending : (l : Graph) → ascends y l ≡ true → Ascending (inOrder (spelled y from) (run y l))
+    unfolding run inOrder ascends
+    run-ascending [] a = tt
+    run-ascending (v ∷ []) a =
+        split (isEnd y v)
+        (λ e. rw (e, run) (ascending-append (tile y v) (spelled y from v) [] (spelled-begins v) tt (spelled-ascending v) tt))
+        (λ e. rw (e, run) (ascending-append (tile y v) (spelled y from v) [] (spelled-begins v) tt (spelled-ascending v) tt))
+    run-ascending (v ∷ w ∷ l) a =
+        split (isEnd y v)
+        (λ e. rw (e, run) (ascending-append (tile y v) (spelled y from v) [] (spelled-begins v) tt (spelled-ascending v) tt))
+        (λ e.
+        let lt : tile y v < tile y w = ascends-head v w l a e in
+        rw (e, run) (ascending-append (tile y v) (spelled y from v) (inOrder (spelled y from) (run y (w ∷ l))) (spelled-begins v)
+        (heads (w ∷ l) (suc (tile y v)) (ascends-tail v w l a) lt) (spelled-ascending v) (run-ascending (w ∷ l) (ascends-tail v w l a))))
+
+  pub ascends-drop : (p : ℕ) (g : Graph) → ascends y g ≡ true → ascends y (drop p g) ≡ true
+  unfolding ascends
+  ascends-drop zero g a = a
+  ascends-drop (suc p) [] a = refl
+  ascends-drop (suc p) (v ∷ []) a = ascends-drop p [] refl
+  ascends-drop (suc p) (v ∷ w ∷ l) a = ascends-drop p (w ∷ l) (ascends-tail v w l a)
+
+  module _ (g : Graph) (a : ascends y g ≡ true) where
+    pub both : (k : ℕ) → ((p : ℕ) → All (From 0) (wordsWithin y k g p)) × ((p : ℕ) → Ascending (wordsWithin y k g p))
+    unfolding wordsWithin
+    both zero = ((λ p. tt), (λ p. tt))
+    both (suc k) =
+        let h = both k in (
+          (λ p. heads (λ q. wordsWithin y k g q) (h .0) (h .1) (drop p g) 0 (ascends-drop p g a) zero-le),
+          (λ p. run-ascending (λ q. wordsWithin y k g q) (h .0) (h .1) (drop p g) (ascends-drop p g a)),
+        )
+
+    pub words-ascend : (p : ℕ) → Ascending (words y g p)
+    unfolding words
+    words-ascend p = both (length g) .1 p

@@ -1,0 +1,1 @@
+// The meaning of a word graph: its runs, words and loops, in specs/.

@@ -1,0 +1,1 @@
+// What is promised of the engine as a whole, in specs/.

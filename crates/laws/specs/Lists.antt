@@ -1,0 +1,14 @@
+-- What holds of every entry of a list.
+use mathlib.Core.List.{List, [], _∷_, _++_}
+
+abbrev pub All {ℓ κ} : {A : Type ℓ} → (A → Type κ) → List A → Type κ
+All P [] = Unit
+All P (x ∷ xs) = P x × All P xs
+
+pub all-append {ℓ κ} : {A : Type ℓ} (P : A → Type κ) (xs ys : List A) → All P xs → All P ys → All P (xs ++ ys)
+all-append P [] ys h k = k
+all-append P (x ∷ xs) ys h k = (h .0, all-append P xs ys (h .1) k)
+
+pub all-weaken {ℓ κ μ} : {A : Type ℓ} (P : A → Type κ) (Q : A → Type μ) → ((x : A) → P x → Q x) → (xs : List A) → All P xs → All Q xs
+all-weaken P Q f [] h = tt
+all-weaken P Q f (x ∷ xs) h = (f x (h .0), all-weaken P Q f xs (h .1))

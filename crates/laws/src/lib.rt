@@ -1,0 +1,1 @@
+// What the toolchain's libraries lack, in specs/. Nothing here is about word graphs.

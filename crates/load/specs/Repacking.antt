@@ -1,0 +1,48 @@
+-- Nodes of one layout in another, up to the first that doesn't fit; from document 01, "Loading" and the row "repacking".
+use mathlib.Core.Bool.{true, false}
+use mathlib.Core.List.{List, [], _∷_}
+use mathlib.Core.Option.{Option, none, some}
+use Prim.Native.Nat.{ℕ, suc}
+use lib.Seq.{sets}
+use Rattle.node.specs.Answers.{Answer, gives, refused}
+use Rattle.node.specs.Nodes.{Places, fields, tile, arc, fits, packed}
+use Rattle.load.specs.Bytes.{wholeNodes, nodeBytes}
+use Rattle.load.specs.declared.repack.Repacked.{Repacked}
+use Rattle.load.specs.declared.repack.Repacked.the-variants.{Whole, DoesNotFit}
+
+-- "6 node doesn't fit (carries node, tile, arc)"
+pub record Misfit : Type 0 where
+  pub node : ℕ
+  pub tile : ℕ
+  pub arc : ℕ
+
+module _ (old new : Places) where
+  -- the first node that doesn't fit; i is the number of the first of them all
+  unfoldable pub firstMisfit : ℕ → List ℕ → Option Misfit
+  firstMisfit i [] = none
+  firstMisfit i (v ∷ vs) =
+      elim (fits new (fields old v)) [
+        | true ↦ firstMisfit (suc i) vs
+        | false ↦ some (record { node = i; tile = tile old v; arc = arc old v })
+      ]
+
+  -- the nodes before it, in the new layout
+  unfoldable pub fitting : List ℕ → List ℕ
+  fitting [] = []
+  fitting (v ∷ vs) = elim (fits new (fields old v)) [ true ↦ packed new (fields old v) ∷ fitting vs | false ↦ [] ]
+
+abbrev pub misfitAnswer : Option Misfit → Answer
+misfitAnswer none = gives []
+misfitAnswer (some m) = refused 6 (m .node ∷ m .tile ∷ m .arc ∷ [])
+
+-- "a node that doesn't fit stops it with the nodes before rewritten; a part node at the end stays"
+module _ (old new : Places) (bytes : List ℕ) where
+  abbrev pub repackAnswer : Answer
+  repackAnswer = misfitAnswer (firstMisfit old new 0 (wholeNodes bytes))
+
+  abbrev pub repackedBytes : List ℕ
+  repackedBytes = sets bytes 0 (nodeBytes (fitting old new (wholeNodes bytes)))
+
+abbrev pub said : Repacked → Answer
+said Whole = gives []
+said (DoesNotFit i t r) = refused 6 (i ∷ t ∷ r ∷ [])

@@ -1,0 +1,83 @@
+use mathlib.Core.Path.{refl, ap, _∙_}
+use Rattle.node.specs.Nodes.{KWG, KBWG}
+use Rattle.node.specs.Said.{placesOf, packAnswer}
+use Rattle.node.specs.PackingLaws.{values-fields}
+use borrow.Author.Needs.{needs}
+use Rattle.node.proofs.repack_node.Statement.{statement}
+use Rattle.node.proofs.repack_node.Tie as tie
+use Rattle.node.proofs.repack_node.Reads as reads
+use Rattle.node.proofs.repack_node.Lts as lts
+use Rattle.node.proofs.Node22.accepts.Reads as Node22-accepts-reads
+use Rattle.node.proofs.Node22.arc_index.Reads as Node22-arc-index-reads
+use Rattle.node.proofs.Node22.is_end.Reads as Node22-is-end-reads
+use Rattle.node.proofs.Node22.tile.Reads as Node22-tile-reads
+use Rattle.node.proofs.Node24.accepts.Reads as Node24-accepts-reads
+use Rattle.node.proofs.Node24.arc_index.Reads as Node24-arc-index-reads
+use Rattle.node.proofs.Node24.is_end.Reads as Node24-is-end-reads
+use Rattle.node.proofs.Node24.tile.Reads as Node24-tile-reads
+use Rattle.node.proofs.pack.Reads as pack-reads
+
+enum-told : tie.Need-enum-told
+enum-told c = search needs
+
+tile-requires : tie.Need-tile-requires
+tile-requires c κs = search needs
+
+accepts-requires : tie.Need-accepts-requires
+accepts-requires c κs = search needs
+
+is-end-requires : tie.Need-is-end-requires
+is-end-requires c κs = search needs
+
+arc-index-requires : tie.Need-arc-index-requires
+arc-index-requires c κs = search needs
+
+pack-requires : tie.Need-pack-requires
+pack-requires c κs = search needs
+
+enum-told-2 : tie.Need-enum-told-2
+enum-told-2 c = search needs
+
+tile-requires-2 : tie.Need-tile-requires-2
+tile-requires-2 c κs = search needs
+
+accepts-requires-2 : tie.Need-accepts-requires-2
+accepts-requires-2 c κs = search needs
+
+is-end-requires-2 : tie.Need-is-end-requires-2
+is-end-requires-2 c κs = search needs
+
+arc-index-requires-2 : tie.Need-arc-index-requires-2
+arc-index-requires-2 c κs = search needs
+
+pack-requires-2 : tie.Need-pack-requires-2
+pack-requires-2 c κs = search needs
+
+returns : tie.Need-returns
+returns c = rw (c .before .before .before .before .before .enum-told .given .1)
+    (c .pack .ensures ∙ ap (packAnswer (placesOf (c .before .before .before .before .before .before .before .args .to)))
+    (values-fields KWG (refl, refl) _ (c .before .before .before .before .tile .ensures) (c .before .before .before .accepts .ensures) (c .before .before .is-end .ensures) (c .before .arc-index .ensures)))
+
+returns-2 : tie.Need-returns-2
+returns-2 c = rw (c .before .before .before .before .before .enum-told2 .given .1)
+    (c .pack2 .ensures ∙ ap (packAnswer (placesOf (c .before .before .before .before .before .before .before .args .to)))
+    (values-fields KBWG (refl, refl) _ (c .before .before .before .before .tile2 .ensures) (c .before .before .before .accepts2 .ensures) (c .before .before .is-end2 .ensures) (c .before .arc-index2 .ensures)))
+
+pub repack-node-spec : {M : Type 1} → statement M
+repack-node-spec =
+    tie.close
+    (tie.spec
+    enum-told
+    tile-requires
+    accepts-requires
+    is-end-requires
+    arc-index-requires
+    pack-requires
+    enum-told-2
+    tile-requires-2
+    accepts-requires-2
+    is-end-requires-2
+    arc-index-requires-2
+    pack-requires-2
+    returns
+    returns-2)

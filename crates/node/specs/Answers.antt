@@ -1,0 +1,19 @@
+-- An answer as document 01 writes it: its values, none, or a refusal's number with the values that it carries.
+use mathlib.Core.Bool.{Bool, true, false}
+use mathlib.Core.List.{List, [], _∷_}
+use mathlib.Core.Option.{Option, none, some}
+use Prim.Native.Nat.{ℕ}
+
+pub data Answer : Type 0 where
+  gives : List ℕ → Answer
+  nothing : Answer
+  refused : ℕ → List ℕ → Answer
+
+-- A row of the table "Where each check stands": conditions, each with what it refuses by.
+abbrev pub Row : Type 0
+Row = List (Bool × Answer)
+
+-- "In each place the order is that of the row": the first condition that holds refuses.
+unfoldable pub firstOf : Row → Option Answer
+firstOf [] = none
+firstOf (c ∷ cs) = elim (c .0) [ true ↦ some (c .1) | false ↦ firstOf cs ]

@@ -1,0 +1,5 @@
+pub mod Answers
+pub mod Nodes
+pub mod PackingLaws
+pub mod Said
+pub mod SaidLaws

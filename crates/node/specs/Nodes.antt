@@ -1,0 +1,100 @@
+-- A node's fields, the layouts that keep them in 32 bits, and packing; from document 01, "Nodes and words".
+use mathlib.Core.Bool.{Bool, true, false, _&&_}
+use mathlib.Core.List.{List, [], _∷_}
+use Prim.Native.Nat.{ℕ, suc, _+_, _-_, _*_, _/_, _%_, _^_}
+use lib.Dec.{eqb, ltb}
+
+pub data Field : Type 0 where
+  Tile Accepts End Arc : Field
+
+-- "Bits are counted from 0, the lowest": the bits from `first` to `last`.
+pub record Bits : Type 0 where
+  pub first : ℕ
+  pub last : ℕ
+
+abbrev pub bits : ℕ → ℕ → Bits
+bits first last = record { first = first; last = last }
+
+abbrev pub width : Bits → ℕ
+width b = suc (b .last) - b .first
+
+-- Where a layout keeps each field, and its fields from the lowest bit up.
+pub record Places : Type 0 where
+  pub tile : Bits
+  pub accepts : Bits
+  pub end : Bits
+  pub arc : Bits
+  pub upward : List Field
+
+-- "KWG (`Node22`): tile bits 24–31, accepts 23, end 22, arc 0–21."
+abbrev pub KWG : Places
+KWG =
+    record {
+      tile = bits 24 31;
+      accepts = bits 23 23;
+      end = bits 22 22;
+      arc = bits 0 21;
+      upward = Arc ∷ End ∷ Accepts ∷ Tile ∷ [];
+    }
+
+-- "KBWG (`Node24`): arc bits 8–31, accepts 7, end 6, tile 0–5."
+abbrev pub KBWG : Places
+KBWG =
+    record {
+      arc = bits 8 31;
+      accepts = bits 7 7;
+      end = bits 6 6;
+      tile = bits 0 5;
+      upward = Tile ∷ End ∷ Accepts ∷ Arc ∷ [];
+    }
+
+abbrev pub at : Places → Field → Bits
+at y Tile = y .tile
+at y Accepts = y .accepts
+at y End = y .end
+at y Arc = y .arc
+
+-- A value for each field.
+abbrev pub Values : Type 0
+Values = Field → ℕ
+
+-- ---- reading a node in the layout y
+module _ (y : Places) where
+  abbrev pub fields : ℕ → Values
+  fields v f = v / 2 ^ at y f .first % 2 ^ width (at y f)
+
+  abbrev pub tile : ℕ → ℕ
+  tile v = fields v Tile
+
+  abbrev pub arc : ℕ → ℕ
+  arc v = fields v Arc
+
+  abbrev pub accepts : ℕ → Bool
+  accepts v = eqb (fields v Accepts) 1
+
+  abbrev pub isEnd : ℕ → Bool
+  isEnd v = eqb (fields v End) 1
+
+-- ---- making a node in the layout y
+abbrev pub flag : Bool → ℕ
+flag true = 1
+flag false = 0
+
+abbrev pub values : ℕ → Bool → Bool → ℕ → Values
+values t a e r Tile = t
+values t a e r Accepts = flag a
+values t a e r End = flag e
+values t a e r Arc = r
+
+module _ (y : Places) where
+  -- each value at its field's place
+  abbrev pub placed : List Field → Values → ℕ
+  placed [] x = 0
+  placed (f ∷ fs) x = x f * 2 ^ at y f .first + placed fs x
+
+  abbrev pub packed : Values → ℕ
+  packed x = placed (y .upward) x
+
+  -- "node doesn't fit": a flag always does
+  unfoldable pub fits : Values → Bool
+  fits x = ltb (x Tile) (2 ^ width (y .tile)) && ltb (x Arc) (2 ^ width (y .arc))

@@ -1,0 +1,46 @@
+// The families of calls. A new family is a module and a line in FAMILIES.
+
+mod layout;
+mod nodes;
+mod trial;
+
+use crate::numbers::{self, Inputs, Unreadable};
+use crate::requests::Requests;
+use std::ops::RangeInclusive;
+
+pub struct Family {
+    // The name of the list of its requests.
+    pub list: &'static str,
+    // The numbers of its calls, which no other family has.
+    pub calls: RangeInclusive<u64>,
+    pub requests: fn(&mut Requests),
+    // The Rust's answer to a call with these inputs. An error is for a request
+    // that cannot be asked; what the Rust refuses is an answer.
+    pub answer: fn(u64, &mut Inputs) -> Result<Vec<u64>, Unreadable>,
+}
+
+const FAMILIES: &[Family] = &[trial::FAMILY, nodes::FAMILY];
+
+pub fn find_list(name: &str) -> Option<&'static Family> {
+    FAMILIES.iter().find(|family| family.list == name)
+}
+
+pub fn list_names() -> String {
+    let names: Vec<&str> = FAMILIES
+        .iter()
+        .map(|family| family.list)
+        .filter(|&list| list != trial::FAMILY.list)
+        .collect();
+    names.join(" ")
+}
+
+pub fn answer(request: &str) -> Result<String, Unreadable> {
+    let numbers = numbers::parse(request)?;
+    let mut inputs = Inputs(&numbers);
+    let call = inputs.number(u64::MAX)?;
+    let family = FAMILIES
+        .iter()
+        .find(|family| family.calls.contains(&call))
+        .ok_or_else(|| format!("no call {call}"))?;
+    Ok(numbers::join(&(family.answer)(call, &mut inputs)?))
+}
