@@ -1,1 +1,58 @@
-// The meaning of a word graph: its runs, words and loops, in specs/.
+// A word graph: the meaning of its runs, words and loops is in specs/; here are the checks that several calls share.
+ghost use mathlib.Core.Path.{_≡_};
+ghost use Prim.Native.Nat.{max};
+ghost use Rattle.node.specs.Answers.{firstOf};
+ghost use Rattle.node.specs.Nodes.{KBWG};
+ghost use Rattle.graph.specs.Runs.{largestArc, lastEnds};
+ghost use Rattle.graph.specs.Checks.{nodesRow, refusal};
+
+use node::Node24;
+
+pub enum NodesCheck {
+    Sound,
+    ArcPastEnd(u32),
+    NoEnd,
+}
+
+fn larger(a: u32, b: u32) -> u32
+    ensures { λ r. ⌜ r ≡ max a b ⌝ }
+{
+    if a < b { b } else { a }
+}
+
+fn largest_arc(nodes: &[u32]) -> u32
+    ensures { λ r. ⌜ r ≡ largestArc KBWG (now (nodes .entry)) ⌝ }
+{
+    let mut largest: u32 = 0;
+    let mut i: usize = 0;
+    while i < nodes.len() {
+        largest = larger(largest, Node24(nodes[i]).arc_index());
+        i += 1;
+    }
+    largest
+}
+
+fn last_ends(nodes: &[u32]) -> bool
+    ensures { λ r. ⌜ r ≡ lastEnds KBWG (now (nodes .entry)) ⌝ }
+{
+    let n = nodes.len();
+    if n == 0 {
+        return false;
+    }
+    Node24(nodes[n - 1]).is_end()
+}
+
+// Whether every arc leads to a node and the last node ends its run, so that no walk leaves the nodes.
+pub fn check_nodes(nodes: &[u32]) -> NodesCheck
+    ensures { λ r. ⌜ refusal r ≡ firstOf (nodesRow (now (nodes .entry))) ⌝ }
+{
+    let largest = largest_arc(nodes);
+    if nodes.len() <= largest as usize {
+        return NodesCheck::ArcPastEnd(largest);
+    }
+    if last_ends(nodes) {
+        NodesCheck::Sound
+    } else {
+        NodesCheck::NoEnd
+    }
+}

@@ -1,22 +1,21 @@
--- A turn of repacking in place: what is left of the bytes gives the answer of the whole.
-use mathlib.Core.Path.{_≡_, refl, _∙_}
+-- A turn of repacking in place: what is left of the bytes gives the answer and the bytes of the whole.
+use mathlib.Core.Path.{_≡_, refl, sym, ap, _∙_}
 use mathlib.Core.List.{List, [], _∷_}
 use Prim.Native.Nat.{ℕ, suc, _+_, _/_, _<_, _≤_}
 use native.Mathlib.Omega.{arith}
 use native.Mathlib.Numerals.{add-four}
-use lib.ListN.{length, drop, length-drop}
+use lib.ListN.{length, drop}
 use lib.Seq.{sets, drop-set-lt}
 use Rattle.node.specs.Answers.{Answer, gives, refused}
-use Rattle.node.specs.Nodes.{Places, fields}
+use Rattle.node.specs.Nodes.{Places}
 use Rattle.node.specs.Said.{repackNodeAnswer}
-use Rattle.node.specs.SaidLaws.{told-node, told-misfit}
 use Rattle.load.specs.Bytes.{toBytes, wholeNodes, nodeBytes}
-use Rattle.load.specs.BytesLaws.{nodeAt, whole-next, whole-none}
+use Rattle.load.specs.BytesLaws.{nodeAt}
 use Rattle.load.specs.Repacking.{firstMisfit, fitting, misfitAnswer}
-use Rattle.load.specs.RepackingLaws.{fitting-next, fitting-stops, misfit-later, misfit-here}
+use Rattle.load.specs.RepackingLaws.{next-fits, next-stops, none-left}
 
 module _ (old new : Places) where
-  -- the answer and the bytes that come of the bytes from place i on, where node i / 4 stands
+  -- the answer and the bytes that come of the bytes from place i on, where node i / 4 begins
   abbrev pub answerFrom : List ℕ → ℕ → Answer
   answerFrom s i = misfitAnswer (firstMisfit old new (i / 4) (wholeNodes (drop i s)))
 
@@ -35,23 +34,15 @@ module _ (old new : Places) where
         → (answerFrom (sets s i (toBytes v)) (i + 4) ≡ answerFrom s i) × (bytesFrom (sets s i (toBytes v)) (i + 4) ≡ bytesFrom s i)
     unfolding nodeBytes
     node-fits {v} h e =
-        let t = told-node new (fields old (nodeAt s i)) e in
-        let n : (i + 4) / 4 ≡ suc (i / 4) = omega arith in
-        rw (untouched v, whole-next s i h, n, misfit-later old new (nodeAt s i) (wholeNodes (drop (i + 4) s)) (i / 4) (t .0))
-        (refl, rw (fitting-next old new (nodeAt s i) (wholeNodes (drop (i + 4) s)) (t .0), t .1, add-four))
+        let n = next-fits old new s i (i / 4) h e in
+        let q : (i + 4) / 4 ≡ suc (i / 4) = omega arith in
+        rw (untouched v, n .0, n .1, q) (refl, rw add-four)
 
-    pub node-misfits : {t r : ℕ} → i + 4 ≤ length s → refused 6 (t ∷ r ∷ []) ≡ repackNodeAnswer old new (nodeAt s i)
+    pub node-stops : {t r : ℕ} → i + 4 ≤ length s → refused 6 (t ∷ r ∷ []) ≡ repackNodeAnswer old new (nodeAt s i)
         → (refused 6 (i / 4 ∷ t ∷ r ∷ []) ≡ answerFrom s i) × (s ≡ bytesFrom s i)
     unfolding nodeBytes
-    node-misfits {t} {r} h e =
-        let m = told-misfit new (fields old (nodeAt s i)) e in
-        rw (
-          whole-next s i h,
-          misfit-here old new (nodeAt s i) (wholeNodes (drop (i + 4) s)) (i / 4) (m .0),
-          fitting-stops old new (nodeAt s i) (wholeNodes (drop (i + 4) s)) (m .0),
-        )
-        (rw (m .1, m .2), refl)
+    node-stops h e = let n = next-stops old new s i (i / 4) h e in rw (n .0, n .1) (refl, refl)
 
     pub nodes-done : length s < i + 4 → (gives [] ≡ answerFrom s i) × (s ≡ bytesFrom s i)
-    unfolding firstMisfit fitting nodeBytes
-    nodes-done h = rw (whole-none (drop i s) (simp length-drop (omega arith))) (refl, refl)
+    unfolding nodeBytes
+    nodes-done h = let n = none-left old new s i (i / 4) h in rw (n .0, n .1) (refl, refl)

@@ -16,6 +16,14 @@ wholeNodes (a ∷ b ∷ []) = []
 wholeNodes (a ∷ b ∷ c ∷ []) = []
 wholeNodes (a ∷ b ∷ c ∷ d ∷ r) = fromBytes a b c d ∷ wholeNodes r
 
+-- "those after the last whole node"
+unfoldable pub partNode : List ℕ → List ℕ
+partNode [] = []
+partNode (a ∷ []) = a ∷ []
+partNode (a ∷ b ∷ []) = a ∷ b ∷ []
+partNode (a ∷ b ∷ c ∷ []) = a ∷ b ∷ c ∷ []
+partNode (a ∷ b ∷ c ∷ d ∷ r) = partNode r
+
 unfoldable pub nodeBytes : List ℕ → List ℕ
 nodeBytes [] = []
 nodeBytes (v ∷ vs) = toBytes v ++ nodeBytes vs

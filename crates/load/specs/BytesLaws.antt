@@ -1,12 +1,12 @@
 -- The next node of a byte string.
 use mathlib.Core.Path.{_≡_, refl, ap, _∙_}
 use mathlib.Core.List.{List, [], _∷_}
-use Prim.Native.Nat.{ℕ, suc, _+_, _<_, _≤_}
+use Prim.Native.Nat.{ℕ, suc, _+_, _-_, _/_, _%_, _<_, _≤_}
 use native.Mathlib.Omega.{arith}
 use native.Mathlib.Numerals.{add-one, add-two, add-three, add-four}
-use lib.ListN.{length, getD, drop}
+use lib.ListN.{length, getD, drop, length-drop}
 use lib.Seq.{drop-cons}
-use Rattle.load.specs.Bytes.{fromBytes, wholeNodes}
+use Rattle.load.specs.Bytes.{fromBytes, wholeNodes, partNode}
 
 -- the node that begins at byte i
 abbrev pub nodeAt : List ℕ → ℕ → ℕ
@@ -32,3 +32,37 @@ whole-none (a ∷ []) h = refl
 whole-none (a ∷ b ∷ []) h = refl
 whole-none (a ∷ b ∷ c ∷ []) h = refl
 whole-none (a ∷ b ∷ c ∷ d ∷ r) h = absurd (omega arith)
+
+-- ---- how many whole nodes, and what is left over
+pub length-whole : (s : List ℕ) → length (wholeNodes s) ≡ length s / 4
+unfolding wholeNodes
+length-whole [] = refl
+length-whole (a ∷ []) = refl
+length-whole (a ∷ b ∷ []) = refl
+length-whole (a ∷ b ∷ c ∷ []) = refl
+length-whole (a ∷ b ∷ c ∷ d ∷ r) = omega (arith, length-whole r)
+
+pub part-drop : (s : List ℕ) → partNode s ≡ drop (length s - length s % 4) s
+unfolding partNode
+part-drop [] = refl
+part-drop (a ∷ []) = refl
+part-drop (a ∷ b ∷ []) = refl
+part-drop (a ∷ b ∷ c ∷ []) = refl
+part-drop (a ∷ b ∷ c ∷ d ∷ r) =
+    let n = length r in
+    let e : suc (suc (suc (suc n))) - suc (suc (suc (suc n))) % 4 ≡ suc (suc (suc (suc (n - n % 4)))) = omega arith in
+    rw e (part-drop r)
+
+pub length-part : (s : List ℕ) → length (partNode s) ≡ length s % 4
+length-part s = rw (part-drop s) (simp length-drop (omega arith))
+
+pub part-whole : (s : List ℕ) → length s < 4 → partNode s ≡ s
+part-whole s h = let e : length s - length s % 4 ≡ 0 = omega arith in rw (part-drop s, e)
+
+pub part-next : (s : List ℕ) → 4 ≤ length s → partNode s ≡ partNode (drop 4 s)
+unfolding partNode
+part-next [] h = absurd (omega arith)
+part-next (a ∷ []) h = absurd (omega arith)
+part-next (a ∷ b ∷ []) h = absurd (omega arith)
+part-next (a ∷ b ∷ c ∷ []) h = absurd (omega arith)
+part-next (a ∷ b ∷ c ∷ d ∷ r) h = refl

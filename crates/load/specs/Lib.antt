@@ -2,3 +2,10 @@ pub mod Bytes
 pub mod BytesLaws
 pub mod Repacking
 pub mod RepackingLaws
+pub mod Loading
+pub mod HeldLaws
+pub mod BeginLaws
+pub mod StateLaws
+pub mod PieceLaws
+pub mod CallLaws
+pub mod Said

@@ -16,6 +16,9 @@ pub record Misfit : Type 0 where
   pub tile : ℕ
   pub arc : ℕ
 
+abbrev pub misfit : ℕ → ℕ → ℕ → Misfit
+misfit node tile arc = record { node = node; tile = tile; arc = arc }
+
 module _ (old new : Places) where
   -- the first node that doesn't fit; i is the number of the first of them all
   unfoldable pub firstMisfit : ℕ → List ℕ → Option Misfit
@@ -23,7 +26,7 @@ module _ (old new : Places) where
   firstMisfit i (v ∷ vs) =
       elim (fits new (fields old v)) [
         | true ↦ firstMisfit (suc i) vs
-        | false ↦ some (record { node = i; tile = tile old v; arc = arc old v })
+        | false ↦ some (misfit i (tile old v) (arc old v))
       ]
 
   -- the nodes before it, in the new layout
@@ -43,6 +46,10 @@ module _ (old new : Places) (bytes : List ℕ) where
   abbrev pub repackedBytes : List ℕ
   repackedBytes = sets bytes 0 (nodeBytes (fitting old new (wholeNodes bytes)))
 
+-- the node that stopped a repacking, if any
+abbrev pub misfitOf : Repacked → Option Misfit
+misfitOf Whole = none
+misfitOf (DoesNotFit i t r) = some (misfit i t r)
+
 abbrev pub said : Repacked → Answer
-said Whole = gives []
-said (DoesNotFit i t r) = refused 6 (i ∷ t ∷ r ∷ [])
+said r = misfitAnswer (misfitOf r)

@@ -5,7 +5,7 @@ ghost use lib.ListN.{length, getD};
 ghost use lib.Seq.{sets};
 ghost use Rattle.load.specs.Bytes.{fromBytes, toBytes};
 
-fn from_le_bytes(a: u8, b: u8, c: u8, d: u8) -> u32
+pub(crate) fn from_le_bytes(a: u8, b: u8, c: u8, d: u8) -> u32
     ensures { λ r. ⌜ r ≡ fromBytes a b c d ⌝ }
 {
     a as u32 + b as u32 * 0x100 + c as u32 * 0x10000 + d as u32 * 0x1000000

@@ -1,6 +1,14 @@
-// Files of word graphs: repacked from one layout to another.
+// Files of word graphs: loaded piece by piece, or repacked from one layout to the other.
 mod bytes;
+mod held;
+mod loader;
 mod repack;
 
-pub use repack::Repacked;
+pub use loader::BeginAnswer;
+pub use loader::Begun;
+pub use loader::Fed;
+pub use loader::FeedAnswer;
+pub use loader::Finished;
+pub use loader::Loader;
 pub use repack::repack_in_place;
+pub use repack::Repacked;

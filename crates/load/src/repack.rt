@@ -1,7 +1,10 @@
-// A file's nodes put into another layout where they stand.
+// A file's nodes put into another layout: where they stand, or into a table.
 ghost use mathlib.Core.Path.{_≡_};
+ghost use Prim.Native.Nat.{_+_, _/_, _≤_};
+ghost use lib.ListN.{length};
 ghost use Rattle.node.specs.Said.{placesOf};
-ghost use Rattle.load.specs.Repacking.{said, repackAnswer, repackedBytes};
+ghost use Rattle.load.specs.Repacking.{said, repackAnswer, repackedBytes, misfitOf};
+ghost use Rattle.load.specs.Loading.{misfitIn, nodesAfter};
 use node::Layout;
 use node::Packed;
 
@@ -35,6 +38,34 @@ pub fn repack_in_place(bytes: &mut [u8], from: Layout, to: Layout) -> Repacked
             }
         }
         i += 4;
+    }
+    Repacked::Whole
+}
+
+// The whole nodes of bytes, in KBWG's layout, as the nodes from place at on; stops at one that does not fit.
+pub(crate) fn repack_into(nodes: &mut [u32], at: usize, bytes: &[u8], from: Layout) -> Repacked
+    requires { ⌜ at + length (now bytes) / 4 ≤ length (now nodes) ⌝ }
+    ensures stop { λ r. ⌜ misfitOf r ≡ misfitIn from at (now (bytes .entry)) ⌝ }
+    ensures written { λ r. ⌜ now (nodes .exit) ≡ nodesAfter from at (now (bytes .entry)) (now (nodes .entry)) ⌝ }
+{
+    let mut i: usize = 0;
+    let mut k = at;
+    while 4 <= bytes.len() - i {
+        let old = crate::bytes::read_le_u32(bytes, i);
+        match node::repack_node(from, Layout::Kbwg, old) {
+            Packed::Node(new) => {
+                nodes[k] = new;
+            }
+            Packed::DoesNotFit { tile, arc_index } => {
+                return Repacked::DoesNotFit {
+                    node: k,
+                    tile,
+                    arc_index,
+                };
+            }
+        }
+        i += 4;
+        k += 1;
     }
     Repacked::Whole
 }

@@ -17,3 +17,8 @@ Row = List (Bool × Answer)
 unfoldable pub firstOf : Row → Option Answer
 firstOf [] = none
 firstOf (c ∷ cs) = elim (c .0) [ true ↦ some (c .1) | false ↦ firstOf cs ]
+
+-- A refusal where there is one, or else the answer given.
+abbrev pub orElse : Option Answer → Answer → Answer
+orElse none a = a
+orElse (some r) a = r

@@ -1,4 +1,5 @@
 pub mod Answers
+pub mod RowLaws
 pub mod Nodes
 pub mod PackingLaws
 pub mod Said

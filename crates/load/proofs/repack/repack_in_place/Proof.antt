@@ -5,7 +5,7 @@ use mathlib.Core.Path.{_≡_, sym, ap, _∙_}
 use lib.ListN.{length}
 use lib.Seq.{length-sets}
 use Rattle.node.specs.Said.{placesOf, repackNodeAnswer, said as saidNode}
-use Rattle.load.proofs.InPlace.{answerFrom, bytesFrom, node-fits, node-misfits, nodes-done}
+use Rattle.load.proofs.InPlace.{answerFrom, bytesFrom, node-fits, node-stops, nodes-done}
 use Rattle.load.proofs.repack.repack_in_place.Statement.{statement}
 use Rattle.load.proofs.repack.repack_in_place.Tie as tie
 use Rattle.load.proofs.repack.repack_in_place.Reads as reads
@@ -53,7 +53,7 @@ returns c = let m = c .before .before .before in
     let l = m .before .before .before .before .loop in
     let a = m .before .before .before .before .before .before .args in
     let w = ap (repackNodeAnswer (placesOf (a .from)) (placesOf (a .to))) (m .before .read-le-u32 .ensures) in
-    let e = node-misfits (placesOf (a .from)) (placesOf (a .to)) (l .bytes) (l .i) (omega arith)
+    let e = node-stops (placesOf (a .from)) (placesOf (a .to)) (l .bytes) (l .i) (omega arith)
     (ap saidNode (sym (c .before .tile .given .1)) ∙ m .repack-node .ensures ∙ w) in
     (e .0 ∙ l .inv .3, e .1 ∙ l .inv .4)
 

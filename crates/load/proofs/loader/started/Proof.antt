@@ -1,0 +1,15 @@
+use borrow.Author.Needs.{needs}
+use native.Mathlib.Omega.{arith}
+use mathlib.Core.Path.{refl}
+use Rattle.load.specs.Loading.{holding}
+use Rattle.load.proofs.loader.started.Statement.{statement}
+use Rattle.load.proofs.loader.started.Tie as tie
+use Rattle.load.proofs.loader.started.Reads as reads
+use Rattle.load.proofs.loader.started.Lts as lts
+
+returns : tie.Need-returns
+unfolding holding
+returns c = refl
+
+pub started-spec : {M : Type 1} → statement M
+started-spec = tie.close (tie.spec returns)

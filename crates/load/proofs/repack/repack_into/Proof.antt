@@ -1,0 +1,119 @@
+use borrow.Author.Needs.{needs}
+use native.Mathlib.Omega.{arith}
+use Prim.Native.Nat.{suc, _+_, _*_, _-_, _≤_}
+use native.Mathlib.Numerals.{add-one}
+use mathlib.Core.Path.{_≡_, refl, sym, ap, _∙_}
+use mathlib.Core.List.{[], _∷_}
+use lib.ListN.{length, drop, length-set}
+use lib.Seq.{sets}
+use Rattle.node.specs.Nodes.{KBWG}
+use Rattle.node.specs.Said.{placesOf, repackNodeAnswer, said as saidNode}
+use Rattle.load.specs.Bytes.{wholeNodes}
+use Rattle.load.specs.Repacking.{firstMisfit, fitting}
+use Rattle.load.specs.RepackingLaws.{next-fits, next-stops, none-left}
+use Rattle.load.specs.Loading.{misfitIn, nodesAfter}
+use Rattle.load.proofs.repack.repack_into.Statement.{statement}
+use Rattle.load.proofs.repack.repack_into.Tie as tie
+use Rattle.load.proofs.repack.repack_into.Reads as reads
+use Rattle.load.proofs.repack.repack_into.Lts as lts
+use Rattle.load.proofs.bytes.read_le_u32.Reads as read-le-u32-reads
+use Rattle.node.proofs.repack_node.Reads as repack-node-reads
+
+abbrev Inv-loop : tie.InvT-loop
+Inv-loop nodes₀ at bytes from i₀ k₀ nodes i k =     (i ≤ length bytes)
+    × (i + 4 * at ≡ 4 * k)
+    × (length nodes ≡ length nodes₀)
+    × (misfitIn from k (drop i bytes) ≡ misfitIn from at bytes)
+    × (nodesAfter from k (drop i bytes) nodes ≡ nodesAfter from at bytes nodes₀)
+
+abbrev μ-loop : tie.MeasureT-loop
+μ-loop nodes₀ at bytes from i₀ k₀ nodes i k = length bytes - i
+
+loop-holds : tie.Need-loop-holds Inv-loop μ-loop
+loop-holds c = search needs
+
+sub-loop : tie.Need-sub-loop Inv-loop μ-loop
+sub-loop c = search needs
+
+read-le-u32-requires : tie.Need-read-le-u32-requires Inv-loop μ-loop
+read-le-u32-requires c κs = search needs
+
+repack-node-requires : tie.Need-repack-node-requires Inv-loop μ-loop
+repack-node-requires c κs = search needs
+
+enum-known-new : tie.Need-enum-known-new Inv-loop μ-loop
+enum-known-new c = search needs
+
+mul-nodes : tie.Need-mul-nodes Inv-loop μ-loop
+mul-nodes c = search needs
+
+slice-write-nodes : tie.Need-slice-write-nodes Inv-loop μ-loop
+slice-write-nodes c = search needs
+
+enum-known-tile : tie.Need-enum-known-tile Inv-loop μ-loop
+enum-known-tile c = search needs
+
+same-length : tie.Need-same-length Inv-loop μ-loop
+same-length c = search needs
+
+returns : tie.Need-returns Inv-loop μ-loop
+unfolding nodesAfter
+returns c =     let m = c  .before .before .before in
+    let l = c  .before .before .before .before .before .before .loop in
+    let a = c  .before .before .before .before .before .before .before .before .before .args in
+    let w = ap (repackNodeAnswer (placesOf (a .from)) KBWG) (m .before .read-le-u32 .ensures) in
+    let n = next-stops (placesOf (a .from)) KBWG (a .bytes .now) (l .i) (l .k) (omega arith)
+        (ap saidNode (sym (c .before .tile .given .1)) ∙ m .repack-node .ensures ∙ w) in
+    (sym (n .0) ∙ l .inv .3, sym (rw (n .1)) ∙ l .inv .4)
+
+add-i : tie.Need-add-i Inv-loop μ-loop
+add-i c = search needs
+
+add-k : tie.Need-add-k Inv-loop μ-loop
+add-k c = search needs
+
+loop-less : tie.Need-loop-less Inv-loop μ-loop
+loop-less c = search needs
+
+loop-again : tie.Need-loop-again Inv-loop μ-loop
+unfolding nodesAfter
+loop-again c =     let m = c  .before .before .before in
+    let l = c  .before .before .before .before .before .before .loop in
+    let a = c  .before .before .before .before .before .before .before .before .before .args in
+    let w = ap (repackNodeAnswer (placesOf (a .from)) KBWG) (m .before .read-le-u32 .ensures) in
+    let n = next-fits (placesOf (a .from)) KBWG (a .bytes .now) (l .i) (l .k) (omega arith)
+        (ap saidNode (sym (c .before .new .given .1)) ∙ m .repack-node .ensures ∙ w) in
+    (omega arith, omega arith, simp length-set (l .inv .2), rw add-one (sym (n .0) ∙ l .inv .3), rw add-one (sym (rw (n .1)) ∙ l .inv .4))
+
+same-length-2 : tie.Need-same-length-2 Inv-loop μ-loop
+same-length-2 c = search needs
+
+returns-2 : tie.Need-returns-2 Inv-loop μ-loop
+unfolding nodesAfter
+returns-2 c =     let l = c .before .loop in
+    let a = c  .before .before .before .before .args in
+    let n = none-left (placesOf (a .from)) KBWG (a .bytes .now) (l .i) (l .k) (omega arith) in
+    (sym (n .0) ∙ l .inv .3, sym (rw (n .1)) ∙ l .inv .4)
+
+pub repack-into-spec : {M : Type 1} → statement M
+repack-into-spec =
+    tie.close
+    (tie.spec
+    Inv-loop
+    μ-loop
+    loop-holds
+    sub-loop
+    read-le-u32-requires
+    repack-node-requires
+    enum-known-new
+    mul-nodes
+    slice-write-nodes
+    enum-known-tile
+    same-length
+    returns
+    add-i
+    add-k
+    loop-less
+    loop-again
+    same-length-2
+    returns-2)

@@ -1,0 +1,281 @@
+// A load: begun with the length of the file, fed its bytes in pieces, finished.
+ghost use mathlib.Core.Path.{_≡_};
+ghost use mathlib.Core.Bool.{true, not};
+ghost use mathlib.Core.Option.{none};
+ghost use Prim.Native.Nat.{_+_, _*_, _/_, _<_, _≤_};
+ghost use lib.ListN.{length};
+ghost use Rattle.laws.specs.Cases.{isSome};
+ghost use Rattle.node.specs.Answers.{firstOf};
+ghost use Rattle.load.specs.Repacking.{misfit};
+ghost use Rattle.load.specs.Loading.{beginRow, soundRow, begin, start, stopped, stateAt, misfitIn, stateAfter, nodesAfter, fresh, feed, finish};
+ghost use Rattle.load.specs.Said.{refusal, begunAs, fedAs, finishedAs};
+
+use crate::repack::Repacked;
+use graph::NodesCheck;
+use node::Layout;
+use node::Packed;
+
+pub enum BeginAnswer {
+    Ready,
+    NotWholeNodes,
+    OverLimit,
+    NodesTooShort,
+}
+
+pub enum FeedAnswer {
+    Taken,
+    BadState,
+    TooLong,
+    DoesNotFit { node: usize, tile: u8, arc_index: u32 },
+}
+
+pub enum Finished {
+    Nodes(usize),
+    BadState,
+    DoesNotFit { node: usize, tile: u8, arc_index: u32 },
+    Missing,
+    ArcPastEnd(u32),
+    NoEnd,
+}
+
+// The state of a load. The first held_count places of held are the bytes after the last whole node; kept is the node that stopped it.
+pub struct Loader {
+    pub announced: usize,
+    pub layout: Layout,
+    pub taken: usize,
+    pub held: [u8; 3],
+    pub held_count: usize,
+    pub kept: Repacked,
+}
+
+pub struct Begun {
+    pub answer: BeginAnswer,
+    pub loader: Loader,
+}
+
+pub struct Fed {
+    pub answer: FeedAnswer,
+    pub loader: Loader,
+}
+
+fn check_length(length: usize, room: usize) -> BeginAnswer
+    ensures { λ r. ⌜ refusal r ≡ firstOf (beginRow «length» room) ⌝ }
+{
+    if length == 0 {
+        return BeginAnswer::NotWholeNodes;
+    }
+    if length % 4 != 0 {
+        return BeginAnswer::NotWholeNodes;
+    }
+    if 67108864 < length {
+        return BeginAnswer::OverLimit;
+    }
+    if room < length / 4 {
+        return BeginAnswer::NodesTooShort;
+    }
+    if room < 2 {
+        return BeginAnswer::NodesTooShort;
+    }
+    BeginAnswer::Ready
+}
+
+impl Loader {
+    // A file of so many bytes is announced. A refused load has length 0, so that it refuses every call after it.
+    pub fn begin(announced: usize, layout: Layout, nodes: &[u32]) -> Begun
+        ensures { λ r. ⌜ begunAs r ≡ begin announced layout (length (now (nodes .entry))) ⌝ }
+    {
+        let answer = check_length(announced, nodes.len());
+        match answer {
+            BeginAnswer::Ready => Begun {
+                answer,
+                loader: started(announced, layout),
+            },
+            _ => Begun {
+                answer,
+                loader: started(0, layout),
+            },
+        }
+    }
+
+    // Whether begin takes this length for so many nodes, and the bytes taken and held can be those of a load.
+    fn is_sound(self, room: usize) -> bool
+        ensures { λ r. ⌜ r ≡ not (isSome (firstOf (soundRow self room))) ⌝ }
+    {
+        let length = self.announced;
+        let taken = self.taken;
+        let held = self.held;
+        let held_count = self.held_count;
+        match check_length(length, room) {
+            BeginAnswer::Ready => {}
+            _ => {
+                return false;
+            }
+        }
+        if length < taken {
+            return false;
+        }
+        if held_count != taken % 4 {
+            return false;
+        }
+        crate::held::unused_zero(held, held_count)
+    }
+
+    // The next piece of the file, of any length.
+    pub fn feed(mut self, piece: &[u8], nodes: &mut [u32]) -> Fed
+        ensures { λ r. ⌜ fedAs r (now (nodes .exit)) ≡ feed self (now (nodes .entry)) (now (piece .entry)) ⌝ }
+    {
+        if !self.is_sound(nodes.len()) {
+            return Fed {
+                answer: FeedAnswer::BadState,
+                loader: self,
+            };
+        }
+        let kept = self.kept;
+        if let Repacked::DoesNotFit { node, tile, arc_index } = kept {
+            return Fed {
+                answer: FeedAnswer::DoesNotFit { node, tile, arc_index },
+                loader: self,
+            };
+        }
+        let announced = self.announced;
+        let taken = self.taken;
+        if announced - taken < piece.len() {
+            return Fed {
+                answer: FeedAnswer::TooLong,
+                loader: self,
+            };
+        }
+        self = read_piece(self, piece, nodes);
+        let stopped = self.kept;
+        match stopped {
+            Repacked::Whole => Fed {
+                answer: FeedAnswer::Taken,
+                loader: self,
+            },
+            Repacked::DoesNotFit { node, tile, arc_index } => Fed {
+                answer: FeedAnswer::DoesNotFit { node, tile, arc_index },
+                loader: self,
+            },
+        }
+    }
+
+    // The end of the file: the number of its nodes, once they are found sound.
+    pub fn finish(self, nodes: &mut [u32]) -> Finished
+        ensures { λ r. ⌜ finishedAs r (now (nodes .exit)) ≡ finish self (now (nodes .entry)) ⌝ }
+    {
+        if !self.is_sound(nodes.len()) {
+            return Finished::BadState;
+        }
+        let kept = self.kept;
+        if let Repacked::DoesNotFit { node, tile, arc_index } = kept {
+            return Finished::DoesNotFit { node, tile, arc_index };
+        }
+        let announced = self.announced;
+        let taken = self.taken;
+        if taken < announced {
+            return Finished::Missing;
+        }
+        let n = announced / 4;
+        match graph::check_nodes(&nodes[..n]) {
+            NodesCheck::ArcPastEnd(arc_index) => Finished::ArcPastEnd(arc_index),
+            NodesCheck::NoEnd => Finished::NoEnd,
+            NodesCheck::Sound => {
+                if n == 1 {
+                    nodes[1] = nodes[0];
+                    return Finished::Nodes(2);
+                }
+                Finished::Nodes(n)
+            }
+        }
+    }
+}
+
+fn started(announced: usize, layout: Layout) -> Loader
+    ensures { λ r. ⌜ r ≡ start announced layout ⌝ }
+{
+    Loader {
+        announced,
+        layout,
+        taken: 0,
+        held: [0; 3],
+        held_count: 0,
+        kept: Repacked::Whole,
+    }
+}
+
+// The state that keeps a node that does not fit; later bytes are ignored.
+fn stopped_at(announced: usize, layout: Layout, node: usize, tile: u8, arc_index: u32) -> Loader
+    requires { ⌜ node < 4_294_967_296 ⌝ }
+    ensures { λ r. ⌜ r ≡ stopped announced layout (misfit node tile «arc_index») ⌝ }
+{
+    Loader {
+        announced,
+        layout,
+        taken: 4 * node,
+        held: [0; 3],
+        held_count: 0,
+        kept: Repacked::DoesNotFit { node, tile, arc_index },
+    }
+}
+
+// The state after the whole nodes of bytes, of which the first begins node k, with the bytes after them held.
+fn read_whole(announced: usize, layout: Layout, bytes: &[u8], nodes: &mut [u32], k: usize) -> Loader
+    requires { ⌜ (k + length (now bytes) / 4 ≤ length (now nodes)) × (k + length (now bytes) / 4 ≤ 16_777_216) ⌝ }
+    ensures state { λ r. ⌜ r ≡ stateAfter announced layout k (now (bytes .entry)) ⌝ }
+    ensures written { λ r. ⌜ now (nodes .exit) ≡ nodesAfter layout k (now (bytes .entry)) (now (nodes .entry)) ⌝ }
+{
+    match crate::repack::repack_into(nodes, k, bytes, layout) {
+        Repacked::DoesNotFit { node, tile, arc_index } => {
+            stopped_at(announced, layout, node, tile, arc_index)
+        }
+        Repacked::Whole => {
+            let held_count = bytes.len() % 4;
+            let cut = bytes.len() - held_count;
+            let held = crate::held::hold([0; 3], 0, &bytes[cut..]);
+            Loader {
+                announced,
+                layout,
+                taken: 4 * k + bytes.len(),
+                held,
+                held_count,
+                kept: Repacked::Whole,
+            }
+        }
+    }
+}
+
+// The state after a piece that is no longer than what is missing.
+fn read_piece(state: Loader, piece: &[u8], nodes: &mut [u32]) -> Loader
+    requires { ⌜ (firstOf (soundRow state (length (now nodes))) ≡ none) × (state .taken + length (now piece) ≤ state .announced) ⌝ }
+    ensures state { λ r. ⌜ r ≡ stateAfter (state .announced) (state .layout) (state .taken / 4) (fresh state (now (piece .entry))) ⌝ }
+    ensures written { λ r. ⌜ now (nodes .exit) ≡ nodesAfter (state .layout) (state .taken / 4) (fresh state (now (piece .entry))) (now (nodes .entry)) ⌝ }
+{
+    let announced = state.announced;
+    let layout = state.layout;
+    let taken = state.taken;
+    let held = state.held;
+    let held_count = state.held_count;
+    let k = taken / 4;
+    if held_count == 0 {
+        return read_whole(announced, layout, piece, nodes, k);
+    }
+    if held_count + piece.len() < 4 {
+        return Loader {
+            announced,
+            layout,
+            taken: taken + piece.len(),
+            held: crate::held::hold(held, held_count, piece),
+            held_count: held_count + piece.len(),
+            kept: Repacked::Whole,
+        };
+    }
+    let first = crate::held::joined_node(held, held_count, piece);
+    match node::repack_node(layout, Layout::Kbwg, first) {
+        Packed::Node(v) => {
+            nodes[k] = v;
+            let rest = 4 - held_count;
+            read_whole(announced, layout, &piece[rest..], nodes, k + 1)
+        }
+        Packed::DoesNotFit { tile, arc_index } => stopped_at(announced, layout, k, tile, arc_index),
+    }
+}
