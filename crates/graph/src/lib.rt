@@ -5,7 +5,6 @@ ghost use Rattle.node.specs.Answers.{firstOf};
 ghost use Rattle.node.specs.Nodes.{KBWG};
 ghost use Rattle.graph.specs.Runs.{largestArc, lastEnds};
 ghost use Rattle.graph.specs.Checks.{nodesRow, refusal};
-
 use node::Node24;
 
 pub enum NodesCheck {

@@ -1,15 +1,13 @@
 -- The row of begin, by the facts that decide it, and what passing it tells.
-use mathlib.Core.Path.{_≡_, refl, ap, _∙_}
-use mathlib.Core.Bool.{Bool, true, false, _||_, not, or-true}
-use mathlib.Core.List.{[], _∷_}
-use mathlib.Core.Option.{Option, none, some}
+use mathlib.Core.Path.{_≡_, _∙_}
+use mathlib.Core.Bool.{false, _||_, not, or-true}
+use mathlib.Core.List.{[]}
+use mathlib.Core.Option.{none, some}
 use Prim.Native.Nat.{ℕ, _/_, _%_, _≤_, _<_, max}
-use native.Mathlib.Omega.{arith}
-use native.Mathlib.Nat.{le-max-left, le-max-right}
 use borrow.Author.Tests.{eq-eqb, ne-eqb, lt-ltb, le-ltb, eqb-true, eqb-false, ltb-false, not-false}
-use lib.Dec.{eqb, ltb}
+use lib.Dec.{eqb}
 use Rattle.laws.specs.Cases.{or-false-left, or-false-right}
-use Rattle.node.specs.Answers.{Answer, refused, firstOf}
+use Rattle.node.specs.Answers.{refused, firstOf}
 use Rattle.node.specs.RowLaws.{row-refuses, row-passes, row-ends, row-passed}
 use Rattle.load.specs.Loading.{beginRow}
 
@@ -50,4 +48,5 @@ module _ (n lentNodes : ℕ) where
         some-bytes = eqb-false n 0 (or-false-left (eqb n 0) (not (eqb (n % 4) 0)) (a .0));
         whole = eqb-true (n % 4) 0 (not-false (eqb (n % 4) 0) (or-false-right (eqb n 0) (not (eqb (n % 4) 0)) (a .0)));
         within = ltb-false 67_108_864 n (b .0);
-        room = ltb-false lentNodes (max (n / 4) 2) (d .0) }
+        room = ltb-false lentNodes (max (n / 4) 2) (d .0);
+      }

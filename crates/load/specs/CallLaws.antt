@@ -1,11 +1,11 @@
 -- What feed and finish do, by the facts that decide it.
 use mathlib.Core.Path.{_≡_, refl, sym, ap, _∙_}
-use mathlib.Core.Bool.{Bool, true, false, not}
-use mathlib.Core.List.{List, [], _∷_, _++_}
+use mathlib.Core.Bool.{true, false, not}
+use mathlib.Core.List.{List, []}
 use mathlib.Core.Option.{Option, none, some}
 use Prim.Native.Nat.{ℕ, _+_, _/_, _≤_, _<_}
 use borrow.Author.Tests.{lt-ltb, le-ltb, not-true, not-false}
-use lib.Dec.{eqb, ltb}
+use lib.Dec.{eqb}
 use lib.ListN.{length, take}
 use Rattle.laws.specs.Cases.{isSome, is-none}
 use Rattle.node.specs.Answers.{Answer, refused, firstOf}
@@ -13,7 +13,7 @@ use Rattle.node.specs.RowLaws.{row-refuses, row-passes, row-ends, rows-refuse, 
 use Rattle.graph.specs.Runs.{Graph}
 use Rattle.graph.specs.Checks.{nodesRow}
 use Rattle.load.specs.Repacking.{Misfit, misfitAnswer, misfitOf}
-use Rattle.load.specs.Loading.{soundRow, stateRow, feedRow, finishRow, Feeds, feeds, feed, Finishes, finishes, finish, fresh, stateAfter, nodesAfter}
+use Rattle.load.specs.Loading.{soundRow, stateRow, feedRow, finishRow, Feeds, feeds, feed, finishes, finish, fresh, stateAfter, nodesAfter}
 use Rattle.load.specs.StateLaws.{state-keeps}
 use Rattle.load.specs.declared.loader.Loader.{Loader}
 

@@ -27,14 +27,25 @@ places part = sets (0 ∷ 0 ∷ 0 ∷ []) 0 part
 unfoldable pub holding : ℕ → Layout → ℕ → List ℕ → Loader
 holding announced layout taken part =
     record {
-      announced = announced; layout = layout; taken = taken; held = places part; «held_count» = length part; kept = Whole }
+      announced = announced;
+      layout = layout;
+      taken = taken;
+      held = places part;
+      «held_count» = length part;
+      kept = Whole;
+    }
 
 -- "After refusal 6 on node i, the bytes taken are 4 × i, none are held"
 unfoldable pub stopped : ℕ → Layout → Misfit → Loader
 stopped announced layout m =
     record {
-      announced = announced; layout = layout; taken = 4 * m .node; held = places []; «held_count» = 0;
-      kept = DoesNotFit (m .node) (m .tile) (m .arc) }
+      announced = announced;
+      layout = layout;
+      taken = 4 * m .node;
+      held = places [];
+      «held_count» = 0;
+      kept = DoesNotFit (m .node) (m .tile) (m .arc);
+    }
 
 -- "nothing taken, held or kept"
 abbrev pub start : ℕ → Layout → Loader
@@ -120,7 +131,8 @@ feeds none s nodes piece =
     record {
       answer = misfitAnswer (misfitIn (s .layout) (s .taken / 4) (fresh s piece));
       state = stateAfter (s .announced) (s .layout) (s .taken / 4) (fresh s piece);
-      nodes = nodesAfter (s .layout) (s .taken / 4) (fresh s piece) nodes }
+      nodes = nodesAfter (s .layout) (s .taken / 4) (fresh s piece) nodes;
+    }
 
 unfoldable pub feed : Loader → Graph → List ℕ → Feeds
 feed s nodes piece = feeds (firstOf (feedRow s (length nodes) piece)) s nodes piece

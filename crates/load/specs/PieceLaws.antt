@@ -1,21 +1,21 @@
 -- The state and the nodes after a piece, one node at a time.
 use mathlib.Core.Path.{_≡_, refl, sym, ap, _∙_}
-use mathlib.Core.List.{List, [], _∷_, _++_}
+use mathlib.Core.List.{List, [], _∷_}
 use mathlib.Core.Option.{Option, none, some}
-use Prim.Native.Nat.{ℕ, suc, _+_, _-_, _*_, _/_, _%_, _≤_, _<_}
+use Prim.Native.Nat.{ℕ, suc, _+_, _-_, _*_, _/_, _≤_, _<_}
 use native.Mathlib.Omega.{arith}
-use lib.ListN.{length, take, drop, set, length-drop}
+use lib.ListN.{length, drop, set, length-drop}
 use lib.Seq.{sets}
-use Rattle.node.specs.Answers.{gives, refused, firstOf}
+use Rattle.node.specs.Answers.{gives, refused}
 use Rattle.node.specs.Nodes.{KBWG}
 use Rattle.node.specs.Said.{placesOf, repackNodeAnswer}
 use Rattle.node.specs.declared.Layout.{Layout}
 use Rattle.graph.specs.Runs.{Graph}
 use Rattle.load.specs.Bytes.{partNode}
 use Rattle.load.specs.BytesLaws.{nodeAt, part-next, part-whole}
-use Rattle.load.specs.Repacking.{Misfit, misfit, fitting}
+use Rattle.load.specs.Repacking.{Misfit, misfit}
 use Rattle.load.specs.RepackingLaws.{next-fits, next-stops, none-left}
-use Rattle.load.specs.Loading.{places, zeros, holding, stopped, misfitIn, stateAt, stateAfter, nodesAfter, fresh, soundRow}
+use Rattle.load.specs.Loading.{holding, stopped, misfitIn, stateAt, stateAfter, nodesAfter, fresh}
 use Rattle.load.specs.HeldLaws.{fresh-length, fresh-places}
 use Rattle.load.specs.StateLaws.{Sound, sound, state-stopped, state-holding}
 use Rattle.load.specs.declared.repack.Repacked.the-variants.{Whole}
@@ -32,12 +32,13 @@ module _ (announced : ℕ) (layout : Layout) (nodes : Graph) (k : ℕ) (j : List
 
   pub piece-node : {v : ℕ} → 4 ≤ length j → gives (v ∷ []) ≡ repackNodeAnswer (placesOf layout) KBWG (nodeAt j 0)
       → (stateAfter announced layout (suc k) (drop 4 j) ≡ stateAfter announced layout k j)
-        × (nodesAfter layout (suc k) (drop 4 j) (set nodes k v) ≡ nodesAfter layout k j nodes)
+      × (nodesAfter layout (suc k) (drop 4 j) (set nodes k v) ≡ nodesAfter layout k j nodes)
   unfolding stateAfter nodesAfter
   piece-node h e =
-      let n = next-fits (placesOf layout) KBWG j 0 k h e in
-      ( ap (λ o. stateAt o announced layout (suc k) (drop 4 j)) (sym (n .0)) ∙ state-on h (misfitIn layout k j)
-      , sym (ap (λ vs. sets nodes k vs) (n .1)))
+      let n = next-fits (placesOf layout) KBWG j 0 k h e in (
+        ap (λ o. stateAt o announced layout (suc k) (drop 4 j)) (sym (n .0)) ∙ state-on h (misfitIn layout k j),
+        sym (ap (λ vs. sets nodes k vs) (n .1)),
+      )
 
   pub piece-stops : {t r : ℕ} → 4 ≤ length j → refused 6 (t ∷ r ∷ []) ≡ repackNodeAnswer (placesOf layout) KBWG (nodeAt j 0)
       → (stopped announced layout (misfit k t r) ≡ stateAfter announced layout k j) × (nodes ≡ nodesAfter layout k j nodes)
@@ -50,22 +51,34 @@ module _ (announced : ℕ) (layout : Layout) (nodes : Graph) (k : ℕ) (j : List
       → (holding announced layout (4 * k + length j) j ≡ stateAfter announced layout k j) × (nodes ≡ nodesAfter layout k j nodes)
   unfolding nodesAfter
   piece-short h =
-      let n = none-left (placesOf layout) KBWG j 0 k h in
-      ( ap (holding announced layout (4 * k + length j)) (sym (part-whole j h)) ∙ sym (state-holding announced layout k j (n .0))
-      , sym (ap (λ vs. sets nodes k vs) (n .1)))
+      let n = none-left (placesOf layout) KBWG j 0 k h in (
+        ap (holding announced layout (4 * k + length j)) (sym (part-whole j h)) ∙ sym (state-holding announced layout k j (n .0)),
+        sym (ap (λ vs. sets nodes k vs) (n .1)),
+      )
 
 -- ---- a piece that only adds to the held bytes of a sound state
 pub held-longer : (s : Loader) (lentNodes : ℕ) → Sound s lentNodes → (piece : List ℕ) {h : List ℕ} → length (s .held) ≡ 3
     → s .«held_count» + length piece < 4 → h ≡ sets (s .held) (s .«held_count») piece
     → _≡_ {A = Loader}
-      (record {
-        announced = s .announced; layout = s .layout; taken = s .taken + length piece; held = h;
-        «held_count» = s .«held_count» + length piece; kept = Whole })
-      (holding (s .announced) (s .layout) (4 * (s .taken / 4) + length (fresh s piece)) (fresh s piece))
+    (record {
+      announced = s .announced;
+      layout = s .layout;
+      taken = s .taken + length piece;
+      held = h;
+      «held_count» = s .«held_count» + length piece;
+      kept = Whole;
+    })
+    (holding (s .announced) (s .layout) (4 * (s .taken / 4) + length (fresh s piece)) (fresh s piece))
 unfolding holding
 held-longer s lentNodes ok piece three short p =
     let n = fresh-length (s .held) (s .«held_count») piece three (omega arith) in
     let h = p ∙ sym (fresh-places (s .held) (s .«held_count») piece three (omega arith) (ok .unused)) in
     let t : s .taken + length piece ≡ 4 * (s .taken / 4) + length (fresh s piece) = let q = ok .count in rw n (omega arith) in
     λ i. record {
-      announced = s .announced; layout = s .layout; taken = t i; held = h i; «held_count» = sym n i; kept = Whole }
+      announced = s .announced;
+      layout = s .layout;
+      taken = t i;
+      held = h i;
+      «held_count» = sym n i;
+      kept = Whole;
+    }

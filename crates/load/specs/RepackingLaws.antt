@@ -41,17 +41,17 @@ module _ (old new : Places) where
       split (fits new (fields old v))
       (λ f. let h = misfit-within vs (suc k) (sym (misfit-later v vs k f) ∙ e) in omega arith)
       (λ f. let h : some (misfit k (fields old v Tile) (fields old v Arc)) ≡ some m = sym (misfit-here v vs k f) ∙ e in
-        let n : k ≡ m .node = ap nodeOf h in omega arith)
-      where
-        nodeOf : Option Misfit → ℕ
-        nodeOf none = 0
-        nodeOf (some x) = x .node
+      let n : k ≡ m .node = ap nodeOf h in omega arith)
+    where
+      nodeOf : Option Misfit → ℕ
+      nodeOf none = 0
+      nodeOf (some x) = x .node
 
   -- ---- the bytes s from place i on, whose first begins node k
   module _ (s : List ℕ) (i k : ℕ) where
     pub next-fits : {v : ℕ} → i + 4 ≤ length s → gives (v ∷ []) ≡ repackNodeAnswer old new (nodeAt s i)
         → (firstMisfit old new k (wholeNodes (drop i s)) ≡ firstMisfit old new (suc k) (wholeNodes (drop (i + 4) s)))
-          × (fitting old new (wholeNodes (drop i s)) ≡ v ∷ fitting old new (wholeNodes (drop (i + 4) s)))
+        × (fitting old new (wholeNodes (drop i s)) ≡ v ∷ fitting old new (wholeNodes (drop (i + 4) s)))
     next-fits h e =
         let t = told-node new (fields old (nodeAt s i)) e in
         let vs = wholeNodes (drop (i + 4) s) in
@@ -59,7 +59,7 @@ module _ (old new : Places) where
 
     pub next-stops : {t r : ℕ} → i + 4 ≤ length s → refused 6 (t ∷ r ∷ []) ≡ repackNodeAnswer old new (nodeAt s i)
         → (firstMisfit old new k (wholeNodes (drop i s)) ≡ some (misfit k t r))
-          × (fitting old new (wholeNodes (drop i s)) ≡ [])
+        × (fitting old new (wholeNodes (drop i s)) ≡ [])
     next-stops h e =
         let m = told-misfit new (fields old (nodeAt s i)) e in
         let vs = wholeNodes (drop (i + 4) s) in

@@ -1,14 +1,14 @@
 -- The row of 4, by the facts that decide it, and what passing it tells; the state after some bytes.
 use mathlib.Core.Path.{_≡_, refl, sym, ap, _∙_}
-use mathlib.Core.Bool.{Bool, true, false, not}
-use mathlib.Core.List.{List, [], _∷_}
+use mathlib.Core.Bool.{true, false, not}
+use mathlib.Core.List.{List, []}
 use mathlib.Core.Option.{Option, none, some}
 use Prim.Native.Nat.{ℕ, _+_, _-_, _*_, _%_, _≤_, _<_}
 use borrow.Author.Tests.{lt-ltb, le-ltb, eq-eqb, ne-eqb, ltb-false, eqb-true, not-false}
-use lib.Dec.{eqb, ltb}
+use lib.Dec.{eqb}
 use lib.ListN.{length, drop}
 use Rattle.laws.specs.Cases.{split, isSome, is-none}
-use Rattle.node.specs.Answers.{Answer, refused, firstOf}
+use Rattle.node.specs.Answers.{refused, firstOf}
 use Rattle.node.specs.RowLaws.{row-refuses, row-passes, row-ends, row-passed}
 use Rattle.node.specs.declared.Layout.{Layout}
 use Rattle.load.specs.Bytes.{partNode}
@@ -66,7 +66,8 @@ sound s lentNodes e =
       length = takes (s .announced) lentNodes (is-none (firstOf (beginRow (s .announced) lentNodes)) (a .0));
       taken = ltb-false (s .announced) (s .taken) (b .0);
       count = eqb-true (s .«held_count») (s .taken % 4) (not-false (eqb (s .«held_count») (s .taken % 4)) (d .0));
-      unused = not-false (zeros (drop (s .«held_count») (s .held))) (f .0) }
+      unused = not-false (zeros (drop (s .«held_count») (s .held))) (f .0);
+    }
 
 -- ---- the state after some bytes, of which the first begins node k
 module _ (announced : ℕ) (layout : Layout) (k : ℕ) (bytes : List ℕ) where
@@ -82,8 +83,8 @@ module _ (announced : ℕ) (layout : Layout) (k : ℕ) (bytes : List ℕ) where
   -- as the bytes from the last whole node on are held
   pub state-cut : misfitIn layout k bytes ≡ none → {h : List ℕ} → h ≡ places (drop (length bytes - length bytes % 4) bytes)
       → _≡_ {A = Loader}
-        (record { announced = announced; layout = layout; taken = 4 * k + length bytes; held = h; «held_count» = length bytes % 4; kept = Whole })
-        (stateAfter announced layout k bytes)
+      (record { announced = announced; layout = layout; taken = 4 * k + length bytes; held = h; «held_count» = length bytes % 4; kept = Whole })
+      (stateAfter announced layout k bytes)
   unfolding holding
   state-cut e p =
       let h = p ∙ ap places (sym (part-drop bytes)) in

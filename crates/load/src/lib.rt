@@ -10,5 +10,5 @@ pub use loader::Fed;
 pub use loader::FeedAnswer;
 pub use loader::Finished;
 pub use loader::Loader;
-pub use repack::repack_in_place;
 pub use repack::Repacked;
+pub use repack::repack_in_place;

@@ -1,15 +1,14 @@
 // A load: begun with the length of the file, fed its bytes in pieces, finished.
 ghost use mathlib.Core.Path.{_≡_};
-ghost use mathlib.Core.Bool.{true, not};
+ghost use mathlib.Core.Bool.{not};
 ghost use mathlib.Core.Option.{none};
 ghost use Prim.Native.Nat.{_+_, _*_, _/_, _<_, _≤_};
 ghost use lib.ListN.{length};
 ghost use Rattle.laws.specs.Cases.{isSome};
 ghost use Rattle.node.specs.Answers.{firstOf};
 ghost use Rattle.load.specs.Repacking.{misfit};
-ghost use Rattle.load.specs.Loading.{beginRow, soundRow, begin, start, stopped, stateAt, misfitIn, stateAfter, nodesAfter, fresh, feed, finish};
+ghost use Rattle.load.specs.Loading.{beginRow, soundRow, begin, start, stopped, stateAfter, nodesAfter, fresh, feed, finish};
 ghost use Rattle.load.specs.Said.{refusal, begunAs, fedAs, finishedAs};
-
 use crate::repack::Repacked;
 use graph::NodesCheck;
 use node::Layout;
@@ -26,13 +25,21 @@ pub enum FeedAnswer {
     Taken,
     BadState,
     TooLong,
-    DoesNotFit { node: usize, tile: u8, arc_index: u32 },
+    DoesNotFit {
+        node: usize,
+        tile: u8,
+        arc_index: u32,
+    },
 }
 
 pub enum Finished {
     Nodes(usize),
     BadState,
-    DoesNotFit { node: usize, tile: u8, arc_index: u32 },
+    DoesNotFit {
+        node: usize,
+        tile: u8,
+        arc_index: u32,
+    },
     Missing,
     ArcPastEnd(u32),
     NoEnd,
@@ -131,9 +138,17 @@ impl Loader {
             };
         }
         let kept = self.kept;
-        if let Repacked::DoesNotFit { node, tile, arc_index } = kept {
+        if let Repacked::DoesNotFit {
+            node,
+            tile,
+            arc_index,
+        } = kept {
             return Fed {
-                answer: FeedAnswer::DoesNotFit { node, tile, arc_index },
+                answer: FeedAnswer::DoesNotFit {
+                    node,
+                    tile,
+                    arc_index,
+                },
                 loader: self,
             };
         }
@@ -152,8 +167,16 @@ impl Loader {
                 answer: FeedAnswer::Taken,
                 loader: self,
             },
-            Repacked::DoesNotFit { node, tile, arc_index } => Fed {
-                answer: FeedAnswer::DoesNotFit { node, tile, arc_index },
+            Repacked::DoesNotFit {
+                node,
+                tile,
+                arc_index,
+            } => Fed {
+                answer: FeedAnswer::DoesNotFit {
+                    node,
+                    tile,
+                    arc_index,
+                },
                 loader: self,
             },
         }
@@ -167,8 +190,16 @@ impl Loader {
             return Finished::BadState;
         }
         let kept = self.kept;
-        if let Repacked::DoesNotFit { node, tile, arc_index } = kept {
-            return Finished::DoesNotFit { node, tile, arc_index };
+        if let Repacked::DoesNotFit {
+            node,
+            tile,
+            arc_index,
+        } = kept {
+            return Finished::DoesNotFit {
+                node,
+                tile,
+                arc_index,
+            };
         }
         let announced = self.announced;
         let taken = self.taken;
@@ -214,7 +245,11 @@ fn stopped_at(announced: usize, layout: Layout, node: usize, tile: u8, arc_index
         taken: 4 * node,
         held: [0; 3],
         held_count: 0,
-        kept: Repacked::DoesNotFit { node, tile, arc_index },
+        kept: Repacked::DoesNotFit {
+            node,
+            tile,
+            arc_index,
+        },
     }
 }
 
@@ -225,9 +260,11 @@ fn read_whole(announced: usize, layout: Layout, bytes: &[u8], nodes: &mut [u32],
     ensures written { λ r. ⌜ now (nodes .exit) ≡ nodesAfter layout k (now (bytes .entry)) (now (nodes .entry)) ⌝ }
 {
     match crate::repack::repack_into(nodes, k, bytes, layout) {
-        Repacked::DoesNotFit { node, tile, arc_index } => {
-            stopped_at(announced, layout, node, tile, arc_index)
-        }
+        Repacked::DoesNotFit {
+            node,
+            tile,
+            arc_index,
+        } => { stopped_at(announced, layout, node, tile, arc_index) }
         Repacked::Whole => {
             let held_count = bytes.len() % 4;
             let cut = bytes.len() - held_count;

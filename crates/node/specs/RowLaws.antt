@@ -1,8 +1,8 @@
 -- A row of checks, one condition at a time.
 use mathlib.Core.Path.{_≡_, refl, sym, ap, _∙_}
 use mathlib.Core.Bool.{Bool, true, false, false≢true}
-use mathlib.Core.List.{List, [], _∷_, _++_}
-use mathlib.Core.Option.{Option, none, some}
+use mathlib.Core.List.{[], _∷_, _++_}
+use mathlib.Core.Option.{none, some}
 use Rattle.laws.specs.Cases.{split, isSome, some≢none}
 use Rattle.laws.specs.Lists.{All}
 use Rattle.node.specs.Answers.{Answer, Row, firstOf}

@@ -42,14 +42,14 @@ loop-less : tie.Need-loop-less Inv-loop μ-loop
 loop-less c = search needs
 
 loop-again : tie.Need-loop-again Inv-loop μ-loop
-loop-again c =     let l = c  .before .before .before .before .loop in
-    let nodes = c  .before .before .before .before .before .before .args .nodes .now in
+loop-again c = let l = c .before .before .before .before .loop in
+    let nodes = c .before .before .before .before .before .before .args .nodes .now in
     let m = c .larger .ensures ∙ ap (max (l .largest)) (c .before .arc-index .ensures) in
     (omega arith, ap (λ n. largestFrom KBWG n (l .i + 1) nodes) m ∙ largest-next KBWG (l .largest) (l .i) nodes (omega arith) ∙ l .inv .1)
 
 returns : tie.Need-returns Inv-loop μ-loop
-returns c =     let l = c .before .loop in
-    let nodes = c  .before .before .before .args .nodes .now in
+returns c = let l = c .before .loop in
+    let nodes = c .before .before .before .args .nodes .now in
     let e : length nodes ≡ l .i = omega arith in
     sym (largest-done KBWG (l .largest) nodes) ∙ ap (λ k. largestFrom KBWG (l .largest) k nodes) e ∙ l .inv .1 ∙ zero-max (largestArc KBWG nodes)
 

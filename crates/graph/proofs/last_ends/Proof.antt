@@ -1,5 +1,5 @@
 use native.Mathlib.Omega.{arith}
-use mathlib.Core.Path.{sym, ap, _∙_}
+use mathlib.Core.Path.{_∙_}
 use Rattle.node.specs.Nodes.{KBWG}
 use Rattle.graph.specs.ChecksLaws.{last-of, last-none}
 use borrow.Author.Needs.{needs}

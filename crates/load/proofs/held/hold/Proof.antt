@@ -36,13 +36,13 @@ loop-less : tie.Need-loop-less Inv-loop μ-loop
 loop-less c = search needs
 
 loop-again : tie.Need-loop-again Inv-loop μ-loop
-loop-again c =     let l = c .before .before .loop in
+loop-again c = let l = c .before .before .loop in
     let p = c .before .before .before .args .piece .now in
     let h : l .i < length p = omega arith in
     (omega arith, simp length-set (l .inv .1), sym (rw (drop-cons p (l .i) 0 h, add-one, add-suc)) ∙ l .inv .2)
 
 returns : tie.Need-returns Inv-loop μ-loop
-returns c =     let p = c .before .before .args .piece .now in
+returns c = let p = c .before .before .args .piece .now in
     (sym (rw (drop-of-length-le p (c .loop-test .left))) ∙ c .before .loop .inv .2, omega arith)
 
 pub hold-spec : {M : Type 1} → statement M

@@ -15,11 +15,11 @@ shared-slice-read-result : tie.Need-shared-slice-read-result
 shared-slice-read-result c = search needs
 
 returns : tie.Need-returns
-returns c =     let a = c .before .args in
+returns c = let a = c .before .args in
     sym (fresh-held (a .t1) (a .count) (a .piece .now) (omega arith) (omega arith) (a .j) (omega arith))
 
 returns-2 : tie.Need-returns-2
-returns-2 c =     let a = c .before .before .args in
+returns-2 c = let a = c .before .before .args in
     let e : a .count + (a .j - a .count) ≡ a .j = omega arith in
     sym (rw e at (fresh-piece (a .t1) (a .count) (a .piece .now) (omega arith) (omega arith) (a .j - a .count)))
 

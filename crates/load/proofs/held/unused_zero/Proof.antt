@@ -5,7 +5,7 @@ use native.Mathlib.Numerals.{add-one}
 use mathlib.Core.Path.{_≡_, sym, _∙_}
 use mathlib.Core.Bool.{true, false}
 use borrow.Author.Tests.{ne-eqb, eq-eqb}
-use lib.ListN.{length, drop, drop-of-length-le}
+use lib.ListN.{drop, drop-of-length-le}
 use lib.Seq.{drop-cons}
 use Rattle.load.specs.Loading.{zeros}
 use Rattle.load.proofs.held.unused_zero.Statement.{statement}
@@ -27,7 +27,7 @@ array-read-if1 c = search needs
 
 returns : tie.Need-returns Inv-loop μ-loop
 unfolding zeros
-returns c =     let l = c .before .before .loop in
+returns c = let l = c .before .before .loop in
     let h = c .before .before .before .args .t1 in
     let e : zeros (drop (l .i) h) ≡ false = rw (drop-cons h (l .i) 0 (omega arith)) (simp (ne-eqb _ 0 (c .if1 .taken))) in
     sym e ∙ l .inv
@@ -40,14 +40,14 @@ loop-less c = search needs
 
 loop-again : tie.Need-loop-again Inv-loop μ-loop
 unfolding zeros
-loop-again c =     let l = c .before .before .loop in
+loop-again c = let l = c .before .before .loop in
     let h = c .before .before .before .args .t1 in
     let e : zeros (drop (l .i) h) ≡ zeros (drop (l .i + 1) h) = rw (drop-cons h (l .i) 0 (omega arith), add-one) (simp (eq-eqb _ 0 (c .if1 .left))) in
     sym e ∙ l .inv
 
 returns-2 : tie.Need-returns-2 Inv-loop μ-loop
 unfolding zeros
-returns-2 c =     let l = c .before .loop in
+returns-2 c = let l = c .before .loop in
     let h = c .before .before .args .t1 in
     let e : zeros (drop (l .i) h) ≡ true = rw (drop-of-length-le h {i = l .i} (omega arith)) in
     sym e ∙ l .inv

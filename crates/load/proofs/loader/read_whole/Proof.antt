@@ -27,8 +27,8 @@ enum-known-node : tie.Need-enum-known-node
 enum-known-node c = search needs
 
 stopped-at-requires : tie.Need-stopped-at-requires
-stopped-at-requires c κs =     let a = c  .before .before .before .before .before .before .before .before .before .args in
-    let e = sym (c  .before .before .before .before .before .repack-into .ensures .0) ∙ ap misfitOf (c .before .node .given .1) in
+stopped-at-requires c κs = let a = c .before .before .before .before .before .before .before .before .before .args in
+    let e = sym (c .before .before .before .before .before .repack-into .ensures .0) ∙ ap misfitOf (c .before .node .given .1) in
     omega (arith, misfit-within (placesOf (a .layout)) KBWG (wholeNodes (a .bytes .now)) (a .k) e, length-whole (a .bytes .now))
 
 enum-told : tie.Need-enum-told
@@ -59,20 +59,20 @@ same-length : tie.Need-same-length
 same-length c = search needs
 
 returns : tie.Need-returns
-returns c =     let a = c  .before .before .before .before .before .before .before .before .before .before .args in
-    let e = sym (c  .before .before .before .before .before .before .repack-into .ensures .0) ∙ ap misfitOf (c  .before .before .node .given .1) in
-    (c .stopped-at .ensures ∙ sym (state-stopped (a .announced) (a .layout) (a .k) (a .bytes .now) e), c  .before .before .before .before .before .before .repack-into .ensures .1)
+returns c = let a = c .before .before .before .before .before .before .before .before .before .before .args in
+    let e = sym (c .before .before .before .before .before .before .repack-into .ensures .0) ∙ ap misfitOf (c .before .before .node .given .1) in
+    (c .stopped-at .ensures ∙ sym (state-stopped (a .announced) (a .layout) (a .k) (a .bytes .now) e), c .before .before .before .before .before .before .repack-into .ensures .1)
 
 same-length-2 : tie.Need-same-length-2
 same-length-2 c = search needs
 
 returns-2 : tie.Need-returns-2
-returns-2 c =     let a = c  .before .before .before .before .before .before .before .before .before .before .args in
-    let e = sym (c  .before .before .before .before .before .before .repack-into .ensures .0) ∙ ap misfitOf (c  .before .before .enum-told .given .1) in
+returns-2 c = let a = c .before .before .before .before .before .before .before .before .before .before .args in
+    let e = sym (c .before .before .before .before .before .before .repack-into .ensures .0) ∙ ap misfitOf (c .before .before .enum-told .given .1) in
     let s = a .bytes .now in
     let cut = length s - length s % 4 in
     let t = take-all (length s - cut) (drop cut s) (simp length-drop (omega arith)) in
-    (state-cut (a .announced) (a .layout) (a .k) s e (c .hold .ensures .0 ∙ ap places t), c  .before .before .before .before .before .before .repack-into .ensures .1)
+    (state-cut (a .announced) (a .layout) (a .k) s e (c .hold .ensures .0 ∙ ap places t), c .before .before .before .before .before .before .repack-into .ensures .1)
 
 pub read-whole-spec : {M : Type 1} → statement M
 read-whole-spec =

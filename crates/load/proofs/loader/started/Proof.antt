@@ -1,5 +1,3 @@
-use borrow.Author.Needs.{needs}
-use native.Mathlib.Omega.{arith}
 use mathlib.Core.Path.{refl}
 use Rattle.load.specs.Loading.{holding}
 use Rattle.load.proofs.loader.started.Statement.{statement}

@@ -1,4 +1,3 @@
-use native.Mathlib.Omega.{arith}
 use mathlib.Core.Path.{refl}
 use Rattle.load.specs.Loading.{stopped}
 use borrow.Author.Needs.{needs}

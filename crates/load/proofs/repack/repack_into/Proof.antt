@@ -1,15 +1,11 @@
 use borrow.Author.Needs.{needs}
 use native.Mathlib.Omega.{arith}
-use Prim.Native.Nat.{suc, _+_, _*_, _-_, _≤_}
+use Prim.Native.Nat.{_+_, _*_, _-_, _≤_}
 use native.Mathlib.Numerals.{add-one}
-use mathlib.Core.Path.{_≡_, refl, sym, ap, _∙_}
-use mathlib.Core.List.{[], _∷_}
+use mathlib.Core.Path.{_≡_, sym, ap, _∙_}
 use lib.ListN.{length, drop, length-set}
-use lib.Seq.{sets}
 use Rattle.node.specs.Nodes.{KBWG}
 use Rattle.node.specs.Said.{placesOf, repackNodeAnswer, said as saidNode}
-use Rattle.load.specs.Bytes.{wholeNodes}
-use Rattle.load.specs.Repacking.{firstMisfit, fitting}
 use Rattle.load.specs.RepackingLaws.{next-fits, next-stops, none-left}
 use Rattle.load.specs.Loading.{misfitIn, nodesAfter}
 use Rattle.load.proofs.repack.repack_into.Statement.{statement}
@@ -20,7 +16,7 @@ use Rattle.load.proofs.bytes.read_le_u32.Reads as read-le-u32-reads
 use Rattle.node.proofs.repack_node.Reads as repack-node-reads
 
 abbrev Inv-loop : tie.InvT-loop
-Inv-loop nodes₀ at bytes from i₀ k₀ nodes i k =     (i ≤ length bytes)
+Inv-loop nodes₀ at bytes from i₀ k₀ nodes i k = (i ≤ length bytes)
     × (i + 4 * at ≡ 4 * k)
     × (length nodes ≡ length nodes₀)
     × (misfitIn from k (drop i bytes) ≡ misfitIn from at bytes)
@@ -58,12 +54,12 @@ same-length c = search needs
 
 returns : tie.Need-returns Inv-loop μ-loop
 unfolding nodesAfter
-returns c =     let m = c  .before .before .before in
-    let l = c  .before .before .before .before .before .before .loop in
-    let a = c  .before .before .before .before .before .before .before .before .before .args in
+returns c = let m = c .before .before .before in
+    let l = c .before .before .before .before .before .before .loop in
+    let a = c .before .before .before .before .before .before .before .before .before .args in
     let w = ap (repackNodeAnswer (placesOf (a .from)) KBWG) (m .before .read-le-u32 .ensures) in
     let n = next-stops (placesOf (a .from)) KBWG (a .bytes .now) (l .i) (l .k) (omega arith)
-        (ap saidNode (sym (c .before .tile .given .1)) ∙ m .repack-node .ensures ∙ w) in
+    (ap saidNode (sym (c .before .tile .given .1)) ∙ m .repack-node .ensures ∙ w) in
     (sym (n .0) ∙ l .inv .3, sym (rw (n .1)) ∙ l .inv .4)
 
 add-i : tie.Need-add-i Inv-loop μ-loop
@@ -77,12 +73,12 @@ loop-less c = search needs
 
 loop-again : tie.Need-loop-again Inv-loop μ-loop
 unfolding nodesAfter
-loop-again c =     let m = c  .before .before .before in
-    let l = c  .before .before .before .before .before .before .loop in
-    let a = c  .before .before .before .before .before .before .before .before .before .args in
+loop-again c = let m = c .before .before .before in
+    let l = c .before .before .before .before .before .before .loop in
+    let a = c .before .before .before .before .before .before .before .before .before .args in
     let w = ap (repackNodeAnswer (placesOf (a .from)) KBWG) (m .before .read-le-u32 .ensures) in
     let n = next-fits (placesOf (a .from)) KBWG (a .bytes .now) (l .i) (l .k) (omega arith)
-        (ap saidNode (sym (c .before .new .given .1)) ∙ m .repack-node .ensures ∙ w) in
+    (ap saidNode (sym (c .before .new .given .1)) ∙ m .repack-node .ensures ∙ w) in
     (omega arith, omega arith, simp length-set (l .inv .2), rw add-one (sym (n .0) ∙ l .inv .3), rw add-one (sym (rw (n .1)) ∙ l .inv .4))
 
 same-length-2 : tie.Need-same-length-2 Inv-loop μ-loop
@@ -90,8 +86,8 @@ same-length-2 c = search needs
 
 returns-2 : tie.Need-returns-2 Inv-loop μ-loop
 unfolding nodesAfter
-returns-2 c =     let l = c .before .loop in
-    let a = c  .before .before .before .before .args in
+returns-2 c = let l = c .before .loop in
+    let a = c .before .before .before .before .args in
     let n = none-left (placesOf (a .from)) KBWG (a .bytes .now) (l .i) (l .k) (omega arith) in
     (sym (n .0) ∙ l .inv .3, sym (rw (n .1)) ∙ l .inv .4)
 

@@ -1,0 +1,5 @@
+pub mod Pieces
+pub mod JoinLaws
+pub mod PiecesLaws
+pub mod CutLaws
+pub mod Said

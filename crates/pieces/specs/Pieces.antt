@@ -1,0 +1,133 @@
+-- A list of calls: begin, feeds, finish; and what document 01 says it comes to ("Loading", second paragraph).
+use mathlib.Core.Path.{_≡_}
+use mathlib.Core.Bool.{true, false}
+use mathlib.Core.List.{List, [], _∷_, _++_, map}
+use mathlib.Core.Option.{Option, none, some}
+use Prim.Native.Nat.{ℕ, _+_}
+use lib.Dec.{ltb}
+use lib.ListN.{length, take, drop}
+use Rattle.node.specs.Answers.{Answer, refused, firstOf}
+use Rattle.node.specs.declared.Layout.{Layout}
+use Rattle.graph.specs.Runs.{Graph}
+use Rattle.load.specs.Repacking.{Misfit, misfitAnswer}
+use Rattle.load.specs.Loading.{beginRow, begin, Feeds, feed, finish, misfitIn, stateAfter, nodesAfter}
+use Rattle.load.specs.declared.loader.Loader.{Loader}
+
+-- ---- the calls, one after the other
+pub record FedAll : Type 0 where
+  pub answers : List Answer
+  pub state : Loader
+  pub nodes : Graph
+
+unfoldable pub feedAll : Loader → Graph → List (List ℕ) → FedAll
+feedAll s nodes [] = record { answers = []; state = s; nodes = nodes }
+feedAll s nodes (p ∷ ps) =
+    let first = feed s nodes p in
+    let rest = feedAll (first .state) (first .nodes) ps in
+    record { answers = first .answer ∷ rest .answers; state = rest .state; nodes = rest .nodes }
+
+-- ---- what they come to
+-- "a feed's piece is added at their end where both together are no longer than the length given to begin, else left out"
+unfoldable pub joinedOnto : ℕ → List ℕ → List ℕ → List ℕ
+joinedOnto announced bytes piece = elim (ltb announced (length bytes + length piece)) [ true ↦ bytes | false ↦ bytes ++ piece ]
+
+-- "The joined bytes are none at first"
+unfoldable pub joinedFrom : ℕ → List ℕ → List (List ℕ) → List ℕ
+joinedFrom announced bytes [] = bytes
+joinedFrom announced bytes (p ∷ ps) = joinedFrom announced (joinedOnto announced bytes p) ps
+
+-- "it answers 6 for the first node that doesn't fit among the bytes joined before it; else 5 for a piece left out; else 6 for the
+-- first such node once the piece is joined, one begun in an earlier piece included; else it accepts"
+abbrev pub pieceAnswer : Option Misfit → ℕ → Layout → List ℕ → List ℕ → Answer
+pieceAnswer (some m) announced layout bytes piece = misfitAnswer (some m)
+pieceAnswer none announced layout bytes piece =
+    elim (ltb announced (length bytes + length piece)) [
+      | true ↦ refused 5 []
+      | false ↦ misfitAnswer (misfitIn layout 0 (bytes ++ piece))
+    ]
+
+unfoldable pub feedAnswers : ℕ → Layout → List ℕ → List (List ℕ) → List Answer
+feedAnswers announced layout bytes [] = []
+feedAnswers announced layout bytes (p ∷ ps) =
+    pieceAnswer (misfitIn layout 0 bytes) announced layout bytes p ∷ feedAnswers announced layout (joinedOnto announced bytes p) ps
+
+module _ (announced : ℕ) (layout : Layout) (nodes : Graph) (pieces : List (List ℕ)) where
+  -- "After a refused begin each feed answers 4 and its piece is left out."
+  unfoldable pub joined : List ℕ
+  joined = elim (firstOf (beginRow announced (length nodes))) [ some r ↦ [] | none ↦ joinedFrom announced [] pieces ]
+
+  unfoldable pub answers : List Answer
+  answers =
+      elim (firstOf (beginRow announced (length nodes))) [
+        | some r ↦ map (λ p. refused 4 []) pieces
+        | none ↦ feedAnswers announced layout [] pieces
+      ]
+
+  -- begin, and the feeds of the pieces
+  unfoldable pub fedPieces : FedAll
+  fedPieces = feedAll (begin announced layout (length nodes) .state) nodes pieces
+
+  -- begin, and one feed of the joined bytes
+  unfoldable pub fedWhole : Feeds
+  fedWhole = feed (begin announced layout (length nodes) .state) nodes joined
+
+  -- the claim about the whole list
+  pub record LoadsAsWhole : Type 0 where
+    pub state : fedPieces .state ≡ fedWhole .state
+    pub table : fedPieces .nodes ≡ fedWhole .nodes
+    pub finished : finish (fedPieces .state) (fedPieces .nodes) ≡ finish (fedWhole .state) (fedWhole .nodes)
+    pub answered : fedPieces .answers ≡ answers
+    -- "With no such node all joined bytes are taken, those after the last whole node are held, and the whole nodes stand in the
+    -- table; with one, the nodes before it."
+    pub taken : firstOf (beginRow announced (length nodes)) ≡ none → fedPieces .state ≡ stateAfter announced layout 0 joined
+    pub placed : fedPieces .nodes ≡ nodesAfter layout 0 joined nodes
+
+-- ---- a file of the announced length, cut into pieces anyhow
+unfoldable pub joinAll : List (List ℕ) → List ℕ
+joinAll [] = []
+joinAll (p ∷ ps) = p ++ joinAll ps
+
+-- the bytes up to the end of each piece, after those that came before
+unfoldable pub upToEach : List ℕ → List (List ℕ) → List (List ℕ)
+upToEach before [] = []
+upToEach before (p ∷ ps) = (before ++ p) ∷ upToEach (before ++ p) ps
+
+-- what one feed of some bytes answers after the same begin
+unfoldable pub oneFeed : ℕ → Layout → Graph → List ℕ → Feeds
+oneFeed announced layout nodes bytes = feed (begin announced layout (length nodes) .state) nodes bytes
+
+pub record LoadsHoweverCut (layout : Layout) (nodes : Graph) (file : List ℕ) (pieces : List (List ℕ)) : Type 0 where
+  pub state : fedPieces (length file) layout nodes pieces .state ≡ oneFeed (length file) layout nodes file .state
+  pub table : fedPieces (length file) layout nodes pieces .nodes ≡ oneFeed (length file) layout nodes file .nodes
+  pub finished :
+      let cut = fedPieces (length file) layout nodes pieces in
+      let whole = oneFeed (length file) layout nodes file in
+      finish (cut .state) (cut .nodes) ≡ finish (whole .state) (whole .nodes)
+  -- each feed answers as one feed of all the bytes up to its end
+  pub answered : fedPieces (length file) layout nodes pieces .answers
+      ≡ map (λ bytes. oneFeed (length file) layout nodes bytes .answer) (upToEach [] pieces)
+
+-- ---- begin, feeds and finish together
+pub record Loads : Type 0 where
+  pub begun : Answer
+  pub state : Loader
+  pub finished : Answer
+  pub nodes : Graph
+
+abbrev pub finishLoad : Answer → Loader → Graph → Loads
+finishLoad begun s nodes =
+    let last = finish s nodes in
+    record { begun = begun; state = s; finished = last .answer; nodes = last .nodes }
+
+unfoldable pub loadPieces : ℕ → Layout → Graph → List (List ℕ) → Loads
+loadPieces announced layout nodes pieces =
+    finishLoad (begin announced layout (length nodes) .answer) (fedPieces announced layout nodes pieces .state) (fedPieces announced layout nodes pieces .nodes)
+
+unfoldable pub loadWhole : ℕ → Layout → Graph → List ℕ → Loads
+loadWhole announced layout nodes bytes =
+    finishLoad (begin announced layout (length nodes) .answer) (oneFeed announced layout nodes bytes .state) (oneFeed announced layout nodes bytes .nodes)
+
+-- pieces of so many bytes each, and the rest as a last one; "A cut past the end takes what is there"
+unfoldable pub cutAt : List ℕ → List ℕ → List (List ℕ)
+cutAt [] bytes = bytes ∷ []
+cutAt (c ∷ cs) bytes = take c bytes ∷ cutAt cs (drop c bytes)

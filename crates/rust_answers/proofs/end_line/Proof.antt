@@ -1,0 +1,69 @@
+-- `end_line` is safe: a case fills at least one place of the room, and no more than there are. Assumes nothing.
+use borrow.Author.Needs.{needs}
+use Rattle.rust_answers.proofs.end_line.Statement.{statement}
+use Rattle.rust_answers.proofs.end_line.Tie as tie
+
+end-requires : tie.Need-end-requires
+end-requires c κs = search needs
+
+enum-told : tie.Need-enum-told
+enum-told c = search needs
+
+next-line-requires : tie.Need-next-line-requires
+next-line-requires c κs = search needs
+
+enum-told-2 : tie.Need-enum-told-2
+enum-told-2 c = search needs
+
+malformed-requires : tie.Need-malformed-requires
+malformed-requires c κs = search needs
+
+next-line-requires-2 : tie.Need-next-line-requires-2
+next-line-requires-2 c κs = search needs
+
+enum-known-count : tie.Need-enum-known-count
+enum-known-count c = search needs
+
+judged-requires : tie.Need-judged-requires
+judged-requires c κs = rw (c .before .before .count .given .1) at (c .before .before .before .before .before .before .end .ensures)
+
+next-line-requires-3 : tie.Need-next-line-requires-3
+next-line-requires-3 c κs = search needs
+
+same-length : tie.Need-same-length
+same-length c = search needs
+
+returns : tie.Need-returns
+returns c = search needs
+
+same-length-2 : tie.Need-same-length-2
+same-length-2 c = search needs
+
+returns-2 : tie.Need-returns-2
+returns-2 c = search needs
+
+same-length-3 : tie.Need-same-length-3
+same-length-3 c = search needs
+
+returns-3 : tie.Need-returns-3
+returns-3 c = search needs
+
+pub end-line-spec : {M : Type 1} → statement M
+end-line-spec =
+    tie.close
+    (tie.spec
+    end-requires
+    enum-told
+    next-line-requires
+    enum-told-2
+    malformed-requires
+    next-line-requires-2
+    enum-known-count
+    judged-requires
+    next-line-requires-3
+    same-length
+    returns
+    same-length-2
+    returns-2
+    same-length-3
+    returns-3)
