@@ -4,5 +4,6 @@ pub mod Order
 pub mod Loops
 pub mod Checks
 pub mod ChecksLaws
+pub mod Counting
 pub mod WordsAscend
 pub mod WordsEquation

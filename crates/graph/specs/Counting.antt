@@ -1,0 +1,51 @@
+-- Counting the words from every node, from document 01, "Counting and numbers" and the row "counting".
+use mathlib.Core.Path.{_≡_}
+use mathlib.Core.Bool.{_||_}
+use mathlib.Core.List.{List, [], _∷_, _++_}
+use mathlib.Core.Option.{none, some}
+use Prim.Native.Nat.{ℕ, zero, suc, _*_, _≤_, _<_}
+use lib.Dec.{ltb}
+use lib.ListN.{length, drop, replicate}
+use Rattle.node.specs.Answers.{Answer, gives, refused, Row, firstOf}
+use Rattle.node.specs.Nodes.{KBWG}
+use Rattle.graph.specs.Runs.{Graph}
+use Rattle.graph.specs.Words.{count}
+use Rattle.graph.specs.Loops.{Loops}
+use Rattle.graph.specs.Checks.{graphRow}
+
+-- f of each number below n, in order
+unfoldable pub table : ℕ → (ℕ → ℕ) → List ℕ
+table zero f = []
+table (suc n) f = f zero ∷ table n (λ k. f (suc k))
+
+-- "Every node gets the number of words from it."
+abbrev pub counts : Graph → List ℕ
+counts g = table (length g) (count KBWG g)
+
+abbrev pub Loopless : Graph → Type 0
+Loopless g = (q : ℕ) → Loops KBWG g q → ⊥
+
+-- "10+ under 2 nodes or over 16,777,216; 8; 9; 11+ a lent list too short"; "The work list is at least 2 × N numbers"
+abbrev pub countRow : Graph → ℕ → ℕ → Row
+countRow g lentCounts lentWork = graphRow g ++ (ltb lentCounts (length g) || ltb lentWork (2 * length g), refused 11 []) ∷ []
+
+-- "First N counts are 0 after 12 or 13"
+abbrev pub cleared : Graph → List ℕ → List ℕ
+cleared g lent = replicate (length g) 0 ++ drop (length g) lent
+
+-- What counting may answer, and the counts then, for the counts lent before; limit is the lowest count that is too many. The node
+-- in refusal 12 is the program's choice: "Refusal 12 carries some node that can be reached from itself".
+pub data Counted (limit : ℕ) (g : Graph) (lent : List ℕ) (lentWork : ℕ) : Answer → List ℕ → Type 0 where
+  unfit : {r : Answer} → firstOf (countRow g (length lent) lentWork) ≡ some r → Counted limit g lent lentWork r lent
+  loop : {q : ℕ} → firstOf (countRow g (length lent) lentWork) ≡ none → Loops KBWG g q
+      → Counted limit g lent lentWork (refused 12 (q ∷ [])) (cleared g lent)
+  many : {p : ℕ} → firstOf (countRow g (length lent) lentWork) ≡ none → Loopless g → p < length g → limit ≤ count KBWG g p
+      → Counted limit g lent lentWork (refused 13 []) (cleared g lent)
+  all : firstOf (countRow g (length lent) lentWork) ≡ none → Loopless g → ((p : ℕ) → p < length g → count KBWG g p < limit)
+      → Counted limit g lent lentWork (gives []) (counts g ++ drop (length g) lent)
+
+-- "counts where counting its N nodes, with lists long enough, gives none"
+pub record Counts (limit : ℕ) (g : Graph) : Type 0 where
+  pub fit : firstOf (graphRow g) ≡ none
+  pub loopless : Loopless g
+  pub few : (p : ℕ) → p < length g → count KBWG g p < limit
