@@ -1,7 +1,10 @@
 // The families of calls. A new family is a module and a line in FAMILIES.
 
 mod layout;
+mod loading;
 mod nodes;
+mod outcome;
+mod samples;
 mod trial;
 
 use crate::numbers::{self, Inputs, Unreadable};
@@ -19,7 +22,7 @@ pub struct Family {
     pub answer: fn(u64, &mut Inputs) -> Result<Vec<u64>, Unreadable>,
 }
 
-const FAMILIES: &[Family] = &[trial::FAMILY, nodes::FAMILY];
+const FAMILIES: &[Family] = &[trial::FAMILY, nodes::FAMILY, loading::FAMILY];
 
 pub fn find_list(name: &str) -> Option<&'static Family> {
     FAMILIES.iter().find(|family| family.list == name)

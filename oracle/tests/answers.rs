@@ -32,14 +32,14 @@ fn answers(input: &str) -> (String, String) {
     (text(output.stdout), text(output.stderr))
 }
 
-fn repack_line(from: u32, to: u32, before: &[u32], after: &[u32]) -> String {
-    let bytes = |words: &[u32]| {
-        let bytes = words.iter().flat_map(|word| word.to_le_bytes());
-        let texts: Vec<String> = bytes.map(|byte| byte.to_string()).collect();
-        texts.join(" ")
-    };
-    let len = before.len() * 4;
-    format!("4 {from} {to} {len} {} 0 {}\n", bytes(before), bytes(after))
+// A graph of five nodes in each layout.
+const KWG: [u32; 5] = [0x00400002, 0x00400000, 0x01800004, 0x02400004, 0x02c00000];
+const KBWG: [u32; 5] = [0x240, 0x40, 0x481, 0x442, 0xc2];
+
+fn bytes(words: &[u32]) -> String {
+    let bytes = words.iter().flat_map(|word| word.to_le_bytes());
+    let texts: Vec<String> = bytes.map(|byte| byte.to_string()).collect();
+    texts.join(" ")
 }
 
 #[test]
@@ -64,15 +64,34 @@ fn an_abort_is_reported_and_the_next_request_answered() {
 }
 
 #[test]
-fn the_sample_graph_has_the_expected_words() {
-    let kwg = [0x00400002, 0x00400000, 0x01800004, 0x02400004, 0x02c00000];
-    let kbwg = [0x240, 0x40, 0x481, 0x442, 0xc2];
-    let expected = repack_line(0, 1, &kwg, &kbwg) + &repack_line(1, 0, &kbwg, &kwg);
-    let requests: String = expected
-        .lines()
-        .map(|line| line.split(' ').take(24).collect::<Vec<_>>().join(" ") + "\n")
-        .collect();
-    assert_eq!(answers(&requests).0, expected);
+fn the_sample_graph_is_repacked_either_way() {
+    for (from, to, before, after) in [(0, 1, KWG, KBWG), (1, 0, KBWG, KWG)] {
+        let request = format!("4 {from} {to} 20 {}", bytes(&before));
+        let expected = format!("{request} 0 {}\n", bytes(&after));
+        assert_eq!(answers(&(request + "\n")).0, expected);
+    }
+}
+
+#[test]
+fn the_sample_graph_loads_in_either_layout() {
+    for (layout, words) in [(0, KWG), (1, KBWG)] {
+        let request = format!("5 {layout} 20 {}", bytes(&words));
+        let expected = format!("{request} 0 5 576 64 1153 1090 194\n");
+        assert_eq!(answers(&(request + "\n")).0, expected);
+    }
+}
+
+#[test]
+fn a_refused_load_says_why() {
+    let not_whole = "5 0 0 1\n5 1 3 64 0 0 1\n";
+    // The second node of two has tile 64 and arc 3; the first's arc is 2.
+    let misfit = "5 0 8 2 0 64 5 3 0 0 64 6 1 64 3\n";
+    let arcs = "5 1 8 64 2 0 0 64 3 0 0 8 3\n";
+    let no_end = "5 1 8 64 1 0 0 0 1 0 0 9\n";
+    let expected = [not_whole, misfit, arcs, no_end].concat();
+    let requests = "5 0 0\n5 1 3 64 0 0\n5 0 8 2 0 64 5 3 0 0 64\n\
+                    5 1 8 64 2 0 0 64 3 0 0\n5 1 8 64 1 0 0 0 1 0 0\n";
+    assert_eq!(answers(requests).0, expected);
 }
 
 #[test]
@@ -105,9 +124,10 @@ fn an_unreadable_request_stops_the_run() {
 }
 
 #[test]
-fn the_list_nodes_is_the_same_each_time_and_fully_answered() {
-    let requests = text(oracle(&["requests", "nodes"], "").stdout);
-    assert_eq!(requests, text(oracle(&["requests", "nodes"], "").stdout));
+fn the_lists_are_the_same_each_time_and_fully_answered() {
+    let asked = ["requests", "nodes", "loading"];
+    let requests = text(oracle(&asked, "").stdout);
+    assert_eq!(requests, text(oracle(&asked, "").stdout));
 
     let (list, said) = answers(&requests);
     assert!(said.ends_with(" cases, 0 panic, 0 died\n"), "{said}");

@@ -1,17 +1,27 @@
 -- The starred cases of document 01, "Five nodes to check by", computed from the definitions themselves: the entries of one list, and
 -- the lemma that goes through it.
 use mathlib.Core.Path.{_≡_, refl}
-use mathlib.Core.List.{List, [], _∷_, map}
+use mathlib.Core.List.{List, [], _∷_}
 use Prim.Native.Nat.{ℕ}
 use Rattle.laws.specs.Lists.{All}
 use Rattle.node.specs.Nodes.{KWG, KBWG, fits}
-use Rattle.graph.specs.Runs.{Graph, run}
-use Rattle.graph.specs.Words.{inOrder, spelled, wordsWithin, words, count}
-use Rattle.load.specs.Repacking.{fitting}
+use Rattle.node.specs.Answers.{Answer, gives, firstOf}
+use Rattle.node.specs.declared.Layout.the-variants.{Kwg}
+use Rattle.graph.specs.Runs.{Graph, run, largestArc, lastEnds}
+use Rattle.graph.specs.Words.{inOrder, spelled, wordsWithin, words}
+use Rattle.graph.specs.Counting.{table, counts}
+use Rattle.load.specs.Bytes.{wholeNodes, partNode}
+use Rattle.load.specs.Repacking.{fitting, firstMisfit}
+use Rattle.load.specs.Loading.{begin, feed, finish, holding, stateAfter, nodesAfter, zeros}
+use Rattle.pieces.specs.Pieces.{Loads, loadWhole, oneFeed}
 
 -- "G in KBWG words (hexadecimal): 240, 40, 481, 442, C2"
 abbrev pub G : Graph
 G = 0x240 ∷ 0x40 ∷ 0x481 ∷ 0x442 ∷ 0xC2 ∷ []
+
+-- what a load answers at its end, and the nodes
+abbrev loaded : Loads → Answer × Graph
+loaded l = (l .finished, l .nodes)
 
 -- A sentence of the paper, as what the rules give and what the paper says they give.
 pub record Case : Type 1 where
@@ -31,9 +41,15 @@ cases =
       expected = 0x00400002 ∷ 0x00400000 ∷ 0x01800004 ∷ 0x02400004 ∷ 0x02C00000 ∷ [];
     }
     -- "Counts 3, 0, 3, 1, 1."
-    ∷ record { Side = List ℕ; found = map (count KBWG G) (0 ∷ 1 ∷ 2 ∷ 3 ∷ 4 ∷ []); expected = 3 ∷ 0 ∷ 3 ∷ 1 ∷ 1 ∷ [] }
+    ∷ record { Side = List ℕ; found = counts G; expected = 3 ∷ 0 ∷ 3 ∷ 1 ∷ 1 ∷ [] }
+    -- "One KWG node 00400000: two nodes 40, 40."
+    ∷ record {
+      Side = Answer × Graph;
+      found = loaded (loadWhole 4 Kwg (7 ∷ 7 ∷ 7 ∷ []) (0x00 ∷ 0x00 ∷ 0x40 ∷ 0x00 ∷ []));
+      expected = (gives (2 ∷ []), 0x40 ∷ 0x40 ∷ 7 ∷ []);
+    }
     ∷ []
 
 pub starred : All Holds cases
-unfolding cases fits fitting run inOrder spelled wordsWithin words
-starred = (refl, (refl, tt))
+unfolding cases fits fitting run inOrder spelled wordsWithin words table loadWhole oneFeed begin feed finish firstOf holding stateAfter nodesAfter wholeNodes partNode firstMisfit zeros largestArc lastEnds
+starred = (refl, (refl, (refl, tt)))

@@ -189,12 +189,12 @@ impl Loader {
         if !self.is_sound(nodes.len()) {
             return Finished::BadState;
         }
-        let kept = self.kept;
+        let refusal = self.kept;
         if let Repacked::DoesNotFit {
             node,
             tile,
             arc_index,
-        } = kept {
+        } = refusal {
             return Finished::DoesNotFit {
                 node,
                 tile,

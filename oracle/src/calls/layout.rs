@@ -54,7 +54,7 @@ impl Layout {
     }
 }
 
-fn fields_of(node: impl Node) -> Fields {
+pub fn fields_of(node: impl Node) -> Fields {
     Fields {
         tile: node.tile(),
         accepts: node.accepts(),

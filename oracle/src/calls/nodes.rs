@@ -4,17 +4,13 @@ mod requests;
 
 use super::Family;
 use super::layout::{Fields, Layout, repack};
-use crate::error;
+use super::outcome::{DOES_NOT_FIT, DONE, tile_and_arc, unknown};
 use crate::numbers::{Inputs, Unreadable};
 
 const FIELDS: u64 = 1;
 const PACK: u64 = 2;
 const REPACK_ONE: u64 = 3;
 const REPACK_BYTES: u64 = 4;
-
-// The outcome of a call that may be refused.
-const DONE: u64 = 0;
-const DOES_NOT_FIT: u64 = 6;
 
 pub const FAMILY: Family = Family {
     list: "nodes",
@@ -71,7 +67,8 @@ fn repack_one(inputs: &mut Inputs) -> Result<Vec<u64>, Unreadable> {
     match repack(from, to, &mut bytes) {
         Ok(()) => Ok(vec![DONE, u32::from_le_bytes(bytes).into()]),
         Err(refusal) => {
-            let (tile, arc) = tile_and_arc(&refusal)?;
+            let (tile, arc) =
+                tile_and_arc(&refusal.to_string()).ok_or_else(|| unknown(&refusal))?;
             Ok(vec![DOES_NOT_FIT, tile, arc])
         }
     }
@@ -88,7 +85,8 @@ fn repack_bytes(inputs: &mut Inputs) -> Result<Vec<u64>, Unreadable> {
         Err(refusal) => {
             let node = refused_node(from, to, &before)
                 .ok_or("refused, but no node of it is refused by itself")?;
-            let (tile, arc) = tile_and_arc(&refusal)?;
+            let (tile, arc) =
+                tile_and_arc(&refusal.to_string()).ok_or_else(|| unknown(&refusal))?;
             vec![DOES_NOT_FIT, node, tile, arc]
         }
     };
@@ -102,15 +100,4 @@ fn refused_node(from: Layout, to: Layout, bytes: &[u8]) -> Option<u64> {
     (0..bytes.len() / 4)
         .find(|node| repack(from, to, &mut bytes[..(node + 1) * 4].to_vec()).is_err())
         .map(|node| node as u64)
-}
-
-// Read out of the Rust's message, the only place that names them.
-fn tile_and_arc(refusal: &error::BoxAnyError) -> Result<(u64, u64), Unreadable> {
-    let message = refusal.to_string();
-    message
-        .strip_prefix("a node of tile ")
-        .and_then(|rest| rest.strip_suffix(" does not fit the new layout"))
-        .and_then(|rest| rest.split_once(" and arc "))
-        .and_then(|(tile, arc)| Some((tile.parse().ok()?, arc.parse().ok()?)))
-        .ok_or_else(|| format!("an unknown refusal: {message}"))
 }

@@ -1,6 +1,7 @@
 // The list `nodes`.
 
 use super::super::layout::{Fields, LAYOUTS, Layout, PAIRS};
+use super::super::samples::{bytes_of, damaged, empty_graph, graph, random_bytes};
 use super::{FIELDS, PACK, REPACK_BYTES, REPACK_ONE};
 use crate::random::Random;
 use crate::requests::Requests;
@@ -28,10 +29,6 @@ const FLAGS: [(bool, bool); 4] = [(false, false), (false, true), (true, false), 
 // In both layouts a node fits the other where its two top bits are clear: they
 // make a tile of 64 or more in KWG, and an arc of 2^22 or more in KBWG.
 const TOP_BITS: u32 = 0xc000_0000;
-
-// A graph of five nodes that hold the words 1, 1 2 and 2 2, in each layout.
-const GRAPH_KWG: [u32; 5] = [0x00400002, 0x00400000, 0x01800004, 0x02400004, 0x02c00000];
-const GRAPH_KBWG: [u32; 5] = [0x240, 0x40, 0x481, 0x442, 0xc2];
 
 pub fn requests(requests: &mut Requests) {
     requests.comment("call 1: the fields of a node");
@@ -140,14 +137,6 @@ fn ask_bytes(requests: &mut Requests, from: Layout, to: Layout, bytes: &[u8]) {
     requests.ask(&numbers);
 }
 
-fn bytes_of(words: &[u32]) -> Vec<u8> {
-    words.iter().flat_map(|word| word.to_le_bytes()).collect()
-}
-
-fn random_bytes(random: &mut Random, len: usize) -> Vec<u8> {
-    (0..len).map(|_| random.byte()).collect()
-}
-
 fn random_fitting_words(random: &mut Random, len: usize) -> Vec<u32> {
     (0..len).map(|_| random.word() & !TOP_BITS).collect()
 }
@@ -203,14 +192,9 @@ fn one_misfit(requests: &mut Requests) {
 
 // Good graphs, also read in the wrong layout, whole and with a part node after.
 fn graphs(requests: &mut Requests) {
-    let graphs = [
-        bytes_of(&GRAPH_KWG),
-        bytes_of(&GRAPH_KBWG),
-        crate::kwg::EMPTY_KWG_BYTES.to_vec(),
-        crate::kwg::EMPTY_KBWG_BYTES.to_vec(),
-    ];
     for (from, to) in PAIRS {
-        for graph in &graphs {
+        let graphs = [LAYOUTS.map(graph), LAYOUTS.map(empty_graph)];
+        for graph in graphs.as_flattened() {
             for part in 0..4 {
                 let mut bytes = graph.clone();
                 bytes.extend(&[0xff, 0x80, 0x01][..part]);
@@ -220,19 +204,11 @@ fn graphs(requests: &mut Requests) {
     }
 }
 
-// One byte of a good graph changed: each of its bits, and all of them.
+// One byte of a good graph changed.
 fn damaged_graphs(requests: &mut Requests) {
     for (from, to) in PAIRS {
-        let graph = match from {
-            Layout::Kwg => bytes_of(&GRAPH_KWG),
-            Layout::Kbwg => bytes_of(&GRAPH_KBWG),
-        };
-        for place in 0..graph.len() {
-            for change in (0..8).map(|bit| 1 << bit).chain([0xff]) {
-                let mut damaged = graph.clone();
-                damaged[place] ^= change;
-                ask_bytes(requests, from, to, &damaged);
-            }
+        for bytes in damaged(&graph(from)) {
+            ask_bytes(requests, from, to, &bytes);
         }
     }
 }

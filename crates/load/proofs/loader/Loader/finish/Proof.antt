@@ -26,13 +26,13 @@ returns : tie.Need-returns
 returns c = let a = c .before .before .before .args in
     sym (finish-unsound (a .self) (a .nodes .now) (unsound (a .self) _ (sym (c .before .is-sound .ensures) ∙ not-true _ (c .if1 .taken))))
 
-enum-known-kept : tie.Need-enum-known-kept
-enum-known-kept c = search needs
+enum-known-refusal : tie.Need-enum-known-refusal
+enum-known-refusal c = search needs
 
 returns-2 : tie.Need-returns-2
 returns-2 c = let a = c .before .before .before .before .before .before .args in
     let ok = is-sound (a .self) (length (a .nodes .now)) (sym (c .before .before .before .before .is-sound .ensures) ∙ not-false _ (c .before .before .before .if1 .left)) in
-    sym (finish-kept (a .self) (a .nodes .now) ok (ap misfitOf (c .before .kept .given .1)))
+    sym (finish-kept (a .self) (a .nodes .now) ok (ap misfitOf (c .before .refusal .given .1)))
 
 enum-told : tie.Need-enum-told
 enum-told c = search needs
@@ -128,7 +128,7 @@ finish-spec =
     (tie.spec
     is-sound-requires
     returns
-    enum-known-kept
+    enum-known-refusal
     returns-2
     enum-told
     returns-3

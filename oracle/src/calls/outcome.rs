@@ -1,0 +1,27 @@
+// The outcome of a call that may be refused, by the number a list gives it.
+
+use crate::error;
+use crate::numbers::Unreadable;
+
+pub const DONE: u64 = 0;
+pub const NOT_WHOLE_NODES: u64 = 1;
+pub const DOES_NOT_FIT: u64 = 6;
+pub const ARC_PAST_END: u64 = 8;
+pub const NO_END: u64 = 9;
+
+// The numbers of a refusal are read out of the Rust's message, the only place
+// that names them.
+pub fn tile_and_arc(message: &str) -> Option<(u64, u64)> {
+    let named = named_in(message, "a node of tile ", " does not fit the new layout")?;
+    let (tile, arc) = named.split_once(" and arc ")?;
+    Some((tile.parse().ok()?, arc.parse().ok()?))
+}
+
+// What stands between the two texts that a message starts and ends with.
+pub fn named_in<'a>(message: &'a str, start: &str, end: &str) -> Option<&'a str> {
+    message.strip_prefix(start)?.strip_suffix(end)
+}
+
+pub fn unknown(refusal: &error::BoxAnyError) -> Unreadable {
+    format!("an unknown refusal: {refusal}")
+}
