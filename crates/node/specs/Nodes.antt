@@ -69,11 +69,18 @@ module _ (y : Places) where
   abbrev pub arc : ℕ → ℕ
   arc v = fields v Arc
 
+  -- the flags, as the numbers 0 and 1, and as tests
+  abbrev pub acceptsBit : ℕ → ℕ
+  acceptsBit v = fields v Accepts
+
+  abbrev pub endBit : ℕ → ℕ
+  endBit v = fields v End
+
   abbrev pub accepts : ℕ → Bool
-  accepts v = eqb (fields v Accepts) 1
+  accepts v = eqb (acceptsBit v) 1
 
   abbrev pub isEnd : ℕ → Bool
-  isEnd v = eqb (fields v End) 1
+  isEnd v = eqb (endBit v) 1
 
 -- ---- making a node in the layout y
 abbrev pub flag : Bool → ℕ

@@ -1,0 +1,25 @@
+use borrow.Author.Needs.{needs}
+use Rattle.lookup.specs.Walks.{wordIndex}
+use Rattle.lookup.proofs.by_word.get_word_index.Statement.{statement}
+use Rattle.lookup.proofs.by_word.get_word_index.Tie as tie
+use Rattle.lookup.proofs.by_word.get_word_index.Reads as reads
+use Rattle.lookup.proofs.by_word.get_word_index.Lts as lts
+use Rattle.lookup.proofs.by_word.index_from.Reads as index-from-reads
+use Rattle.lookup.proofs.run.lent_part.Reads as lent-part-reads
+
+lent-part-requires : tie.Need-lent-part-requires
+lent-part-requires c κs = search needs
+
+lent-part-requires-2 : tie.Need-lent-part-requires-2
+lent-part-requires-2 c κs = search needs
+
+index-from-requires : tie.Need-index-from-requires
+index-from-requires c κs = search needs
+
+returns : tie.Need-returns
+unfolding wordIndex
+returns c = rw (← c .before .before .lent-part .ensures, ← c .before .lent-part2 .ensures) (c .index-from .ensures)
+
+pub get-word-index-spec : {M : Type 1} → statement M
+get-word-index-spec =
+    tie.close (tie.spec lent-part-requires lent-part-requires-2 index-from-requires returns)

@@ -1,0 +1,52 @@
+-- What the answers of the calls say, and those of the walks' parts.
+use mathlib.Core.Path.{_≡_}
+use mathlib.Core.List.{List, [], _∷_, _++_}
+use Prim.Native.Nat.{ℕ}
+use lib.ListN.{length, drop}
+use Rattle.node.specs.Answers.{Answer, gives, nothing, refused}
+use Rattle.lookup.specs.Steps.{Try, on, stop}
+use Rattle.lookup.specs.declared.run.Found.{Found}
+use Rattle.lookup.specs.declared.run.Found.the-variants as F
+use Rattle.lookup.specs.declared.by_word.WordIndex.{WordIndex}
+use Rattle.lookup.specs.declared.by_word.WordIndex.the-variants as I
+use Rattle.lookup.specs.declared.by_word.Passed.{Passed}
+use Rattle.lookup.specs.declared.by_word.Passed.the-variants as P
+use Rattle.lookup.specs.declared.by_number.Here.{Here}
+use Rattle.lookup.specs.declared.by_number.Here.the-variants as H
+use Rattle.lookup.specs.declared.by_number.WordByIndex.{WordByIndex}
+use Rattle.lookup.specs.declared.by_number.WordByIndex.the-variants as T
+
+abbrev pub saidIndex : WordIndex → Answer
+saidIndex (I.Number n) = gives (n ∷ [])
+saidIndex I.Absent = nothing
+saidIndex I.NotLent = refused 14 []
+saidIndex I.OutOfRange = refused 15 []
+
+abbrev pub saidWord : WordByIndex → Answer
+saidWord (T.Tiles n) = gives (n ∷ [])
+saidWord T.Absent = nothing
+saidWord T.NotLent = refused 14 []
+saidWord T.OutOfRange = refused 15 []
+saidWord T.BufferFull = refused 16 []
+
+-- "After a refusal or none the tiles already put stay, the rest of the buffer as before."
+pub record Put (walk : List ℕ × Answer) (before after : List ℕ) (r : WordByIndex) : Type 0 where
+  pub said : saidWord r ≡ walk .1
+  pub tiles : after ≡ walk .0 ++ drop (length (walk .0)) before
+
+-- ---- parts of a walk
+abbrev pub tried : Found → Try ℕ
+tried (F.At i) = on i
+tried F.Absent = stop nothing
+tried F.NotLent = stop (refused 14 [])
+
+abbrev pub passedAs : Passed → Try (ℕ × ℕ)
+passedAs (P.To before node) = on (before, node)
+passedAs P.Absent = stop nothing
+passedAs P.NotLent = stop (refused 14 [])
+passedAs P.OutOfRange = stop (refused 15 [])
+
+abbrev pub here : Here → Try ℕ
+here (H.Words n) = on n
+here H.NotLent = stop (refused 14 [])
+here H.OutOfRange = stop (refused 15 [])

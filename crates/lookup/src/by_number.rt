@@ -1,0 +1,101 @@
+// The word of a number.
+ghost use mathlib.Core.Path.{_≡_};
+ghost use lib.ListN.{length};
+ghost use Rattle.lookup.specs.Walks.{wordsHere, wordFrom, wordByIndex};
+ghost use Rattle.lookup.specs.Said.{here, Put};
+
+pub enum WordByIndex {
+    Tiles(usize),
+    Absent,
+    NotLent,
+    OutOfRange,
+    BufferFull,
+}
+
+pub enum Here {
+    Words(u32),
+    NotLent,
+    OutOfRange,
+}
+
+// The words of node v, at place p, by the counts from it and from the node after it.
+fn words_here(counts: &[u32], v: u32, p: usize) -> Here
+    ensures { λ r. ⌜ here r ≡ wordsHere (now (counts .entry)) v p ⌝ }
+{
+    if counts.len() <= p {
+        return Here::NotLent;
+    }
+    let own = counts[p];
+    if v / 64 % 2 == 1 {
+        return Here::Words(own);
+    }
+    if counts.len() <= p + 1 {
+        return Here::NotLent;
+    }
+    let next = counts[p + 1];
+    if own < next {
+        return Here::OutOfRange;
+    }
+    Here::Words(own - next)
+}
+
+fn word_from(nodes: &[u32], counts: &[u32], p: usize, idx: u32, word: &mut [u8]) -> WordByIndex
+    ensures { λ r. ⌜ Put (wordFrom (now (counts .entry)) (now (nodes .entry)) (length (now (word .entry))) 0 p idx) (now (word .entry)) (now (word .exit)) r ⌝ }
+{
+    let mut p = p;
+    let mut idx = idx;
+    let mut n = 0;
+    while p < nodes.len() {
+        let v = nodes[p];
+        let accepts = v / 128 % 2;
+        if idx < accepts {
+            if word.len() <= n {
+                return WordByIndex::BufferFull;
+            }
+            word[n] = (v % 64) as u8;
+            return WordByIndex::Tiles(n + 1);
+        }
+        let here = words_here(counts, v, p);
+        match here {
+            Here::Words(words) => {
+                if idx < words {
+                    if word.len() <= n {
+                        return WordByIndex::BufferFull;
+                    }
+                    word[n] = (v % 64) as u8;
+                    n += 1;
+                    idx -= accepts;
+                    p = (v / 256) as usize;
+                } else {
+                    if v / 64 % 2 == 1 {
+                        return WordByIndex::Absent;
+                    }
+                    idx -= words;
+                    p += 1;
+                }
+            }
+            Here::NotLent => return WordByIndex::NotLent,
+            Here::OutOfRange => return WordByIndex::OutOfRange,
+        }
+    }
+    WordByIndex::NotLent
+}
+
+// Puts the tiles of the word with the number among those from node p, and answers how many.
+pub fn get_word_by_index(
+    nodes: &[u32],
+    counts: &[u32],
+    p: u32,
+    idx: u32,
+    word: &mut [u8],
+) -> WordByIndex
+    ensures { λ r. ⌜ Put (wordByIndex (now (counts .entry)) (now (nodes .entry)) (length (now (word .entry))) p idx) (now (word .entry)) (now (word .exit)) r ⌝ }
+{
+    word_from(
+        crate::run::lent_part(nodes),
+        crate::run::lent_part(counts),
+        p as usize,
+        idx,
+        word,
+    )
+}

@@ -1,0 +1,38 @@
+// The run that begins at a node, and what is lent.
+ghost use mathlib.Core.Path.{_≡_};
+ghost use lib.ListN.{drop};
+ghost use Rattle.lookup.specs.Steps.{lentPart};
+ghost use Rattle.lookup.specs.Walks.{findIn};
+ghost use Rattle.lookup.specs.Said.{tried};
+
+pub enum Found {
+    At(usize),
+    Absent,
+    NotLent,
+}
+
+// Places are 32-bit numbers, so no walk gets further.
+pub(crate) fn lent_part(list: &[u32]) -> &[u32]
+    ensures { λ r. ⌜ now r ≡ lentPart (now (list .entry)) ⌝ }
+{
+    let end: usize = 4294967296;
+    if end < list.len() { &list[..end] } else { list }
+}
+
+// The first node with the tile in the run from p.
+pub(crate) fn find_in(nodes: &[u32], p: usize, tile: u32) -> Found
+    ensures { λ r. ⌜ tried r ≡ findIn (drop p (now (nodes .entry))) p tile ⌝ }
+{
+    let mut i = p;
+    while i < nodes.len() {
+        let v = nodes[i];
+        if v % 64 == tile {
+            return Found::At(i);
+        }
+        if v / 64 % 2 == 1 {
+            return Found::Absent;
+        }
+        i += 1;
+    }
+    Found::NotLent
+}
