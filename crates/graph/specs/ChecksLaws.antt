@@ -1,20 +1,22 @@
--- The checks 8 and 9 along a list of nodes.
+-- The checks 8 and 9 along a list of nodes, the rows by the facts that decide them, and what passing a row tells.
 use mathlib.Core.Path.{_≡_, refl, sym, ap, _∙_}
-use mathlib.Core.Bool.{true, false, not}
+use mathlib.Core.Bool.{true, false, not, true≢false}
 use mathlib.Core.List.{[], _∷_}
 use mathlib.Core.Option.{none, some}
-use Prim.Native.Nat.{ℕ, suc, _+_, _-_, _≤_, _<_, max}
+use Prim.Native.Nat.{ℕ, zero, suc, _+_, _-_, _≤_, _<_, max}
 use native.Mathlib.Omega.{arith}
-use native.Mathlib.Nat.{max-zero}
+use native.Mathlib.Nat.{max-zero, le-max-left, le-max-right, le-trans}
 use native.Mathlib.Numerals.{add-one}
 use lib.ListN.{length, drop}
 use lib.Seq.{drop-cons, drop-length}
-use borrow.Author.Tests.{le-leb, lt-leb}
+use borrow.Author.Tests.{le-leb, lt-leb, leb-false, ltb-false, not-false}
+use lib.Dec.{ltb}
+use Rattle.laws.specs.Cases.{or-false-left, or-false-right}
 use Rattle.node.specs.Answers.{refused, firstOf}
-use Rattle.node.specs.RowLaws.{row-refuses, row-passes, row-ends}
+use Rattle.node.specs.RowLaws.{row-refuses, row-passes, row-ends, row-passed}
 use Rattle.node.specs.Nodes.{Places, KBWG, arc, isEnd}
 use Rattle.graph.specs.Runs.{Graph, node, largestArc, lastEnds}
-use Rattle.graph.specs.Checks.{nodesRow}
+use Rattle.graph.specs.Checks.{nodesRow, graphRow}
 
 module _ (y : Places) where
   -- the largest of m and the arcs from node i on
@@ -56,3 +58,49 @@ module _ (g : Graph) where
 
     pub nodes-sound : lastEnds KBWG g ≡ true → firstOf (nodesRow g) ≡ none
     nodes-sound e = row-passes _ _ _ (lt-leb _ _ inside) ∙ row-passes _ _ _ (ap not e) ∙ row-ends
+
+-- ---- what passing the rows tells
+arc-within : (y : Places) (g : Graph) (p : ℕ) → p < length g → arc y (node g p) ≤ largestArc y g
+unfolding largestArc
+arc-within y [] p h = absurd (omega arith)
+arc-within y (v ∷ g) zero h = le-max-left (arc y v) (largestArc y g)
+arc-within y (v ∷ g) (suc p) h = le-trans (arc-within y g p (omega arith)) (le-max-right (arc y v) (largestArc y g))
+
+run-within : (y : Places) (g : Graph) → lastEnds y g ≡ true → (p : ℕ) → p < length g → isEnd y (node g p) ≡ false → suc p < length g
+unfolding lastEnds
+run-within y [] e p h x = absurd (omega arith)
+run-within y (v ∷ []) e zero h x = absurd (true≢false (sym e ∙ x))
+run-within y (v ∷ []) e (suc p) h x = absurd (omega arith)
+run-within y (v ∷ w ∷ g) e zero h x = omega arith
+run-within y (v ∷ w ∷ g) e (suc p) h x = let r = run-within y (w ∷ g) e p (omega arith) x in omega arith
+
+-- every step leads to a node
+pub record Closed (g : Graph) : Type 0 where
+  pub arcs : (p : ℕ) → p < length g → arc KBWG (node g p) < length g
+  pub runs : (p : ℕ) → p < length g → isEnd KBWG (node g p) ≡ false → suc p < length g
+
+pub closed : (g : Graph) → firstOf (nodesRow g) ≡ none → Closed g
+closed g e =
+    let a = row-passed _ _ _ e in
+    let b = row-passed _ _ _ (a .1) in
+    let inside = leb-false (length g) (largestArc KBWG g) (a .0) in
+    record {
+      arcs = λ p h. let w = arc-within KBWG g p h in omega arith;
+      runs = run-within KBWG g (not-false (lastEnds KBWG g) (b .0));
+    }
+
+pub record Fit (g : Graph) : Type 0 where
+  pub two : 2 ≤ length g
+  pub most : length g ≤ 16_777_216
+  pub steps : Closed g
+
+pub fit : (g : Graph) → firstOf (graphRow g) ≡ none → Fit g
+fit g e =
+    let a = row-passed _ _ _ e in
+    let small = ltb (length g) 2 in
+    let large = ltb 16_777_216 (length g) in
+    record {
+      two = ltb-false (length g) 2 (or-false-left small large (a .0));
+      most = ltb-false 16_777_216 (length g) (or-false-right small large (a .0));
+      steps = closed g (a .1);
+    }

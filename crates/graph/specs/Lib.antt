@@ -7,3 +7,4 @@ pub mod ChecksLaws
 pub mod Counting
 pub mod WordsAscend
 pub mod WordsEquation
+pub mod UpwardLaws

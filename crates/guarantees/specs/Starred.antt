@@ -1,18 +1,20 @@
 -- The starred cases of document 01, "Five nodes to check by", computed from the definitions themselves: the entries of one list, and
 -- the lemma that goes through it.
 use mathlib.Core.Path.{_≡_, refl}
-use mathlib.Core.List.{List, [], _∷_}
+use mathlib.Core.List.{List, [], _∷_, map}
 use Prim.Native.Nat.{ℕ}
 use Rattle.laws.specs.Lists.{All}
 use Rattle.node.specs.Nodes.{KWG, KBWG, fits}
-use Rattle.node.specs.Answers.{Answer, gives, firstOf}
+use Rattle.node.specs.Answers.{Answer, gives, nothing, firstOf}
 use Rattle.node.specs.declared.Layout.the-variants.{Kwg}
 use Rattle.graph.specs.Runs.{Graph, run, largestArc, lastEnds}
-use Rattle.graph.specs.Words.{inOrder, spelled, wordsWithin, words}
+use Rattle.graph.specs.Words.{Word, inOrder, spelled, wordsWithin, words}
 use Rattle.graph.specs.Counting.{table, counts}
 use Rattle.load.specs.Bytes.{wholeNodes, partNode}
 use Rattle.load.specs.Repacking.{fitting, firstMisfit}
 use Rattle.load.specs.Loading.{begin, feed, finish, holding, stateAfter, nodesAfter, zeros}
+use Rattle.lookup.specs.Steps.{lent, difference, sum}
+use Rattle.lookup.specs.Walks.{findIn, passed, indexFrom, wordIndex, wordsHere, turnIn, wordFrom, wordByIndex}
 use Rattle.pieces.specs.Pieces.{Loads, loadWhole, oneFeed}
 
 -- "G in KBWG words (hexadecimal): 240, 40, 481, 442, C2"
@@ -48,8 +50,18 @@ cases =
       found = loaded (loadWhole 4 Kwg (7 ∷ 7 ∷ 7 ∷ []) (0x00 ∷ 0x00 ∷ 0x40 ∷ 0x00 ∷ []));
       expected = (gives (2 ∷ []), 0x40 ∷ 0x40 ∷ 7 ∷ []);
     }
+    -- "Numbers 0, 1, 2 from node 2: 1; 1 2; 2 2."
+    ∷ record {
+      Side = List (Word × Answer);
+      found = map (wordByIndex (counts G) G 2 2) (0 ∷ 1 ∷ 2 ∷ []);
+      expected = (1 ∷ [], gives (1 ∷ [])) ∷ (1 ∷ 2 ∷ [], gives (2 ∷ [])) ∷ (2 ∷ 2 ∷ [], gives (2 ∷ [])) ∷ [];
+    }
+    -- "Number 3: none."
+    ∷ record { Side = Word × Answer; found = wordByIndex (counts G) G 2 2 3; expected = ([], nothing) }
+    -- "Word 2: none."
+    ∷ record { Side = Answer; found = wordIndex 4_294_967_295 G (counts G) 2 (2 ∷ []); expected = nothing }
     ∷ []
 
 pub starred : All Holds cases
-unfolding cases fits fitting run inOrder spelled wordsWithin words table loadWhole oneFeed begin feed finish firstOf holding stateAfter nodesAfter wholeNodes partNode firstMisfit zeros largestArc lastEnds
-starred = (refl, (refl, (refl, tt)))
+unfolding cases fits fitting run inOrder spelled wordsWithin words table loadWhole oneFeed begin feed finish firstOf holding stateAfter nodesAfter wholeNodes partNode firstMisfit zeros largestArc lastEnds lent difference sum findIn passed indexFrom wordIndex wordsHere turnIn wordFrom wordByIndex
+starred = (refl, (refl, (refl, (refl, (refl, (refl, tt))))))

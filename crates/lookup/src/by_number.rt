@@ -59,7 +59,7 @@ fn word_from(nodes: &[u32], counts: &[u32], p: usize, idx: u32, word: &mut [u8])
         match here {
             Here::Words(words) => {
                 if idx < words {
-                    if word.len() <= n {
+                    if n >= word.len() {
                         return WordByIndex::BufferFull;
                     }
                     word[n] = (v % 64) as u8;

@@ -1,5 +1,5 @@
 -- A row of checks, one condition at a time.
-use mathlib.Core.Path.{_≡_, refl, sym, ap, _∙_}
+use mathlib.Core.Path.{_≡_, refl, sym, ap, _∙_, subst}
 use mathlib.Core.Bool.{Bool, true, false, false≢true}
 use mathlib.Core.List.{[], _∷_, _++_}
 use mathlib.Core.Option.{none, some}
@@ -37,6 +37,12 @@ rows-pass (c ∷ cs) ds e =
     let p = row-passed (c .0) (c .1) cs e in
     row-passes (c .0) (c .1) (cs ++ ds) (p .0) ∙ rows-pass cs ds (p .1)
 
+pub rows-passed : (cs ds : Row) → firstOf (cs ++ ds) ≡ none → firstOf cs ≡ none
+rows-passed [] ds e = row-ends
+rows-passed (c ∷ cs) ds e =
+    let p = row-passed (c .0) (c .1) (cs ++ ds) e in
+    row-passes (c .0) (c .1) cs (p .0) ∙ rows-passed cs ds (p .1)
+
 -- a row with one answer refuses by that
 pub one-refusal : (r : Answer) (cs : Row) → All (λ (c : Bool × Answer). c .1 ≡ r) cs → isSome (firstOf cs) ≡ true → firstOf cs ≡ some r
 unfolding firstOf
@@ -45,3 +51,13 @@ one-refusal r (c ∷ cs) h e =
     split (c .0)
     (λ t. row-refuses (c .0) (c .1) cs t ∙ ap some (h .0))
     (λ t. let p = row-passes (c .0) (c .1) cs t in p ∙ one-refusal r cs (h .1) (ap isSome (sym p) ∙ e))
+
+-- what holds of every answer of a row holds of what it refuses by
+pub row-answer : (P : Answer → Type 0) (cs : Row) → All (λ (c : Bool × Answer). P (c .1)) cs → {r : Answer} → firstOf cs ≡ some r → P r
+unfolding firstOf
+row-answer P [] h e = some≢none (sym e)
+row-answer P (c ∷ cs) h {r} e =
+    split (c .0)
+    (λ t. let i : some (c .1) ≡ some r = sym (row-refuses (c .0) (c .1) cs t) ∙ e in
+    let j : c .1 ≡ r = cc in subst P j (h .0))
+    (λ t. row-answer P cs (h .1) (sym (row-passes (c .0) (c .1) cs t) ∙ e))

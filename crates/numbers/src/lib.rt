@@ -1,0 +1,1 @@
+// What word numbers mean, in specs/.
