@@ -1,3 +1,5 @@
-pub mod NumberLaws
 pub mod Numbered
+pub mod RunWords
+pub mod ByNumber
+pub mod ByWord
 pub mod NumberedLaws

@@ -21,8 +21,10 @@ use Rattle.graph.specs.WordsEquation.{words-equation}
 use Rattle.lookup.specs.Steps.{lentPart, lent, on}
 use Rattle.lookup.specs.Walks.{wordIndex, wordByIndex}
 use Rattle.lookup.specs.WalkLaws.{lent-on}
-use Rattle.numbers.specs.NumberLaws.{IndexIs, number, no-word, index, named, other-numbers, table-length, table-at}
-use Rattle.numbers.specs.Numbered.{Lent, Numbered}
+use Rattle.numbers.specs.RunWords.{table-length, table-at}
+use Rattle.numbers.specs.ByNumber.{named, other-numbers}
+use Rattle.numbers.specs.ByWord.{IndexIs, number, no-word, index}
+use Rattle.numbers.specs.Numbered.{Lent, Walkable, Numbered}
 
 ≺-differ : {u v : Word} → u ≺ v → u ≡ v → ⊥
 ≺-differ prefix e = nil≢cons e
@@ -75,22 +77,19 @@ module _ (limit : ℕ) (g : Graph) (c : Counts limit g) (up : ascends KBWG g ≡
       let r = head-lent (counts g) counted 4_294_967_296 (omega arith) (rw n (is .counts-are)) p (omega arith) in
       lent-on (lentPart counted) p (r .0) ∙ ap on (r .1 ∙ table-at (length g) (count KBWG g) p h)
 
-  nonempty : (q : ℕ) → All (From 0) (words KBWG g q)
-  unfolding words
-  nonempty q = both KBWG g up (length g) .0 q
+  walk : Walkable g (lentPart nodes) (lentPart counted)
+  walk = record { steps = fits .steps; loopless = c .loopless; same = same; count-lent = count-lent }
 
   long : (q i : ℕ) → i < count KBWG g q → 0 < length (getD (words KBWG g q) i [])
-  long q i h = from-length (getD (words KBWG g q) i []) (all-at (From 0) (words KBWG g q) (nonempty q) i h)
+  unfolding words
+  long q i h = from-length (getD (words KBWG g q) i []) (all-at (From 0) (words KBWG g q) (both KBWG g up (length g) .0 q) i h)
 
   abbrev Index : ℕ → Word → Answer → Type 0
-  Index p w x =
-      IndexIs g (fits .steps .arcs) (fits .steps .runs) (c .loopless) (lentPart nodes) (lentPart counted) same count-lent nonempty (words-ascend KBWG g up) up limit p 0 w x
+  Index p w x = IndexIs g (lentPart nodes) (lentPart counted) walk up limit p 0 w x
 
   index-of : (p : ℕ) → 0 < p → p < length g → (w : Word) → Index p w (wordIndex limit nodes counted p w)
   unfolding wordIndex
-  index-of p z h w =
-      index g (fits .steps .arcs) (fits .steps .runs) (c .loopless) (lentPart nodes) (lentPart counted) same count-lent nonempty (words-ascend KBWG g up) up limit w p 0 h (omega arith)
-      (let f = c .few p h in omega arith)
+  index-of p z h w = index g (lentPart nodes) (lentPart counted) walk up limit w p 0 h (omega arith) (let f = c .few p h in omega arith)
 
   back : (p i : ℕ) → i < count KBWG g p → {x : Answer} → Index p (getD (words KBWG g p) i []) x → x ≡ gives (i ∷ [])
   back p i h (number {i = j} l e n) =
@@ -106,10 +105,10 @@ module _ (limit : ℕ) (g : Graph) (c : Counts limit g) (up : ascends KBWG g ≡
   numbered p z h = record {
     equation = words-equation KBWG g p (record { itself = c .loopless p; below = λ q r. c .loopless q });
     ascending = words-ascend KBWG g up p;
-    named = λ i room k r. named g (fits .steps .arcs) (fits .steps .runs) (c .loopless) (lentPart nodes) (lentPart counted) same count-lent long room p i h k r;
+    named = λ i room k r. named g (lentPart nodes) (lentPart counted) walk long room p i h k r;
     given-back = λ i k. back p i k (index-of p z h (getD (words KBWG g p) i []));
     other-words = λ w n. other p w n (index-of p z h w);
-    other-numbers = λ i room k. other-numbers g (fits .steps .arcs) (fits .steps .runs) (c .loopless) (lentPart nodes) (lentPart counted) same count-lent long room p i h k;
+    other-numbers = λ i room k. other-numbers g (lentPart nodes) (lentPart counted) walk long room p i h k;
   }
 
 -- ---- "counts where counting its N nodes, with lists long enough, gives none"
