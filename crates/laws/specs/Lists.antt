@@ -1,5 +1,7 @@
 -- What holds of every entry of a list.
-use mathlib.Core.List.{List, [], _∷_, _++_}
+use mathlib.Core.Path.{sym, subst}
+use mathlib.Core.Logic.{⊎-elim}
+use mathlib.Core.List.{List, [], _∷_, _++_, List·Memᴰ, List·Memᴰ·not-nil, List·Memᴰ·cases-cons}
 
 abbrev pub All {ℓ κ} : {A : Type ℓ} → (A → Type κ) → List A → Type κ
 All P [] = Unit
@@ -12,3 +14,7 @@ all-append P (x ∷ xs) ys h k = (h .0, all-append P xs ys (h .1) k)
 pub all-weaken {ℓ κ μ} : {A : Type ℓ} (P : A → Type κ) (Q : A → Type μ) → ((x : A) → P x → Q x) → (xs : List A) → All P xs → All Q xs
 all-weaken P Q f [] h = tt
 all-weaken P Q f (x ∷ xs) h = (f x (h .0), all-weaken P Q f xs (h .1))
+
+pub all-mem {ℓ κ} : {A : Type ℓ} (P : A → Type κ) (xs : List A) (x : A) → All P xs → List·Memᴰ x xs → P x
+all-mem P [] x a m = absurd (List·Memᴰ·not-nil m)
+all-mem P (y ∷ xs) x a m = ⊎-elim (λ i. subst P (sym i) (a .0)) (λ k. all-mem P xs x (a .1) k) (List·Memᴰ·cases-cons m)

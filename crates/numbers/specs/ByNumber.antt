@@ -16,11 +16,10 @@ use Rattle.lookup.specs.Steps.{Try, on, stop, _>>=_}
 use Rattle.node.specs.Nodes.{tile, arc, accepts, acceptsBit, KBWG, isEnd}
 use Rattle.graph.specs.Runs.{Graph, node, run}
 use Rattle.graph.specs.Words.{Word, spelled, words, count}
-use Rattle.graph.specs.Counting.{counts}
 use Rattle.lookup.specs.WalkLaws.{difference-on}
 use Rattle.lookup.specs.Walks.{Turn, last, down, wordsHere, turnIn, wordFrom}
 use Rattle.numbers.specs.RunWords.{own-leaf, own-arc, no-leaf, no-arc, own-word, words-end, words-on, first-word, total, at-later, getD-map-in, accepts-one, accepts-zero}
-use Rattle.numbers.specs.Numbered.{Walkable}
+use Rattle.numbers.specs.Walkable.{Walkable}
 
 module _ (g : Graph) (nodes counted : List ℕ) (walk : Walkable g nodes counted) where
   abbrev W : ℕ → List Word

@@ -16,13 +16,12 @@ use Rattle.node.specs.Nodes.{tile, arc, accepts, acceptsBit, KBWG, isEnd}
 use Rattle.graph.specs.Runs.{Graph, node, run, ascends}
 use Rattle.graph.specs.Words.{Word, spelled, inOrder, words, count}
 use Rattle.graph.specs.Order.{Ascending}
-use Rattle.laws.specs.Lists.{All}
+use Rattle.laws.specs.Lists.{All, all-mem}
 use Rattle.graph.specs.WordsAscend.{both, words-ascend, From, Begins, ascends-head, ascends-drop, spelled-begins, heads}
-use Rattle.graph.specs.Counting.{counts}
 use Rattle.lookup.specs.WalkLaws.{lent-on, difference-on, sum-on}
 use Rattle.lookup.specs.Walks.{findIn, passed, indexFrom}
 use Rattle.numbers.specs.RunWords.{own-leaf, own-arc, no-leaf, no-arc, own-word, own-fits, words-run, words-end, words-on, first-word, size-fits, getD-map-in, accepts-one, accepts-zero}
-use Rattle.numbers.specs.Numbered.{Walkable}
+use Rattle.numbers.specs.Walkable.{Walkable}
 
 module _ (g : Graph) (nodes counted : List ℕ) (walk : Walkable g nodes counted) where
   abbrev W : ℕ → List Word
@@ -34,13 +33,8 @@ module _ (g : Graph) (nodes counted : List ℕ) (walk : Walkable g nodes counted
   abbrev pub wordAt : ℕ → ℕ → Word
   wordAt p i = getD (W p) i []
 
-  -- ---- by word
   abbrev NotIn : ℕ → List Word → Type 0
   NotIn t l = (u : Word) → List·Memᴰ (t ∷ u) l → ⊥
-
-  pub all-mem : (P : Word → Type 0) (l : List Word) (w : Word) → All P l → List·Memᴰ w l → P w
-  all-mem P [] w a m = absurd (List·Memᴰ·not-nil m)
-  all-mem P (x ∷ l) w a m = ⊎-elim (λ i. subst P (sym i) (a .0)) (λ k. all-mem P l w (a .1) k) (List·Memᴰ·cases-cons m)
 
   not-in-append : (t : ℕ) (a b : List Word) → NotIn t a → NotIn t b → NotIn t (a ++ b)
   not-in-append t a b h k u m = ⊎-elim (λ i. h u i) (λ i. k u i) (List·Memᴰ·append-cases a m)

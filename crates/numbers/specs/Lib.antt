@@ -1,4 +1,5 @@
 pub mod Numbered
+pub mod Walkable
 pub mod RunWords
 pub mod ByNumber
 pub mod ByWord

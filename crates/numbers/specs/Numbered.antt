@@ -6,12 +6,10 @@ use Prim.Native.Nat.{ℕ, _≤_, _<_}
 use lib.ListN.{length, getD, take, drop}
 use Rattle.node.specs.Answers.{gives, nothing}
 use Rattle.node.specs.Nodes.{KBWG}
-use Rattle.graph.specs.Runs.{Graph, node, run}
+use Rattle.graph.specs.Runs.{Graph, run}
 use Rattle.graph.specs.Words.{Word, inOrder, spelled, words, count}
 use Rattle.graph.specs.Order.{Ascending}
-use Rattle.graph.specs.ChecksLaws.{Closed}
-use Rattle.graph.specs.Counting.{counts, Loopless}
-use Rattle.lookup.specs.Steps.{lent, on}
+use Rattle.graph.specs.Counting.{counts}
 use Rattle.lookup.specs.Walks.{wordByIndex, wordIndex}
 
 -- "both conversions are lent these nodes and counts": the graph stands at the head of the lent nodes, and its counts at the head of the
@@ -19,13 +17,6 @@ use Rattle.lookup.specs.Walks.{wordByIndex, wordIndex}
 pub record Lent (g : Graph) (nodes counted : List ℕ) : Type 0 where
   pub nodes-are : take (length g) nodes ≡ g
   pub counts-are : take (length g) counted ≡ counts g
-
--- Where both walks meet the graph's own nodes and counts, and never leave them.
-pub record Walkable (g : Graph) (nodes counted : List ℕ) : Type 0 where
-  pub steps : Closed g
-  pub loopless : Loopless g
-  pub same : (p : ℕ) → p < length g → (p < length nodes) × (node nodes p ≡ node g p)
-  pub count-lent : (p : ℕ) → p < length g → lent counted p ≡ on (count KBWG g p)
 
 pub record Numbered (limit : ℕ) (g : Graph) (nodes counted : List ℕ) (p : ℕ) : Type 0 where
   -- "Words from p: for each node of the run in order, its tile alone if it accepts; then, where its arc is not 0, its tile before each

@@ -24,7 +24,8 @@ use Rattle.lookup.specs.WalkLaws.{lent-on}
 use Rattle.numbers.specs.RunWords.{table-length, table-at}
 use Rattle.numbers.specs.ByNumber.{named, other-numbers}
 use Rattle.numbers.specs.ByWord.{IndexIs, number, no-word, index}
-use Rattle.numbers.specs.Numbered.{Lent, Walkable, Numbered}
+use Rattle.numbers.specs.Walkable.{Walkable}
+use Rattle.numbers.specs.Numbered.{Lent, Numbered}
 
 ≺-differ : {u v : Word} → u ≺ v → u ≡ v → ⊥
 ≺-differ prefix e = nil≢cons e
