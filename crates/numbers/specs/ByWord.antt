@@ -1,29 +1,29 @@
 -- By word: the walk with a graph's own counts gives each word of a node its number, and none to any other.
 use mathlib.Core.Path.{_≡_, refl, sym, ap, _∙_, subst}
 use mathlib.Core.Bool.{true, false, _&&_, not}
-use mathlib.Core.Logic.{_≢_, _⊎_, ⊎-elim}
-use mathlib.Core.List.{List, [], _∷_, _++_, map, append-assoc, List·Memᴰ, List·Memᴰ·head, List·Memᴰ·tail, List·Memᴰ·not-nil, List·Memᴰ·cases-cons, List·Memᴰ·append-cases, head-eq-of-cons-eq, cons≢nil, Memᴰ·cast, List·Memᴰ·eq-of-singleton, tail-eq-of-cons-eq}
+use mathlib.Core.Logic.{_≢_}
+use mathlib.Core.List.{List, [], _∷_, _++_, List·Memᴰ}
 use Prim.Native.Nat.{ℕ, suc, _+_, _-_, _≤_, _<_}
 use native.Mathlib.Omega.{arith}
 use lib.Dec.{eqb}
 use borrow.Author.Tests.{eqb-true, eqb-false, ne-eqb}
-use lib.ListN.{length, getD, drop, length-drop, length-append, length-map}
-use lib.Seq.{drop-cons, getD-append-add}
+use lib.ListN.{length, getD, drop, length-append, length-map}
+use lib.Seq.{getD-append-add}
 use Rattle.laws.specs.Cases.{split}
 use Rattle.node.specs.Answers.{Answer, gives, nothing}
 use Rattle.lookup.specs.Steps.{Try, on, stop, _>>=_, answer, lent, difference, sum}
-use Rattle.node.specs.Nodes.{tile, arc, accepts, acceptsBit, KBWG, isEnd}
-use Rattle.graph.specs.Runs.{Graph, node, run, ascends}
-use Rattle.graph.specs.Words.{Word, spelled, inOrder, words, count}
-use Rattle.graph.specs.Order.{Ascending}
-use Rattle.laws.specs.Lists.{All, all-mem}
-use Rattle.graph.specs.WordsAscend.{both, words-ascend, From, Begins, ascends-head, ascends-drop, spelled-begins, heads}
+use Rattle.node.specs.Nodes.{tile, arc, accepts, acceptsBit, KBWG}
+use Rattle.graph.specs.Runs.{Graph, node, ascends}
+use Rattle.graph.specs.Words.{Word, spelled, words, count}
+use Rattle.laws.specs.Lists.{all-mem}
+use Rattle.graph.specs.WordsAscend.{From}
 use Rattle.lookup.specs.WalkLaws.{lent-on, difference-on, sum-on}
 use Rattle.lookup.specs.Walks.{findIn, passed, indexFrom}
-use Rattle.numbers.specs.RunWords.{own-leaf, own-arc, no-leaf, no-arc, own-word, own-fits, words-run, words-end, words-on, first-word, size-fits, getD-map-in, accepts-one, accepts-zero}
+use Rattle.numbers.specs.RunWords.{own-arc, no-arc, own-word, own-fits, first-word, size-fits, getD-map-in, accepts-one, accepts-zero}
 use Rattle.numbers.specs.Walkable.{Walkable}
+use Rattle.numbers.specs.TileSearch.{NotIn, nonempty, FoundIs, found, absent, find, in-found, alone, longer}
 
-module _ (g : Graph) (nodes counted : List ℕ) (walk : Walkable g nodes counted) where
+module _ (g : Graph) (nodes counted : List ℕ) (walk : Walkable g nodes counted) (up : ascends KBWG g ≡ true) (limit : ℕ) where
   abbrev W : ℕ → List Word
   W q = words KBWG g q
 
@@ -33,243 +33,138 @@ module _ (g : Graph) (nodes counted : List ℕ) (walk : Walkable g nodes counted
   abbrev pub wordAt : ℕ → ℕ → Word
   wordAt p i = getD (W p) i []
 
-  abbrev NotIn : ℕ → List Word → Type 0
-  NotIn t l = (u : Word) → List·Memᴰ (t ∷ u) l → ⊥
+  -- one tile
+  data PassedIs (p base t : ℕ) : Try (ℕ × ℕ) → Type 0 where
+    reaches : {q : ℕ} {before : ℕ} → q < length g → tile KBWG (node g q) ≡ t → (front : List Word) → W p ≡ front ++ W q → NotIn t front
+        → before ≡ base + length front → PassedIs p base t (on (before, node g q))
+    ends-none : NotIn t (W p) → PassedIs p base t (stop nothing)
 
-  not-in-append : (t : ℕ) (a b : List Word) → NotIn t a → NotIn t b → NotIn t (a ++ b)
-  not-in-append t a b h k u m = ⊎-elim (λ i. h u i) (λ i. k u i) (List·Memᴰ·append-cases a m)
+  pass-found : (p base t : ℕ) → base + count KBWG g p ≤ limit → (r : Try ℕ) → FoundIs g nodes counted walk up p t r
+      → PassedIs p base t (r >>= λ q. lent counted q >>= λ c. difference (base + count KBWG g p) c >>= λ before. on (before, node nodes q))
+  pass-found p base t k r (found {q} l e front f n) =
+      let c = ap length f ∙ length-append front (W q) in
+      rw (walk .count-lent q l) (rw (difference-on (base + count KBWG g p) (count KBWG g q) (omega arith)) (let b : base + count KBWG g p - count KBWG g q ≡ base + length front = omega arith in rw (walk .same q l .1) (reaches l e front f n b)))
+  pass-found p base t k r (absent n) = ends-none n
 
-  module _ (up : ascends KBWG g ≡ true) where
-    nonempty : (q : ℕ) → All (From 0) (W q)
-    unfolding words
-    nonempty q = both KBWG g up (length g) .0 q
+  pass : (p base t : ℕ) → p < length g → p ≢ 0 → base + count KBWG g p ≤ limit → PassedIs p base t (passed limit nodes counted p base t)
+  unfolding passed
+  pass p base t h n k =
+      rw (ne-eqb p 0 n) (rw (lent-on nodes p (walk .same p h .0)) (rw (walk .count-lent p h) (rw (sum-on limit base (count KBWG g p) k)
+      (pass-found p base t k (findIn (drop p nodes) p t) (find g nodes counted walk up (drop p nodes) p t refl h)))))
 
-    sorted : (q : ℕ) → Ascending (W q)
-    sorted = words-ascend KBWG g up
+  pub data IndexIs (p base : ℕ) (w : Word) : Answer → Type 0 where
+    number : {i n : ℕ} → i < count KBWG g p → wordAt p i ≡ w → n ≡ base + i → IndexIs p base w (gives (n ∷ []))
+    no-word : (List·Memᴰ w (W p) → ⊥) → IndexIs p base w nothing
 
-    spelled-other : (v : ℕ) (t : ℕ) → tile KBWG v ≢ t → NotIn t (spelled KBWG W v)
-    spelled-other v t n u m = n (sym (all-mem (Begins (tile KBWG v)) (spelled KBWG W v) (t ∷ u) (spelled-begins KBWG W nonempty sorted v) m))
+  -- a word of the node found
+  at-found : (p q : ℕ) (front : List Word) (j : ℕ) → q < length g → W p ≡ front ++ W q → j < size (node g q)
+      → (length front + j < count KBWG g p) × (wordAt p (length front + j) ≡ getD (spelled KBWG W (node g q)) j [])
+  at-found p q front j l f k =
+      let c = ap length f ∙ length-append front (W q) in
+      let w = first-word g (walk .steps) (walk .loopless) q j l k in
+      let lt = w .0 in
+      (omega arith, ap (λ x. getD x (length front + j) []) f ∙ getD-append-add front (W q) j [] ∙ w .1)
 
-    data FoundIs (p t : ℕ) : Try ℕ → Type 0 where
-      found : {q : ℕ} → q < length g → tile KBWG (node g q) ≡ t → (front : List Word) → W p ≡ front ++ W q → NotIn t front → FoundIs p t (on q)
-      absent : NotIn t (W p) → FoundIs p t (stop nothing)
+  -- the number of a word of the arc among those of the node
+  arc-at : (v : ℕ) (j : ℕ) → arc KBWG v ≢ 0 → j < count KBWG g (arc KBWG v)
+      → (acceptsBit KBWG v + j < size v) × (getD (spelled KBWG W v) (acceptsBit KBWG v + j) [] ≡ tile KBWG v ∷ wordAt (arc KBWG v) j)
+  arc-at v j n k =
+      let z = ne-eqb (arc KBWG v) 0 n in
+      let l = length-map (W (arc KBWG v)) (tile KBWG v ∷_) in
+      split (accepts KBWG v)
+      (λ a.
+      let e : acceptsBit KBWG v + j ≡ suc j = let o = accepts-one v a in omega arith in
+      rw (own-arc g v a z, e) (omega arith, getD-map-in (tile KBWG v ∷_) (W (arc KBWG v)) j [] [] k))
+      (λ a.
+      let e : acceptsBit KBWG v + j ≡ j = let o = accepts-zero v a in omega arith in
+      rw (no-arc g v a z, e) (omega arith, getD-map-in (tile KBWG v ∷_) (W (arc KBWG v)) j [] [] k))
 
-    found-later : (p t : ℕ) (v : ℕ) → W p ≡ spelled KBWG W v ++ W (suc p) → NotIn t (spelled KBWG W v) → {r : Try ℕ} → FoundIs (suc p) t r → FoundIs p t r
-    found-later p t v b n (found {q} l e front f k) =
-        found l e (spelled KBWG W v ++ front) (b ∙ ap (spelled KBWG W v ++_) f ∙ sym (append-assoc (spelled KBWG W v) front (W q))) (not-in-append t (spelled KBWG W v) front n k)
-    found-later p t v b n (absent k) = absent (subst (NotIn t) (sym b) (not-in-append t (spelled KBWG W v) (W (suc p)) n k))
+  -- room for the words of the arc
+  arc-fits : (v : ℕ) → arc KBWG v ≢ 0 → acceptsBit KBWG v + count KBWG g (arc KBWG v) ≤ size v
+  arc-fits v n =
+      let z = ne-eqb (arc KBWG v) 0 n in
+      let l = length-map (W (arc KBWG v)) (tile KBWG v ∷_) in
+      split (accepts KBWG v)
+      (λ a. let o = accepts-one v a in rw (own-arc g v a z) (omega arith))
+      (λ a. let o = accepts-zero v a in rw (no-arc g v a z) (omega arith))
 
-    find : (l : Graph) (p t : ℕ) → drop p nodes ≡ l → p < length g → FoundIs p t (findIn l p t)
-    unfolding findIn
-    find [] p t e h = absurd (let n : length nodes - p ≡ 0 = sym (length-drop p nodes) ∙ ap length e in omega (arith, walk .same p h .0))
-    find (v ∷ l) p t e h =
-        let c : node nodes p ∷ drop (suc p) nodes ≡ v ∷ l = sym (drop-cons nodes p 0 (walk .same p h .0)) ∙ e in
-        let is : node g p ≡ v = sym (walk .same p h .1) ∙ head-eq-of-cons-eq c in
-        split (eqb (tile KBWG v) t)
-        (λ x. rw (x, findIn) (found h (ap (tile KBWG) is ∙ eqb-true (tile KBWG v) t x) [] refl (λ u m. List·Memᴰ·not-nil m)))
-        (λ x. rw (x, findIn)
-        (let n = spelled-other v t (eqb-false (tile KBWG v) t x) in
-        split (isEnd KBWG v)
-        (λ y. rw y (absent (subst (NotIn t) (sym (words-end g (walk .steps) (walk .loopless) p h (ap (isEnd KBWG) is ∙ y) ∙ ap (spelled KBWG W) is)) n)))
-        (λ y. rw y
-        (let z = ap (isEnd KBWG) is ∙ y in
-        found-later p t v (words-on g (walk .steps) (walk .loopless) p h z ∙ ap (λ w. spelled KBWG W w ++ W (suc p)) is) n
-        (find l (suc p) t (tail-eq-of-cons-eq c) (walk .steps .runs p h z))))))
+  no-empty : (p : ℕ) → List·Memᴰ [] (W p) → ⊥
+  no-empty p m = all-mem (From 0) (W p) [] (nonempty g nodes counted walk up p) m
 
-    -- no later word of the run begins with the tile
-    next-tile : (q : ℕ) → q < length g → isEnd KBWG (node g q) ≡ false → tile KBWG (node g q) < tile KBWG (node g (suc q))
-    next-tile q h e =
-        let k = walk .steps .runs q h e in
-        let d : drop q g ≡ node g q ∷ node g (suc q) ∷ drop (suc (suc q)) g = drop-cons g q 0 h ∙ ap (node g q ∷_) (drop-cons g (suc q) 0 k) in
-        ascends-head KBWG (node g q) (node g (suc q)) (drop (suc (suc q)) g) (subst (λ l. ascends KBWG l ≡ true) d (ascends-drop KBWG q g up)) e
+  at-zero : (base : ℕ) (u : ℕ) (us : Word) → indexFrom limit nodes counted 0 base (u ∷ us) ≡ nothing
+  unfolding indexFrom passed
+  at-zero base u [] = refl
+  at-zero base u (x ∷ xs) = refl
 
-    only-here : (q : ℕ) → q < length g → (u : Word) → List·Memᴰ (tile KBWG (node g q) ∷ u) (W q) → List·Memᴰ (tile KBWG (node g q) ∷ u) (spelled KBWG W (node g q))
-    only-here q h u m =
-        split (isEnd KBWG (node g q))
-        (λ e. rw (words-end g (walk .steps) (walk .loopless) q h e) at m)
-        (λ e. ⊎-elim (λ i. i)
-        (λ i.
-        let k = walk .steps .runs q h e in
-        let lt = next-tile q h e in
-        let first : getD (drop (suc q) g) 0 0 ≡ node g (suc q) = ap (λ l. getD l 0 0) (drop-cons g (suc q) 0 k) in
-        let a = heads KBWG W nonempty sorted (drop (suc q) g) (suc (tile KBWG (node g q))) (ascends-drop KBWG (suc q) g up) (subst (λ w. suc (tile KBWG (node g q)) ≤ tile KBWG w) (sym first) lt) in
-        let b = all-mem (From (suc (tile KBWG (node g q)))) (inOrder (spelled KBWG W) (run KBWG (drop (suc q) g))) _ a (rw (words-run g (walk .steps) (walk .loopless) (suc q) k) at i) in
-        absurd (omega arith))
-        (List·Memᴰ·append-cases (spelled KBWG W (node g q)) (rw (words-on g (walk .steps) (walk .loopless) q h e) at m)))
+  abbrev lastAnswer : ℕ → ℕ → Try Answer
+  lastAnswer before v = elim (accepts KBWG v && not (eqb before limit)) [ true ↦ on (gives (before ∷ [])) | false ↦ on nothing ]
 
-    module _ (limit : ℕ) where
-      -- one tile
-      data PassedIs (p base t : ℕ) : Try (ℕ × ℕ) → Type 0 where
-        reaches : {q : ℕ} {before : ℕ} → q < length g → tile KBWG (node g q) ≡ t → (front : List Word) → W p ≡ front ++ W q → NotIn t front
-            → before ≡ base + length front → PassedIs p base t (on (before, node g q))
-        ends-none : NotIn t (W p) → PassedIs p base t (stop nothing)
+  last-found : (p base q : ℕ) (front : List Word) → q < length g → W p ≡ front ++ W q → NotIn (tile KBWG (node g q)) front → base + count KBWG g p ≤ limit
+      → (before : ℕ) → before ≡ base + length front → IndexIs p base (tile KBWG (node g q) ∷ []) (answer (lastAnswer before (node g q)))
+  last-found p base q front l f n k before b =
+      split (accepts KBWG (node g q))
+      (λ a.
+      let o = own-word g (node g q) a in
+      let w = at-found p q front 0 l f (o .0) in
+      let lt = w .0 in
+      let ne : eqb before limit ≡ false = ne-eqb before limit (λ x. omega arith) in
+      let nb : before ≡ base + (length front + 0) = omega arith in
+      rw (a, ne, lastAnswer) (number lt (w .1 ∙ o .1) nb))
+      (λ a. rw (a, lastAnswer) (no-word (λ m. alone g nodes counted walk up (node g q) a (in-found g nodes counted walk up p q front [] l f n m))))
 
-      pass-found : (p base t : ℕ) → base + count KBWG g p ≤ limit → (r : Try ℕ) → FoundIs p t r
-          → PassedIs p base t (r >>= λ q. lent counted q >>= λ c. difference (base + count KBWG g p) c >>= λ before. on (before, node nodes q))
-      pass-found p base t k r (found {q} l e front f n) =
-          let c = ap length f ∙ length-append front (W q) in
-          rw (walk .count-lent q l) (rw (difference-on (base + count KBWG g p) (count KBWG g q) (omega arith)) (let b : base + count KBWG g p - count KBWG g q ≡ base + length front = omega arith in rw (walk .same q l .1) (reaches l e front f n b)))
-      pass-found p base t k r (absent n) = ends-none n
+  last-tile : (p base t : ℕ) → base + count KBWG g p ≤ limit → (r : Try (ℕ × ℕ)) → PassedIs p base t r
+      → IndexIs p base (t ∷ []) (answer (r >>= λ (before, v). lastAnswer before v))
+  last-tile p base t k r (reaches {q} {before} l e front f n b) =
+      subst (λ x. IndexIs p base (x ∷ []) (answer (lastAnswer before (node g q)))) e
+      (last-found p base q front l f (subst (λ x. NotIn x front) (sym e) n) k before b)
+  last-tile p base t k r (ends-none n) = no-word (n [])
 
-      pass : (p base t : ℕ) → p < length g → p ≢ 0 → base + count KBWG g p ≤ limit → PassedIs p base t (passed limit nodes counted p base t)
-      unfolding passed
-      pass p base t h n k =
-          rw (ne-eqb p 0 n) (rw (lent-on nodes p (walk .same p h .0)) (rw (walk .count-lent p h) (rw (sum-on limit base (count KBWG g p) k)
-          (pass-found p base t k (findIn (drop p nodes) p t) (find (drop p nodes) p t refl h)))))
+  -- one tile more, by what the words of the arc come to
+  more-arc : (p base q : ℕ) (front : List Word) (u : ℕ) (us : Word) → q < length g → W p ≡ front ++ W q → NotIn (tile KBWG (node g q)) front
+      → arc KBWG (node g q) ≢ 0 → (next : ℕ) → next ≡ base + length front + acceptsBit KBWG (node g q)
+      → {x : Answer} → IndexIs (arc KBWG (node g q)) next (u ∷ us) x → IndexIs p base (tile KBWG (node g q) ∷ u ∷ us) x
+  more-arc p base q front u us l f n nz next b (number {i} {n = m} lt w c) =
+      let a = arc-at (node g q) i nz lt in
+      let y = at-found p q front (acceptsBit KBWG (node g q) + i) l f (a .0) in
+      let z : m ≡ base + (length front + (acceptsBit KBWG (node g q) + i)) = omega arith in
+      number (y .0) (y .1 ∙ a .1 ∙ ap (tile KBWG (node g q) ∷_) w) z
+  more-arc p base q front u us l f n nz next b (no-word h) =
+      no-word (λ m. h (longer g nodes counted walk up (node g q) u us (in-found g nodes counted walk up p q front (u ∷ us) l f n m) .1))
 
-      pub data IndexIs (p base : ℕ) (w : Word) : Answer → Type 0 where
-        number : {i n : ℕ} → i < count KBWG g p → wordAt p i ≡ w → n ≡ base + i → IndexIs p base w (gives (n ∷ []))
-        no-word : (List·Memᴰ w (W p) → ⊥) → IndexIs p base w nothing
+  more-found : (p base q : ℕ) (front : List Word) (u : ℕ) (us : Word) → q < length g → W p ≡ front ++ W q → NotIn (tile KBWG (node g q)) front
+      → base + count KBWG g p ≤ limit → (before : ℕ) → before ≡ base + length front
+      → ((p′ base′ : ℕ) → p′ < length g → p′ ≢ 0 → base′ + count KBWG g p′ ≤ limit → IndexIs p′ base′ (u ∷ us) (indexFrom limit nodes counted p′ base′ (u ∷ us)))
+      → IndexIs p base (tile KBWG (node g q) ∷ u ∷ us)
+      (answer (sum limit before (acceptsBit KBWG (node g q)) >>= λ next. on (indexFrom limit nodes counted (arc KBWG (node g q)) next (u ∷ us))))
+  more-found p base q front u us l f n k before b ih =
+      let s = size-fits g (walk .steps) (walk .loopless) q l in
+      let o = own-fits g (node g q) in
+      let c = ap length f ∙ length-append front (W q) in
+      let v = node g q in
+      let fits : before + acceptsBit KBWG v ≤ limit = omega arith in
+      rw (sum-on limit before (acceptsBit KBWG v) fits)
+      (split (eqb (arc KBWG v) 0)
+      (λ z. rw (eqb-true (arc KBWG v) 0 z) (rw (at-zero _ u us)
+      (no-word (λ m. longer g nodes counted walk up v u us (in-found g nodes counted walk up p q front (u ∷ us) l f n m) .0 (eqb-true (arc KBWG v) 0 z)))))
+      (λ z.
+      let nz = eqb-false (arc KBWG v) 0 z in
+      let af = arc-fits v nz in
+      more-arc p base q front u us l f n nz (before + acceptsBit KBWG v) (omega arith)
+      (ih (arc KBWG v) (before + acceptsBit KBWG v) (walk .steps .arcs q l) nz (omega arith))))
 
-      -- the words from p that begin with the tile are those of the node found
-      in-found : (p q : ℕ) (front : List Word) (u : Word) → q < length g → W p ≡ front ++ W q → NotIn (tile KBWG (node g q)) front
-          → List·Memᴰ (tile KBWG (node g q) ∷ u) (W p) → List·Memᴰ (tile KBWG (node g q) ∷ u) (spelled KBWG W (node g q))
-      in-found p q front u l f n m = ⊎-elim (λ i. absurd (n u i)) (λ i. only-here q l u i) (List·Memᴰ·append-cases front (rw f at m))
+  more-tile : (p base t u : ℕ) (us : Word) → base + count KBWG g p ≤ limit
+      → ((p′ base′ : ℕ) → p′ < length g → p′ ≢ 0 → base′ + count KBWG g p′ ≤ limit → IndexIs p′ base′ (u ∷ us) (indexFrom limit nodes counted p′ base′ (u ∷ us)))
+      → (r : Try (ℕ × ℕ)) → PassedIs p base t r
+      → IndexIs p base (t ∷ u ∷ us)
+      (answer (r >>= λ (before, v). sum limit before (acceptsBit KBWG v) >>= λ next. on (indexFrom limit nodes counted (arc KBWG v) next (u ∷ us))))
+  more-tile p base t u us k ih r (reaches {q} {before} l e front f n b) =
+      subst (λ x. IndexIs p base (x ∷ u ∷ us) (answer (sum limit before (acceptsBit KBWG (node g q)) >>= λ next. on (indexFrom limit nodes counted (arc KBWG (node g q)) next (u ∷ us))))) e
+      (more-found p base q front u us l f (subst (λ x. NotIn x front) (sym e) n) k before b ih)
+  more-tile p base t u us k ih r (ends-none n) = no-word (n (u ∷ us))
 
-      -- a word of the node found
-      at-found : (p q : ℕ) (front : List Word) (j : ℕ) → q < length g → W p ≡ front ++ W q → j < size (node g q)
-          → (length front + j < count KBWG g p) × (wordAt p (length front + j) ≡ getD (spelled KBWG W (node g q)) j [])
-      at-found p q front j l f k =
-          let c = ap length f ∙ length-append front (W q) in
-          let w = first-word g (walk .steps) (walk .loopless) q j l k in
-          let lt = w .0 in
-          (omega arith, ap (λ x. getD x (length front + j) []) f ∙ getD-append-add front (W q) j [] ∙ w .1)
-
-      map-tail : (t : ℕ) (ws : List Word) (w : Word) → List·Memᴰ w (map (t ∷_) ws) → (u : Word) × List·Memᴰ u ws × (w ≡ t ∷ u)
-      map-tail t [] w m = absurd (List·Memᴰ·not-nil m)
-      map-tail t (x ∷ ws) w m =
-          ⊎-elim (λ i. (x, List·Memᴰ·head refl, i)) (λ k. let r = map-tail t ws w k in (r .0, List·Memᴰ·tail (r .1), r .2)) (List·Memᴰ·cases-cons m)
-
-      -- "the tile alone" is spelled only by a node that accepts
-      alone : (v : ℕ) → accepts KBWG v ≡ false → List·Memᴰ (tile KBWG v ∷ []) (spelled KBWG W v) → ⊥
-      alone v a m =
-          split (eqb (arc KBWG v) 0)
-          (λ z. List·Memᴰ·not-nil (rw (no-leaf g v a z) at m))
-          (λ z.
-          let r = map-tail (tile KBWG v) (W (arc KBWG v)) (tile KBWG v ∷ []) (rw (no-arc g v a z) at m) in
-          let e = all-mem (From 0) (W (arc KBWG v)) (r .0) (nonempty (arc KBWG v)) (r .1) in
-          subst (From 0) (sym (tail-eq-of-cons-eq (r .2))) e)
-
-      under : (v : ℕ) (w : Word) → List·Memᴰ (tile KBWG v ∷ w) (map (tile KBWG v ∷_) (W (arc KBWG v))) → List·Memᴰ w (W (arc KBWG v))
-      under v w m = let r = map-tail (tile KBWG v) (W (arc KBWG v)) (tile KBWG v ∷ w) m in Memᴰ·cast (tail-eq-of-cons-eq (r .2)) (r .1)
-
-      -- a longer word is spelled by the arc
-      longer : (v : ℕ) (u : ℕ) (us : Word) → List·Memᴰ (tile KBWG v ∷ u ∷ us) (spelled KBWG W v) → (arc KBWG v ≢ 0) × List·Memᴰ (u ∷ us) (W (arc KBWG v))
-      longer v u us m =
-          split (accepts KBWG v)
-          (λ a. split (eqb (arc KBWG v) 0)
-          (λ z. absurd (cons≢nil (tail-eq-of-cons-eq (List·Memᴰ·eq-of-singleton (rw (own-leaf g v a z) at m)))))
-          (λ z. (
-            eqb-false (arc KBWG v) 0 z,
-            ⊎-elim
-                (λ i. absurd (cons≢nil (tail-eq-of-cons-eq i)))
-                (λ k. under v (u ∷ us) k)
-                (List·Memᴰ·cases-cons (rw (own-arc g v a z) at m)),
-          )))
-          (λ a. split (eqb (arc KBWG v) 0)
-          (λ z. absurd (List·Memᴰ·not-nil (rw (no-leaf g v a z) at m)))
-          (λ z. (eqb-false (arc KBWG v) 0 z, under v (u ∷ us) (rw (no-arc g v a z) at m))))
-
-      -- the number of a word of the arc among those of the node
-      arc-at : (v : ℕ) (j : ℕ) → arc KBWG v ≢ 0 → j < count KBWG g (arc KBWG v)
-          → (acceptsBit KBWG v + j < size v) × (getD (spelled KBWG W v) (acceptsBit KBWG v + j) [] ≡ tile KBWG v ∷ wordAt (arc KBWG v) j)
-      arc-at v j n k =
-          let z = ne-eqb (arc KBWG v) 0 n in
-          let l = length-map (W (arc KBWG v)) (tile KBWG v ∷_) in
-          split (accepts KBWG v)
-          (λ a.
-          let e : acceptsBit KBWG v + j ≡ suc j = let o = accepts-one v a in omega arith in
-          rw (own-arc g v a z, e) (omega arith, getD-map-in (tile KBWG v ∷_) (W (arc KBWG v)) j [] [] k))
-          (λ a.
-          let e : acceptsBit KBWG v + j ≡ j = let o = accepts-zero v a in omega arith in
-          rw (no-arc g v a z, e) (omega arith, getD-map-in (tile KBWG v ∷_) (W (arc KBWG v)) j [] [] k))
-
-      -- room for the words of the arc
-      arc-fits : (v : ℕ) → arc KBWG v ≢ 0 → acceptsBit KBWG v + count KBWG g (arc KBWG v) ≤ size v
-      arc-fits v n =
-          let z = ne-eqb (arc KBWG v) 0 n in
-          let l = length-map (W (arc KBWG v)) (tile KBWG v ∷_) in
-          split (accepts KBWG v)
-          (λ a. let o = accepts-one v a in rw (own-arc g v a z) (omega arith))
-          (λ a. let o = accepts-zero v a in rw (no-arc g v a z) (omega arith))
-
-      no-empty : (p : ℕ) → List·Memᴰ [] (W p) → ⊥
-      no-empty p m = all-mem (From 0) (W p) [] (nonempty p) m
-
-      at-zero : (base : ℕ) (u : ℕ) (us : Word) → indexFrom limit nodes counted 0 base (u ∷ us) ≡ nothing
-      unfolding indexFrom passed
-      at-zero base u [] = refl
-      at-zero base u (x ∷ xs) = refl
-
-      abbrev lastAnswer : ℕ → ℕ → Try Answer
-      lastAnswer before v = elim (accepts KBWG v && not (eqb before limit)) [ true ↦ on (gives (before ∷ [])) | false ↦ on nothing ]
-
-      last-found : (p base q : ℕ) (front : List Word) → q < length g → W p ≡ front ++ W q → NotIn (tile KBWG (node g q)) front → base + count KBWG g p ≤ limit
-          → (before : ℕ) → before ≡ base + length front → IndexIs p base (tile KBWG (node g q) ∷ []) (answer (lastAnswer before (node g q)))
-      last-found p base q front l f n k before b =
-          split (accepts KBWG (node g q))
-          (λ a.
-          let o = own-word g (node g q) a in
-          let w = at-found p q front 0 l f (o .0) in
-          let lt = w .0 in
-          let ne : eqb before limit ≡ false = ne-eqb before limit (λ x. omega arith) in
-          let nb : before ≡ base + (length front + 0) = omega arith in
-          rw (a, ne, lastAnswer) (number lt (w .1 ∙ o .1) nb))
-          (λ a. rw (a, lastAnswer) (no-word (λ m. alone (node g q) a (in-found p q front [] l f n m))))
-
-      last-tile : (p base t : ℕ) → base + count KBWG g p ≤ limit → (r : Try (ℕ × ℕ)) → PassedIs p base t r
-          → IndexIs p base (t ∷ []) (answer (r >>= λ (before, v). lastAnswer before v))
-      last-tile p base t k r (reaches {q} {before} l e front f n b) =
-          subst (λ x. IndexIs p base (x ∷ []) (answer (lastAnswer before (node g q)))) e
-          (last-found p base q front l f (subst (λ x. NotIn x front) (sym e) n) k before b)
-      last-tile p base t k r (ends-none n) = no-word (n [])
-
-      -- one tile more, by what the words of the arc come to
-      more-arc : (p base q : ℕ) (front : List Word) (u : ℕ) (us : Word) → q < length g → W p ≡ front ++ W q → NotIn (tile KBWG (node g q)) front
-          → arc KBWG (node g q) ≢ 0 → (next : ℕ) → next ≡ base + length front + acceptsBit KBWG (node g q)
-          → {x : Answer} → IndexIs (arc KBWG (node g q)) next (u ∷ us) x → IndexIs p base (tile KBWG (node g q) ∷ u ∷ us) x
-      more-arc p base q front u us l f n nz next b (number {i} {n = m} lt w c) =
-          let a = arc-at (node g q) i nz lt in
-          let y = at-found p q front (acceptsBit KBWG (node g q) + i) l f (a .0) in
-          let z : m ≡ base + (length front + (acceptsBit KBWG (node g q) + i)) = omega arith in
-          number (y .0) (y .1 ∙ a .1 ∙ ap (tile KBWG (node g q) ∷_) w) z
-      more-arc p base q front u us l f n nz next b (no-word h) =
-          no-word (λ m. h (longer (node g q) u us (in-found p q front (u ∷ us) l f n m) .1))
-
-      more-found : (p base q : ℕ) (front : List Word) (u : ℕ) (us : Word) → q < length g → W p ≡ front ++ W q → NotIn (tile KBWG (node g q)) front
-          → base + count KBWG g p ≤ limit → (before : ℕ) → before ≡ base + length front
-          → ((p′ base′ : ℕ) → p′ < length g → p′ ≢ 0 → base′ + count KBWG g p′ ≤ limit → IndexIs p′ base′ (u ∷ us) (indexFrom limit nodes counted p′ base′ (u ∷ us)))
-          → IndexIs p base (tile KBWG (node g q) ∷ u ∷ us)
-          (answer (sum limit before (acceptsBit KBWG (node g q)) >>= λ next. on (indexFrom limit nodes counted (arc KBWG (node g q)) next (u ∷ us))))
-      more-found p base q front u us l f n k before b ih =
-          let s = size-fits g (walk .steps) (walk .loopless) q l in
-          let o = own-fits g (node g q) in
-          let c = ap length f ∙ length-append front (W q) in
-          let v = node g q in
-          let fits : before + acceptsBit KBWG v ≤ limit = omega arith in
-          rw (sum-on limit before (acceptsBit KBWG v) fits)
-          (split (eqb (arc KBWG v) 0)
-          (λ z. rw (eqb-true (arc KBWG v) 0 z) (rw (at-zero _ u us)
-          (no-word (λ m. longer v u us (in-found p q front (u ∷ us) l f n m) .0 (eqb-true (arc KBWG v) 0 z)))))
-          (λ z.
-          let nz = eqb-false (arc KBWG v) 0 z in
-          let af = arc-fits v nz in
-          more-arc p base q front u us l f n nz (before + acceptsBit KBWG v) (omega arith)
-          (ih (arc KBWG v) (before + acceptsBit KBWG v) (walk .steps .arcs q l) nz (omega arith))))
-
-      more-tile : (p base t u : ℕ) (us : Word) → base + count KBWG g p ≤ limit
-          → ((p′ base′ : ℕ) → p′ < length g → p′ ≢ 0 → base′ + count KBWG g p′ ≤ limit → IndexIs p′ base′ (u ∷ us) (indexFrom limit nodes counted p′ base′ (u ∷ us)))
-          → (r : Try (ℕ × ℕ)) → PassedIs p base t r
-          → IndexIs p base (t ∷ u ∷ us)
-          (answer (r >>= λ (before, v). sum limit before (acceptsBit KBWG v) >>= λ next. on (indexFrom limit nodes counted (arc KBWG v) next (u ∷ us))))
-      more-tile p base t u us k ih r (reaches {q} {before} l e front f n b) =
-          subst (λ x. IndexIs p base (x ∷ u ∷ us) (answer (sum limit before (acceptsBit KBWG (node g q)) >>= λ next. on (indexFrom limit nodes counted (arc KBWG (node g q)) next (u ∷ us))))) e
-          (more-found p base q front u us l f (subst (λ x. NotIn x front) (sym e) n) k before b ih)
-      more-tile p base t u us k ih r (ends-none n) = no-word (n (u ∷ us))
-
-      pub index : (w : Word) (p base : ℕ) → p < length g → p ≢ 0 → base + count KBWG g p ≤ limit → IndexIs p base w (indexFrom limit nodes counted p base w)
-      unfolding indexFrom
-      index [] p base h n k = no-word (no-empty p)
-      index (t ∷ []) p base h n k = last-tile p base t k (passed limit nodes counted p base t) (pass p base t h n k)
-      index (t ∷ u ∷ us) p base h n k =
-          more-tile p base t u us k (λ p′ base′ h′ n′ k′. index (u ∷ us) p′ base′ h′ n′ k′) (passed limit nodes counted p base t) (pass p base t h n k)
+  pub index : (w : Word) (p base : ℕ) → p < length g → p ≢ 0 → base + count KBWG g p ≤ limit → IndexIs p base w (indexFrom limit nodes counted p base w)
+  unfolding indexFrom
+  index [] p base h n k = no-word (no-empty p)
+  index (t ∷ []) p base h n k = last-tile p base t k (passed limit nodes counted p base t) (pass p base t h n k)
+  index (t ∷ u ∷ us) p base h n k =
+      more-tile p base t u us k (λ p′ base′ h′ n′ k′. index (u ∷ us) p′ base′ h′ n′ k′) (passed limit nodes counted p base t) (pass p base t h n k)
