@@ -8,3 +8,5 @@ pub mod Counting
 pub mod WordsAscend
 pub mod WordsEquation
 pub mod UpwardLaws
+pub mod LoopLaws
+pub mod CountLaws

@@ -51,7 +51,7 @@ module _ (y : Places) where
       (λ v m. spelled-ext (λ q. wordsWithin y (suc k) g q) (λ q. wordsWithin y k g q) v (λ n. stable g k (arc y v) (s v m n)))
 
   -- ---- no loop: no path is long
-  trans : {g : Graph} {p q r : ℕ} → Reach y g p q → Reach y g q r → Reach y g p r
+  pub trans : {g : Graph} {p q r : ℕ} → Reach y g p q → Reach y g q r → Reach y g p r
   trans (once s) t = then s t
   trans (then s u) t = then s (trans u t)
 
@@ -96,7 +96,7 @@ module _ (y : Places) where
         ⊎-elim (λ i. subst (λ k. Reach y g k (arc y v)) i s) (λ u. trans u s) (r .from)
 
   module _ (g : Graph) where
-    clear-below : (p q : ℕ) → Clear y g p → Reach y g p q → Clear y g q
+    pub clear-below : (p q : ℕ) → Clear y g p → Reach y g p q → Clear y g q
     clear-below p q c r = record { itself = c .below q r; below = λ z s. c .below z (trans r s) }
 
     inside : (xs : List ℕ) (p : ℕ) → Clear y g p → ((x : ℕ) → x < length g → List·Memᴰ x xs ⊎ Reach y g x p) → p < length g → List·Memᴰ p xs

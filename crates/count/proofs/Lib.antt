@@ -1,0 +1,8 @@
+-- What the proofs of several functions use.
+mod Lists
+mod Rows
+mod Steps
+mod Tally
+mod WalkLaws
+mod Roots
+mod Results

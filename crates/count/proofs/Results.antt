@@ -1,0 +1,78 @@
+-- The walk's beginning, and counting's answer from the walk's.
+use mathlib.Core.Path.{_≡_, refl, sym, ap, _∙_, subst}
+use mathlib.Core.Logic.{inl}
+use mathlib.Core.Bool.{true, false}
+use mathlib.Core.List.{List, [], _∷_, _++_}
+use mathlib.Core.Option.{none, some}
+use Prim.Native.Nat.{ℕ, _*_, _≤_, _<_}
+use native.Mathlib.Nat.{not-suc-le-zero}
+use native.Mathlib.Omega.{arith}
+use lib.ListN.{length, getD, drop}
+use Rattle.laws.specs.Cases.{some≢none}
+use Rattle.node.specs.Answers.{Answer, gives, refused, firstOf}
+use Rattle.node.specs.Nodes.{KBWG}
+use Rattle.graph.specs.Runs.{Graph}
+use Rattle.graph.specs.Words.{count}
+use Rattle.graph.specs.LoopLaws.{reach-inside}
+use Rattle.graph.specs.CountLaws.{begins-with-table}
+use Rattle.graph.specs.Counting.{table, Loopless, countRow, Counted, unfit, loop, many, all}
+use Rattle.count.specs.Work.{Kept, WorkKept}
+use Rattle.count.specs.Walk.{mark, isMet, isDone, Walk, AllDone, LoopFound, ReachesIs, zeroed}
+use Rattle.count.proofs.Lists.{kept-all, zeroed-of-kept}
+use Rattle.count.proofs.Rows.{counts-room}
+use Rattle.count.proofs.Tally.{tally-zero}
+
+-- a refusal before the walk leaves both lists as they were
+pub unfit-answer : (limit : ℕ) (g : Graph) (c w : List ℕ) {r : Answer} → firstOf (countRow g (length c) (length w)) ≡ some r
+    → Counted limit g c (length w) r c × WorkKept g (length c) w w
+unfit-answer limit g c w e = (unfit e, record { past = kept-all (2 * length g) w; untouched = λ _. refl })
+
+pub walked-work : (g : Graph) (counts : ℕ) (w w′ : List ℕ) → firstOf (countRow g counts (length w)) ≡ none → Kept (2 * length g) w w′
+    → WorkKept g counts w w′
+walked-work g counts w w′ fit k = record { past = k; untouched = λ e. some≢none (sym e ∙ fit) }
+
+-- the walk begins with all marks 0
+pub walk-start : (limit : ℕ) (g : Graph) (c w : List ℕ) → 2 * length g ≤ length w → length g ≤ length c
+    → ((k : ℕ) → k < length g → mark w k ≡ 0) → Walk limit g c w 0
+walk-start limit g c w r s z =
+    let m = tally-zero isMet w (length g) refl z in
+    let d = tally-zero isDone w (length g) refl z in
+    record {
+      room = r;
+      room-counts = s;
+      entries = λ i h. absurd (not-suc-le-zero h);
+      path = λ i h. absurd (not-suc-le-zero h);
+      marks = λ k h. inl (z k h);
+      tallied = omega arith;
+    }
+
+module _ (limit : ℕ) (g : Graph) (c : List ℕ) (work : ℕ) (w c′ w′ : List ℕ) (fit : firstOf (countRow g (length c) work) ≡ none) where
+  pub loop-answer : (q : ℕ) → LoopFound g c w c′ w′ q → Counted limit g c work (refused 12 (q ∷ [])) (zeroed (length g) c′)
+  loop-answer q L = rw (zeroed-of-kept (length g) c c′ (L .counts-kept)) (loop fit (L .loops))
+
+  module _ (A : AllDone limit g c w c′ w′) where
+    loopless : Loopless g
+    loopless q l = A .clear q (reach-inside KBWG l) .itself l
+
+    pub many-answer : ReachesIs limit c′ (length g) true → Counted limit g c work (refused 13 []) (zeroed (length g) c′)
+    many-answer m =
+        let e = A .counted (m .0) (m .1) in
+        let h = m .2 in
+        rw (zeroed-of-kept (length g) c c′ (A .counts-kept)) (many fit loopless (m .1) (omega arith))
+
+    module _ (small : ReachesIs limit c′ (length g) false) where
+      few : (p : ℕ) → p < length g → count KBWG g p < limit
+      few p h = let e = A .counted p h in let s = small p h in omega arith
+
+      exact : (p : ℕ) → p < length g → getD c′ p 0 ≡ count KBWG g p
+      exact p h = let e = A .counted p h in let s = few p h in omega arith
+
+      after : c′ ≡ table (length g) (count KBWG g) ++ drop (length g) c
+      after =
+          let r = counts-room g (length c) work fit in
+          let k = A .counts-kept .size in
+          begins-with-table (length g) (count KBWG g) c′ (omega arith) exact
+          ∙ ap (table (length g) (count KBWG g) ++_) (A .counts-kept .rest)
+
+      pub all-answer : Counted limit g c work (gives []) c′
+      all-answer = subst (λ l. Counted limit g c work (gives []) l) (sym after) (all fit loopless few)

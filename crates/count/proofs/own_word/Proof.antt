@@ -1,0 +1,21 @@
+-- `own_word` meets its contract, by its two cases.
+use mathlib.Core.Path.{sym, ap, _∙_}
+use Rattle.node.specs.Nodes.{flag}
+use borrow.Author.Needs.{needs}
+use Rattle.count.proofs.own_word.Statement.{statement}
+use Rattle.count.proofs.own_word.Tie as tie
+use Rattle.count.proofs.own_word.Reads as reads
+use Rattle.count.proofs.own_word.Lts as lts
+use Rattle.node.proofs.Node24.accepts.Reads as accepts-reads
+
+accepts-requires : tie.Need-accepts-requires
+accepts-requires c κs = search needs
+
+returns : tie.Need-returns
+returns c = sym (ap flag (sym (c .before .accepts .ensures) ∙ c .if1 .taken))
+
+returns-2 : tie.Need-returns-2
+returns-2 c = sym (ap flag (sym (c .before .accepts .ensures) ∙ c .if1 .left))
+
+pub own-word-spec : {M : Type 1} → statement M
+own-word-spec = tie.close (tie.spec accepts-requires returns returns-2)
