@@ -39,20 +39,20 @@ abbrev pub Held : Bytes → List ℕ → ℕ → List ℕ → Type 0
 Held (Bytes.Are count) case at bytes = (at + 1 + count ≤ length case) × (count ≤ length bytes)
 Held Bytes.Malformed case at bytes = Unit {0}
 
--- the most that a number may be: its limit, and past the limits a byte's
-abbrev pub limitAt : List ℕ → ℕ → ℕ
-limitAt limits at = pick (ltb at (length limits)) (getD limits at 0) 255
+-- the most that the number at a place may be: its limit, and past the limits the same for all
+abbrev pub limitAt : List ℕ → ℕ → ℕ → ℕ
+limitAt limits at most = pick (ltb at (length limits)) (getD limits at 0) most
 
--- from the place on a case has a number for each limit, none above it, then so many bytes, and nothing more
-pub record Shaped (case : List ℕ) (from : ℕ) (limits : List ℕ) (bytes : ℕ) : Type 0 where
-  pub sized : length case ≡ from + (length limits + bytes)
-  pub within : (k : ℕ) → k < length case - from → getD case (from + k) 0 ≤ limitAt limits k
+-- from the place on a case has a number for each limit, none above it, then so many more, none above the most, and nothing else
+pub record Shaped (case : List ℕ) (from : ℕ) (limits : List ℕ) (more most : ℕ) : Type 0 where
+  pub sized : length case ≡ from + (length limits + more)
+  pub within : (k : ℕ) → k < length case - from → getD case (from + k) 0 ≤ limitAt limits k most
 
 -- the same after the number of an answer's kind
-pub record Answered (case : List ℕ) (at kind : ℕ) (limits : List ℕ) (bytes : ℕ) : Type 0 where
+pub record Answered (case : List ℕ) (at kind : ℕ) (limits : List ℕ) (more most : ℕ) : Type 0 where
   pub there : at < length case
   pub of-kind : getD case at 0 ≡ kind
-  pub rest : Shaped case (at + 1) limits bytes
+  pub rest : Shaped case (at + 1) limits more most
 
 pub record Decides (answer : Bool) (fact : Type 0) : Type 0 where
   pub sound : answer ≡ true → fact

@@ -13,6 +13,17 @@ pub const BYTE: u64 = 255;
 
 pub const FLAG: u64 = 1;
 
+// The kinds of a stored answer: done, or the number of a refusal.
+pub const DONE: u64 = 0;
+
+pub const NOT_WHOLE_NODES: u64 = 1;
+
+pub const DOES_NOT_FIT: u64 = 6;
+
+pub const ARC_PAST_END: u64 = 8;
+
+pub const NO_END: u64 = 9;
+
 pub enum Verdict {
     Same,
     Different,
@@ -45,7 +56,7 @@ pub enum Bytes {
     Malformed,
 }
 
-pub fn word_at(case: &[u64], at: usize) -> Word
+pub(crate) fn word_at(case: &[u64], at: usize) -> Word
     ensures { λ r. ⌜ r ≡ wordAt (now (case .entry)) at ⌝ }
 {
     if case.len() <= at {
@@ -59,7 +70,7 @@ pub fn word_at(case: &[u64], at: usize) -> Word
     }
 }
 
-pub fn byte_at(case: &[u64], at: usize) -> Byte
+pub(crate) fn byte_at(case: &[u64], at: usize) -> Byte
     ensures { λ r. ⌜ r ≡ byteAt (now (case .entry)) at ⌝ }
 {
     if case.len() <= at {
@@ -73,7 +84,7 @@ pub fn byte_at(case: &[u64], at: usize) -> Byte
     }
 }
 
-pub fn flag_at(case: &[u64], at: usize) -> Flag
+pub(crate) fn flag_at(case: &[u64], at: usize) -> Flag
     ensures { λ r. ⌜ r ≡ flagAt (now (case .entry)) at ⌝ }
 {
     if case.len() <= at {
@@ -86,7 +97,7 @@ pub fn flag_at(case: &[u64], at: usize) -> Flag
     }
 }
 
-pub fn layout_at(case: &[u64], at: usize) -> LayoutInput {
+pub(crate) fn layout_at(case: &[u64], at: usize) -> LayoutInput {
     match flag_at(case, at) {
         Flag::Is(is_kbwg) => {
             if is_kbwg {
@@ -100,7 +111,7 @@ pub fn layout_at(case: &[u64], at: usize) -> LayoutInput {
 }
 
 // Copies the list of bytes whose length stands at a place, and answers how many there are.
-pub fn bytes_at(case: &[u64], at: usize, bytes: &mut [u8]) -> Bytes
+pub(crate) fn bytes_at(case: &[u64], at: usize, bytes: &mut [u8]) -> Bytes
     ensures { λ r. ⌜ Held r (now (case .entry)) at (now (bytes .exit)) ⌝ }
 {
     if case.len() <= at {
@@ -126,10 +137,10 @@ pub fn bytes_at(case: &[u64], at: usize, bytes: &mut [u8]) -> Bytes
     Bytes::Are(count)
 }
 
-// Whether what stands from a place on is a number for each limit, none above its limit, and then
-// so many bytes, and nothing more.
-pub fn rest_is(case: &[u64], from: usize, limits: &[u64], bytes: usize) -> bool
-    ensures { λ r. ⌜ Decides r (Shaped (now (case .entry)) from (now (limits .entry)) bytes) ⌝ }
+// Whether what stands from a place on is a number for each limit, none above its limit, then so
+// many more, none above the most, and nothing else.
+pub(crate) fn rest_is(case: &[u64], from: usize, limits: &[u64], more: usize, most: u64) -> bool
+    ensures { λ r. ⌜ Decides r (Shaped (now (case .entry)) from (now (limits .entry)) more most) ⌝ }
 {
     if case.len() < from {
         return false;
@@ -138,12 +149,12 @@ pub fn rest_is(case: &[u64], from: usize, limits: &[u64], bytes: usize) -> bool
     if rest < limits.len() {
         return false;
     }
-    if rest - limits.len() != bytes {
+    if rest - limits.len() != more {
         return false;
     }
     let mut i = 0;
     while i < rest {
-        if limit_at(limits, i) < case[from + i] {
+        if limit_at(limits, i, most) < case[from + i] {
             return false;
         }
         i += 1;
@@ -152,8 +163,15 @@ pub fn rest_is(case: &[u64], from: usize, limits: &[u64], bytes: usize) -> bool
 }
 
 // The same of an answer that starts with the number of its kind.
-pub fn answer_is(case: &[u64], at: usize, kind: u64, limits: &[u64], bytes: usize) -> bool
-    ensures { λ r. ⌜ Decides r (Answered (now (case .entry)) at kind (now (limits .entry)) bytes) ⌝ }
+pub(crate) fn answer_is(
+    case: &[u64],
+    at: usize,
+    kind: u64,
+    limits: &[u64],
+    more: usize,
+    most: u64,
+) -> bool
+    ensures { λ r. ⌜ Decides r (Answered (now (case .entry)) at kind (now (limits .entry)) more most) ⌝ }
 {
     if case.len() <= at {
         return false;
@@ -161,18 +179,18 @@ pub fn answer_is(case: &[u64], at: usize, kind: u64, limits: &[u64], bytes: usiz
     if case[at] != kind {
         return false;
     }
-    rest_is(case, at + 1, limits, bytes)
+    rest_is(case, at + 1, limits, more, most)
 }
 
-fn limit_at(limits: &[u64], at: usize) -> u64
-    ensures { λ r. ⌜ r ≡ limitAt (now (limits .entry)) at ⌝ }
+fn limit_at(limits: &[u64], at: usize, most: u64) -> u64
+    ensures { λ r. ⌜ r ≡ limitAt (now (limits .entry)) at most ⌝ }
 {
-    if at < limits.len() { limits[at] } else { BYTE }
+    if at < limits.len() { limits[at] } else { most }
 }
 
 // Puts a number at a place of an answer, and answers the place after it. An answer that is full
 // stays so, and is then longer than any line could store.
-pub fn put(number: u64, at: usize, answer: &mut [u64]) -> usize
+pub(crate) fn put(number: u64, at: usize, answer: &mut [u64]) -> usize
     ensures { λ r. ⌜ r ≤ length (now (answer .exit)) ⌝ }
 {
     if answer.len() <= at {
@@ -183,7 +201,7 @@ pub fn put(number: u64, at: usize, answer: &mut [u64]) -> usize
 }
 
 // The same for bytes, one after the other.
-pub fn put_bytes(bytes: &[u8], at: usize, answer: &mut [u64]) -> usize
+pub(crate) fn put_bytes(bytes: &[u8], at: usize, answer: &mut [u64]) -> usize
     requires { ⌜ at ≤ length (now answer) ⌝ }
     ensures { λ r. ⌜ r ≤ length (now (answer .exit)) ⌝ }
 {
@@ -196,13 +214,31 @@ pub fn put_bytes(bytes: &[u8], at: usize, answer: &mut [u64]) -> usize
     end
 }
 
+// The same for the words of nodes.
+pub(crate) fn put_words(words: &[u32], at: usize, answer: &mut [u64]) -> usize
+    requires { ⌜ at ≤ length (now answer) ⌝ }
+    ensures { λ r. ⌜ r ≤ length (now (answer .exit)) ⌝ }
+{
+    let mut end = at;
+    let mut i = 0;
+    while i < words.len() {
+        end = put(wide_word(words[i]), end, answer);
+        i += 1;
+    }
+    end
+}
+
 fn wide(byte: u8) -> u64 {
     byte as u64
 }
 
+fn wide_word(word: u32) -> u64 {
+    word as u64
+}
+
 // The one comparison: the stored answer, from its place to the case's end, is the answer number by
 // number, with none missing and none left over.
-pub fn compare(case: &[u64], from: usize, answer: &[u64]) -> Verdict
+pub(crate) fn compare(case: &[u64], from: usize, answer: &[u64]) -> Verdict
     ensures { λ r. ⌜ Agrees r (now (case .entry)) from (now (answer .entry)) ⌝ }
 {
     if case.len() < from {
@@ -219,4 +255,15 @@ pub fn compare(case: &[u64], from: usize, answer: &[u64]) -> Verdict
         i += 1;
     }
     Verdict::Same
+}
+
+// Whether two lists of numbers are the same.
+pub(crate) fn are_same(left: &[u64], right: &[u64]) -> bool
+    ensures { λ r. ⌜ Decides r (now (left .entry) ≡ now (right .entry)) ⌝ }
+{
+    match compare(left, 0, right) {
+        Verdict::Same => true,
+        Verdict::Different => false,
+        Verdict::Malformed => false,
+    }
 }

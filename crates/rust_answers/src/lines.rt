@@ -29,7 +29,7 @@ pub enum Ended {
     Malformed,
 }
 
-pub fn empty() -> Line {
+pub(crate) fn empty() -> Line {
     Line {
         count: 0,
         part: Part::Start,
@@ -37,7 +37,7 @@ pub fn empty() -> Line {
 }
 
 // The line with one byte more, which is not a line's end.
-pub fn add_byte(line: Line, byte: u8, numbers: &mut [u64]) -> Line {
+pub(crate) fn add_byte(line: Line, byte: u8, numbers: &mut [u64]) -> Line {
     let count = line.count;
     let part = line.part;
     if byte == b' ' {
@@ -52,7 +52,7 @@ pub fn add_byte(line: Line, byte: u8, numbers: &mut [u64]) -> Line {
 }
 
 // A line that ends in a blank, or holds nothing at all, is no case.
-pub fn end(line: Line, numbers: &mut [u64]) -> Ended
+pub(crate) fn end(line: Line, numbers: &mut [u64]) -> Ended
     ensures { λ r. ⌜ Fills r (now (numbers .exit)) ⌝ }
 {
     let count = line.count;
@@ -67,7 +67,7 @@ pub fn end(line: Line, numbers: &mut [u64]) -> Ended
 }
 
 // Whether no byte of the line has come yet.
-pub fn is_empty(line: Line) -> bool {
+pub(crate) fn is_empty(line: Line) -> bool {
     let part = line.part;
     if let Part::Start = part { true } else { false }
 }

@@ -2,6 +2,7 @@
 // says which lines our calls answer otherwise.
 mod cases;
 mod lines;
+mod loading;
 mod nodes;
 mod tally;
 
@@ -110,6 +111,7 @@ fn verdict(call: u64, case: &[u64]) -> Verdict {
         2 => nodes::pack(case),
         3 => nodes::repack_node(case),
         4 => nodes::repack_in_place(case),
+        5 => loading::load(case),
         _ => Verdict::Malformed,
     }
 }

@@ -2,6 +2,8 @@
 use crate::cases::BYTE;
 use crate::cases::Byte;
 use crate::cases::Bytes;
+use crate::cases::DOES_NOT_FIT;
+use crate::cases::DONE;
 use crate::cases::FLAG;
 use crate::cases::Flag;
 use crate::cases::LayoutInput;
@@ -27,11 +29,6 @@ use node::Packed;
 ghost use Prim.Native.Nat.{_≤_};
 ghost use lib.ListN.{length};
 
-// The kinds of a stored answer.
-const DONE: u64 = 0;
-
-const DOES_NOT_FIT: u64 = 6;
-
 struct Fields {
     tile: u8,
     accepts: bool,
@@ -50,14 +47,14 @@ enum LayoutsInput {
 }
 
 // LAYOUT WORD, then TILE ACCEPTS END ARC.
-pub fn node_fields(case: &[u64]) -> Verdict {
+pub(crate) fn node_fields(case: &[u64]) -> Verdict {
     let LayoutInput::Is(layout) = layout_at(case, 0) else {
         return Verdict::Malformed;
     };
     let Word::Is(word) = word_at(case, 1) else {
         return Verdict::Malformed;
     };
-    if !rest_is(case, 2, &[BYTE, FLAG, FLAG, WORD], 0) {
+    if !rest_is(case, 2, &[BYTE, FLAG, FLAG, WORD], 0, BYTE) {
         return Verdict::Malformed;
     }
     let fields = fields_of(layout, word);
@@ -71,7 +68,7 @@ pub fn node_fields(case: &[u64]) -> Verdict {
 }
 
 // LAYOUT TILE ACCEPTS END ARC, then 0 WORD, or 6.
-pub fn pack(case: &[u64]) -> Verdict {
+pub(crate) fn pack(case: &[u64]) -> Verdict {
     let LayoutInput::Is(layout) = layout_at(case, 0) else {
         return Verdict::Malformed;
     };
@@ -91,7 +88,7 @@ pub fn pack(case: &[u64]) -> Verdict {
 }
 
 // FROM TO WORD, then 0 WORD, or 6 TILE ARC.
-pub fn repack_node(case: &[u64]) -> Verdict {
+pub(crate) fn repack_node(case: &[u64]) -> Verdict {
     let LayoutsInput::Are(from, to) = from_and_to(case) else {
         return Verdict::Malformed;
     };
@@ -110,13 +107,12 @@ pub fn repack_node(case: &[u64]) -> Verdict {
 }
 
 // FROM TO N and N bytes, then 0, or 6 NODE TILE ARC, and the N bytes after the call.
-pub fn repack_in_place(case: &[u64]) -> Verdict {
+pub(crate) fn repack_in_place(case: &[u64]) -> Verdict {
     let mut bytes = [0u8; ROOM];
-    let mut answer = [0u64; ROOM];
-    repack_bytes(case, &mut bytes, &mut answer)
+    repack_case(case, &mut bytes)
 }
 
-fn repack_bytes(case: &[u64], bytes: &mut [u8], answer: &mut [u64]) -> Verdict {
+fn repack_case(case: &[u64], bytes: &mut [u8]) -> Verdict {
     let LayoutsInput::Are(from, to) = from_and_to(case) else {
         return Verdict::Malformed;
     };
@@ -124,23 +120,27 @@ fn repack_bytes(case: &[u64], bytes: &mut [u8], answer: &mut [u64]) -> Verdict {
         return Verdict::Malformed;
     };
     let stored = 3 + count;
-    if !fits_or_not(case, stored, &[], &[u64::MAX, BYTE, WORD], count) {
+    repack_bytes(&case[stored..], from, to, &mut bytes[..count])
+}
+
+fn repack_bytes(stored: &[u64], from: Layout, to: Layout, bytes: &mut [u8]) -> Verdict {
+    if !fits_or_not(stored, 0, &[], &[u64::MAX, BYTE, WORD], bytes.len()) {
         return Verdict::Malformed;
     }
-    let repacked = load::repack_in_place(&mut bytes[..count], from, to);
-    compare_repacked(case, stored, repacked, &bytes[..count], answer)
+    let mut answer = [0u64; ROOM];
+    let repacked = load::repack_in_place(bytes, from, to);
+    compare_repacked(stored, repacked, bytes, &mut answer)
 }
 
 fn compare_repacked(
-    case: &[u64],
-    stored: usize,
+    stored: &[u64],
     repacked: Repacked,
     bytes: &[u8],
     answer: &mut [u64],
 ) -> Verdict {
-    let head = put_repacked(repacked, answer);
+    let head = put_repacked(repacked, 0, answer);
     let end = put_bytes(bytes, head, answer);
-    compare(case, stored, &answer[..end])
+    compare(stored, 0, &answer[..end])
 }
 
 // FROM TO, with which a case starts.
@@ -157,10 +157,10 @@ fn from_and_to(case: &[u64]) -> LayoutsInput {
 // Whether a case stores from a place on 0, or 6, with the numbers that come with it, and then so
 // many bytes.
 fn fits_or_not(case: &[u64], at: usize, done: &[u64], misfit: &[u64], bytes: usize) -> bool {
-    if answer_is(case, at, DONE, done, bytes) {
+    if answer_is(case, at, DONE, done, bytes, BYTE) {
         return true;
     }
-    answer_is(case, at, DOES_NOT_FIT, misfit, bytes)
+    answer_is(case, at, DOES_NOT_FIT, misfit, bytes, BYTE)
 }
 
 fn fields_of(layout: Layout, word: u32) -> Fields {
@@ -209,21 +209,31 @@ fn fields_at_one(case: &[u64]) -> FieldsInput {
     })
 }
 
-// Puts the answer but for its bytes, and answers the place after it.
-fn put_repacked(repacked: Repacked, answer: &mut [u64]) -> usize
+// Puts an answer but for its bytes from a place on, and answers the place after it.
+pub(crate) fn put_repacked(repacked: Repacked, at: usize, answer: &mut [u64]) -> usize
     ensures { λ r. ⌜ r ≤ length (now (answer .exit)) ⌝ }
 {
     match repacked {
-        Repacked::Whole => put(DONE, 0, answer),
+        Repacked::Whole => put(DONE, at, answer),
         Repacked::DoesNotFit {
             node,
             tile,
             arc_index,
-        } => {
-            let after_kind = put(DOES_NOT_FIT, 0, answer);
-            let after_node = put(node as u64, after_kind, answer);
-            let after_tile = put(tile as u64, after_node, answer);
-            put(arc_index as u64, after_tile, answer)
-        }
+        } => put_misfit(node, tile, arc_index, at, answer),
     }
+}
+
+pub(crate) fn put_misfit(
+    node: usize,
+    tile: u8,
+    arc_index: u32,
+    at: usize,
+    answer: &mut [u64],
+) -> usize
+    ensures { λ r. ⌜ r ≤ length (now (answer .exit)) ⌝ }
+{
+    let after_kind = put(DOES_NOT_FIT, at, answer);
+    let after_node = put(node as u64, after_kind, answer);
+    let after_tile = put(tile as u64, after_node, answer);
+    put(arc_index as u64, after_tile, answer)
 }

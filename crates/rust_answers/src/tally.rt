@@ -4,7 +4,7 @@ use libc::STDOUT_FILENO;
 ghost use Prim.Native.Nat.{_<_};
 
 // One more than the highest number of a call.
-pub const CALLS: usize = 5;
+pub const CALLS: usize = 6;
 
 pub struct Tally {
     // The number of the line that is being read.
@@ -16,7 +16,7 @@ pub struct Tally {
 }
 
 impl Tally {
-    pub fn new() -> Tally {
+    pub(crate) fn new() -> Tally {
         Tally {
             line: 1,
             cases: [0; CALLS],
@@ -25,19 +25,19 @@ impl Tally {
         }
     }
 
-    pub fn next_line(mut self) -> Tally {
+    pub(crate) fn next_line(mut self) -> Tally {
         self.line = one_more(self.line);
         self
     }
 
-    pub fn malformed(mut self) -> Tally {
+    pub(crate) fn malformed(mut self) -> Tally {
         self.malformed = one_more(self.malformed);
         report(self.line, b" malformed\n");
         self
     }
 
     // A call that has no place in the tally makes its line malformed, so that no case goes uncounted.
-    pub fn judged(self, call: u64, verdict: Verdict) -> Tally {
+    pub(crate) fn judged(self, call: u64, verdict: Verdict) -> Tally {
         let call = call as usize;
         if CALLS <= call {
             return self.malformed();
@@ -62,11 +62,9 @@ impl Tally {
         self
     }
 
-    pub fn print(self) {
-        print_cases(b"node fields: ", self.cases[1]);
-        print_cases(b"pack: ", self.cases[2]);
-        print_cases(b"repack_node: ", self.cases[3]);
-        print_cases(b"repack_in_place: ", self.cases[4]);
+    pub(crate) fn print(self) {
+        let cases = self.cases;
+        print_calls(cases);
         print_number(b"malformed lines: ", self.malformed, b"\n");
         print_number(b"differences: ", self.differences, b"\n");
     }
@@ -74,6 +72,14 @@ impl Tally {
 
 fn report(line: u64, finding: &[u8]) {
     print_number(b"line ", line, finding);
+}
+
+fn print_calls(cases: [u64; CALLS]) {
+    print_cases(b"node fields: ", cases[1]);
+    print_cases(b"pack: ", cases[2]);
+    print_cases(b"repack_node: ", cases[3]);
+    print_cases(b"repack_in_place: ", cases[4]);
+    print_cases(b"loading: ", cases[5]);
 }
 
 fn print_cases(call: &[u8], cases: u64) {

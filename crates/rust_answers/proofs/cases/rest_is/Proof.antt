@@ -10,10 +10,10 @@ use Rattle.rust_answers.proofs.cases.rest_is.Statement.{statement}
 use Rattle.rust_answers.proofs.cases.rest_is.Tie as tie
 
 abbrev Inv-loop : tie.InvT-loop
-Inv-loop case from limits bytes rest i₀ i = (i ≤ rest) × ((k : ℕ) → k < i → getD case (from + k) 0 ≤ limitAt limits k)
+Inv-loop case from limits more most rest i₀ i = (i ≤ rest) × ((k : ℕ) → k < i → getD case (from + k) 0 ≤ limitAt limits k most)
 
 abbrev μ-loop : tie.MeasureT-loop
-μ-loop case from limits bytes rest i₀ i = rest - i
+μ-loop case from limits more most rest i₀ i = rest - i
 
 returns : tie.Need-returns Inv-loop μ-loop
 returns c = no (λ s. omega arith)
