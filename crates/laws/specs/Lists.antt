@@ -1,7 +1,10 @@
--- What holds of every entry of a list.
+-- What holds of every entry of a list, the entries that pass a test, and whether a number is among them.
 use mathlib.Core.Path.{sym, subst}
+use mathlib.Core.Bool.{Bool, true, false, _||_}
 use mathlib.Core.Logic.{⊎-elim}
 use mathlib.Core.List.{List, [], _∷_, _++_, List·Memᴰ, List·Memᴰ·not-nil, List·Memᴰ·cases-cons}
+use Prim.Native.Nat.{ℕ}
+use lib.Dec.{eqb}
 
 abbrev pub All {ℓ κ} : {A : Type ℓ} → (A → Type κ) → List A → Type κ
 All P [] = Unit
@@ -18,3 +21,11 @@ all-weaken P Q f (x ∷ xs) h = (f x (h .0), all-weaken P Q f xs (h .1))
 pub all-mem {ℓ κ} : {A : Type ℓ} (P : A → Type κ) (xs : List A) (x : A) → All P xs → List·Memᴰ x xs → P x
 all-mem P [] x a m = absurd (List·Memᴰ·not-nil m)
 all-mem P (y ∷ xs) x a m = ⊎-elim (λ i. subst P (sym i) (a .0)) (λ k. all-mem P xs x (a .1) k) (List·Memᴰ·cases-cons m)
+
+abbrev pub kept : {A : Type 0} → (A → Bool) → List A → List A
+kept f [] = []
+kept f (x ∷ xs) = elim (f x) [ true ↦ x ∷ kept f xs | false ↦ kept f xs ]
+
+abbrev pub member : ℕ → List ℕ → Bool
+member x [] = false
+member x (y ∷ ys) = eqb x y || member x ys

@@ -7,6 +7,8 @@ use Rattle.node.specs.Answers.{Answer, gives, nothing, refused}
 use Rattle.lookup.specs.Steps.{Try, on, stop}
 use Rattle.lookup.specs.declared.run.Found.{Found}
 use Rattle.lookup.specs.declared.run.Found.the-variants as F
+use Rattle.lookup.specs.declared.by_tile.Sought.{Sought}
+use Rattle.lookup.specs.declared.by_tile.Sought.the-variants as S
 use Rattle.lookup.specs.declared.by_word.WordIndex.{WordIndex}
 use Rattle.lookup.specs.declared.by_word.WordIndex.the-variants as I
 use Rattle.lookup.specs.declared.by_word.Passed.{Passed}
@@ -15,6 +17,11 @@ use Rattle.lookup.specs.declared.by_number.Here.{Here}
 use Rattle.lookup.specs.declared.by_number.Here.the-variants as H
 use Rattle.lookup.specs.declared.by_number.WordByIndex.{WordByIndex}
 use Rattle.lookup.specs.declared.by_number.WordByIndex.the-variants as T
+
+abbrev pub saidSeek : Sought → Answer
+saidSeek (S.At q) = gives (q ∷ [])
+saidSeek S.Absent = nothing
+saidSeek S.NotLent = refused 14 []
 
 abbrev pub saidIndex : WordIndex → Answer
 saidIndex (I.Number n) = gives (n ∷ [])

@@ -6,13 +6,13 @@ use mathlib.Core.List.{List, [], _∷_}
 use Prim.Native.Nat.{ℕ, zero, suc, _+_, _-_, _%_, _/_, _^_, _≤_, _<_}
 use native.Mathlib.Omega.{arith}
 use native.Mathlib.Numerals.{add-one}
-use borrow.Author.Tests.{eq-eqb, ne-eqb, lt-ltb, le-ltb, le-leb, lt-leb}
-use lib.Dec.{eqb}
-use lib.ListN.{length, getD, drop, drop-of-length-le, length-drop}
+use borrow.Author.Tests.{eq-eqb, ne-eqb, lt-ltb, le-ltb, le-leb, lt-leb, ltb-true, ltb-false}
+use lib.Dec.{eqb, ltb}
+use lib.ListN.{length, getD, drop, drop-of-length-le, length-drop, length-take}
 use lib.Seq.{drop-cons}
 use Rattle.laws.specs.Cases.{split}
 use Rattle.node.specs.Answers.{Answer, gives, nothing, refused}
-use Rattle.lookup.specs.Steps.{on, stop, _>>=_, answer, lent, difference, sum}
+use Rattle.lookup.specs.Steps.{on, stop, _>>=_, answer, lentPart, lent, difference, sum}
 use Rattle.node.specs.Nodes.{KBWG, tile, arc, accepts, isEnd, endBit, acceptsBit}
 use Rattle.graph.specs.Runs.{Graph, node}
 use Rattle.graph.specs.Words.{Word}
@@ -26,6 +26,9 @@ lent-on l i h = rw (lt-ltb i (length l) h, lent)
 pub lent-out : (l : List ℕ) (i : ℕ) → length l ≤ i → lent l i ≡ stop (refused 14 [])
 unfolding lent
 lent-out l i h = rw (le-ltb i (length l) h, lent)
+
+pub lent-part-length : (l : List ℕ) → length (lentPart l) ≤ 4_294_967_296
+lent-part-length l = simp length-take (omega arith)
 
 pub difference-on : (a b : ℕ) → b ≤ a → difference a b ≡ on (a - b)
 unfolding difference
@@ -69,18 +72,18 @@ stop-on : {C : Type 0} {r : Answer} {q : ℕ} → stop r ≡ on q → C
 stop-on {C} {r} {q} e = let z : _≡_ {A = ℕ} 0 1 = cc in absurd (omega arith)
 
 -- a node that is found is lent
-pub find-lent : (vs : Graph) (p t q : ℕ) → findIn vs p t ≡ on q → q < p + length vs
+found-between : (vs : Graph) (p t q : ℕ) → findIn vs p t ≡ on q → (p ≤ q) × (q < p + length vs)
 unfolding findIn
-find-lent [] p t q e = stop-on e
-find-lent (v ∷ vs) p t q e =
+found-between [] p t q e = stop-on e
+found-between (v ∷ vs) p t q e =
     split (eqb (tile KBWG v) t)
-    (λ y. let z = on-eq (rw (y, findIn) at e) in omega arith)
+    (λ y. let z = on-eq (rw (y, findIn) at e) in (omega arith, omega arith))
     (λ n. split (isEnd KBWG v)
     (λ y. stop-on (rw y at (rw (n, findIn) at e)))
-    (λ m. let k = find-lent vs (suc p) t q (rw m at (rw (n, findIn) at e)) in omega arith))
+    (λ m. let k = found-between vs (suc p) t q (rw m at (rw (n, findIn) at e)) in (omega arith, omega arith)))
 
-pub found-lent : (g : Graph) (p t q : ℕ) → p < length g → findIn (drop p g) p t ≡ on q → q < length g
-found-lent g p t q h e = let k = find-lent (drop p g) p t q e in let l = length-drop p g in omega arith
+pub found-lent : (g : Graph) (p t q : ℕ) → findIn (drop p g) p t ≡ on q → q < length g
+found-lent g p t q e = let k = found-between (drop p g) p t q e in let l = length-drop p g in omega arith
 
 -- ---- `seek`
 module _ (g : Graph) (p t : ℕ) where
@@ -97,6 +100,16 @@ module _ (g : Graph) (p t : ℕ) where
   step-find h n f =
       let e : arc KBWG (node g p) ≡ node g p / 256 = omega arith in
       rw (lent-on g p h) (rw (ne-eqb (arc KBWG (node g p)) 0 (λ z. n (sym e ∙ z)), _>>=_) (ap (λ k. findIn (drop k g) k t) e))
+
+  pub step-lent : (q : ℕ) → stepTo g p t ≡ on q → q < length g
+  unfolding stepTo
+  step-lent q e =
+      split (ltb p (length g))
+      (λ h. let k = rw (lent-on g p (ltb-true p (length g) h), _>>=_) at e in
+      split (eqb (arc KBWG (node g p)) 0)
+      (λ z. stop-on (rw z at k))
+      (λ n. found-lent g (arc KBWG (node g p)) t q (rw n at k)))
+      (λ h. stop-on (rw (lent-out g p (ltb-false p (length g) h)) at e))
 
 -- ---- one tile of a word
 module _ (limit : ℕ) (g : Graph) (counts : List ℕ) (p idx t : ℕ) where

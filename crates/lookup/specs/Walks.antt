@@ -1,4 +1,4 @@
--- The walks of both word-number conversions, from document 01, "Counting and numbers", as the Rust walks.
+-- The walks of run lookup and of both word-number conversions, from document 01, "Counting and numbers", as the Rust walks.
 use mathlib.Core.Bool.{true, false, _&&_, not}
 use mathlib.Core.List.{List, [], _∷_}
 use Prim.Native.Nat.{ℕ, zero, suc, _-_}

@@ -11,8 +11,8 @@ pub enum Found {
     NotLent,
 }
 
-// Places are 32-bit numbers, so no walk gets further.
-pub(crate) fn lent_part(list: &[u32]) -> &[u32]
+// What a walk can reach of a lent list: places are 32-bit numbers, so no walk gets further.
+pub fn lent_part(list: &[u32]) -> &[u32]
     ensures { λ r. ⌜ now r ≡ lentPart (now (list .entry)) ⌝ }
 {
     let end: usize = 4294967296;

@@ -73,7 +73,7 @@ shared-slice-read-t21 : tie.Need-shared-slice-read-t21
 shared-slice-read-t21 c =
     let a = c .before .before .before .before .before .before .before .before .before .before .before .before .before .before .before .args in
     let e = sym (c .before .before .before .before .before .before .before .find-in .ensures) ∙ ap tried (c .before .before .before .before .before .found .given .1) in
-    found-lent (a .nodes .now) (a .p) (a .tile) (c .before .before .before .before .before .found .given .0 .0) (c .before .before .before .before .before .before .before .before .before .before .before .if2 .left) e
+    found-lent (a .nodes .now) (a .p) (a .tile) (c .before .before .before .before .before .found .given .0 .0) e
 
 enum-told : tie.Need-enum-told
 enum-told c = search needs

@@ -1,0 +1,5 @@
+pub mod Alphagrams
+pub mod InsertLaws
+pub mod AcceptsLaws
+pub mod CrossLaws
+pub mod MeaningLaws

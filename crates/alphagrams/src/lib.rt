@@ -1,0 +1,1 @@
+// What alpha sets mean, in specs/.

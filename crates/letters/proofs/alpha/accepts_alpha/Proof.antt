@@ -1,0 +1,53 @@
+-- `letters::accepts_alpha` meets its contract: the row, then the walk over what is lent.
+use mathlib.Core.Path.{_≡_, sym, ap, _∙_}
+use Rattle.lookup.specs.Steps.{lentPart}
+use Rattle.letters.specs.AlphaSets.{completes, acceptsAlpha}
+use Rattle.letters.specs.Said.{decided}
+use Rattle.letters.specs.declared.alpha.Completes.{Completes}
+use Rattle.letters.specs.declared.alpha.Completes.the-variants.{Known, NotLent}
+use Rattle.letters.proofs.AlphaLaws.{tally-long, tally-fits}
+use borrow.Author.Needs.{needs}
+use Rattle.letters.proofs.alpha.accepts_alpha.Statement.{statement}
+use Rattle.letters.proofs.alpha.accepts_alpha.Tie as tie
+
+-- what the walk says of the lent nodes
+told : (c : tie.After-completes-alpha-cross-set) (r : Completes) → c .completes-alpha-cross-set .result ≡ r
+    → completes (lentPart (c .before .before .before .before .before .args .nodes .now)) (c .before .before .before .before .before .args .tally .now) 1 0 ≡ decided r
+told c r e =
+    ap (λ g. completes g (c .before .before .before .before .before .args .tally .now) 1 0) (sym (c .before .lent-part .ensures)) ∙ sym (c .completes-alpha-cross-set .ensures) ∙ ap decided e
+
+returns : tie.Need-returns
+unfolding acceptsAlpha
+returns c = rw (tally-long (c .before .before .before .args .tally .now) (c .if1 .taken))
+
+lent-part-requires : tie.Need-lent-part-requires
+lent-part-requires c κs = search needs
+
+completes-alpha-cross-set-requires : tie.Need-completes-alpha-cross-set-requires
+completes-alpha-cross-set-requires c κs = search needs
+
+enum-known-known : tie.Need-enum-known-known
+enum-known-known c = search needs
+
+enum-told : tie.Need-enum-told
+enum-told c = search needs
+
+returns-2 : tie.Need-returns-2
+unfolding acceptsAlpha
+returns-2 c = rw (tally-fits (c .before .before .before .before .before .before .before .before .args .tally .now) (c .before .before .before .before .before .if1 .left), told (c .before .before .before) (Known (c .before .known .given .0 .0)) (c .before .known .given .1))
+
+returns-3 : tie.Need-returns-3
+unfolding acceptsAlpha
+returns-3 c = rw (tally-fits (c .before .before .before .before .before .before .before .args .tally .now) (c .before .before .before .before .if1 .left), told (c .before .before) NotLent (c .enum-told .given .1))
+
+pub accepts-alpha-spec : {M : Type 1} → statement M
+accepts-alpha-spec =
+    tie.close
+    (tie.spec
+    returns
+    lent-part-requires
+    completes-alpha-cross-set-requires
+    enum-known-known
+    enum-told
+    returns-2
+    returns-3)

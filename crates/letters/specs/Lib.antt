@@ -1,0 +1,4 @@
+pub mod TileSets
+pub mod LetterBits
+pub mod AlphaSets
+pub mod Said

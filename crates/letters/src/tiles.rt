@@ -1,0 +1,14 @@
+// A set of tiles in 64 bits: bit t stands for tile t.
+ghost use mathlib.Core.Path.{_≡_};
+ghost use Rattle.node.specs.Nodes.{KBWG, tile};
+ghost use Rattle.letters.specs.TileSets.{marked as mark};
+
+// The set with the tile of node v, where that is asked.
+pub(crate) fn marked(set: u64, v: u32, yes: bool) -> u64
+    ensures { λ r. ⌜ r ≡ mark set (tile KBWG v) yes ⌝ }
+{
+    if yes {
+        return set | 1u64 << (v % 64);
+    }
+    set
+}
