@@ -3,11 +3,12 @@
 mod layout;
 mod loading;
 mod nodes;
+mod numbers;
 mod outcome;
 mod samples;
 mod trial;
 
-use crate::numbers::{self, Inputs, Unreadable};
+use crate::numbers::{Inputs, Unreadable, join, parse};
 use crate::requests::Requests;
 use std::ops::RangeInclusive;
 
@@ -22,7 +23,12 @@ pub struct Family {
     pub answer: fn(u64, &mut Inputs) -> Result<Vec<u64>, Unreadable>,
 }
 
-const FAMILIES: &[Family] = &[trial::FAMILY, nodes::FAMILY, loading::FAMILY];
+const FAMILIES: &[Family] = &[
+    trial::FAMILY,
+    nodes::FAMILY,
+    loading::FAMILY,
+    numbers::FAMILY,
+];
 
 pub fn find_list(name: &str) -> Option<&'static Family> {
     FAMILIES.iter().find(|family| family.list == name)
@@ -38,12 +44,12 @@ pub fn list_names() -> String {
 }
 
 pub fn answer(request: &str) -> Result<String, Unreadable> {
-    let numbers = numbers::parse(request)?;
+    let numbers = parse(request)?;
     let mut inputs = Inputs(&numbers);
     let call = inputs.number(u64::MAX)?;
     let family = FAMILIES
         .iter()
         .find(|family| family.calls.contains(&call))
         .ok_or_else(|| format!("no call {call}"))?;
-    Ok(numbers::join(&(family.answer)(call, &mut inputs)?))
+    Ok(join(&(family.answer)(call, &mut inputs)?))
 }

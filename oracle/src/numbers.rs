@@ -59,6 +59,17 @@ impl Inputs<'_> {
         (0..len).map(|_| self.byte()).collect()
     }
 
+    // A list of words, its length before it.
+    pub fn words(&mut self) -> Result<Vec<u32>, Unreadable> {
+        let len = self.number(u64::MAX)?;
+        self.words_of(len)
+    }
+
+    // So many words, without their length.
+    pub fn words_of(&mut self, len: u64) -> Result<Vec<u32>, Unreadable> {
+        (0..len).map(|_| self.word()).collect()
+    }
+
     // Every call ends its reading with this, for an input too many is a slip.
     pub fn end(&self) -> Result<(), Unreadable> {
         match self.0.len() {

@@ -1,14 +1,14 @@
 -- The words of a run, node by node, where every step leads to a node and nothing loops.
-use mathlib.Core.Path.{_≡_, refl, sym, ap, _∙_}
+use mathlib.Core.Path.{_≡_, refl, ap, _∙_}
 use mathlib.Core.Bool.{true, false}
 use mathlib.Core.Logic.{_≢_}
-use mathlib.Core.List.{List, [], _∷_, _++_, map, append-nil}
+use mathlib.Core.List.{List, [], _∷_, _++_, map}
 use Prim.Native.Nat.{ℕ, zero, suc, _+_, _-_, _≤_, _<_}
 use native.Mathlib.Omega.{arith}
 use lib.Dec.{eqb}
 use borrow.Author.Tests.{eqb-true, eqb-false}
 use lib.ListN.{length, getD, drop, length-append, List·getD-append}
-use lib.Seq.{drop-cons, getD-append-add}
+use lib.Seq.{getD-append-add}
 use Rattle.laws.specs.Cases.{split}
 use Rattle.node.specs.Answers.{nothing}
 use Rattle.node.specs.Nodes.{tile, arc, accepts, acceptsBit, KBWG, isEnd}
@@ -16,6 +16,8 @@ use Rattle.graph.specs.Runs.{Graph, node, run}
 use Rattle.graph.specs.Words.{Word, spelled, inOrder, words, count}
 use Rattle.graph.specs.WordsEquation.{words-equation}
 use Rattle.graph.specs.Counting.{table, Loopless}
+use Rattle.graph.specs.LoopLaws.{clear-where-loopless}
+use Rattle.graph.specs.CountLaws.{words-end as words-at-end, words-on as words-before-end}
 use Rattle.graph.specs.ChecksLaws.{Closed}
 
 pub table-length : (n : ℕ) (f : ℕ → ℕ) → length (table n f) ≡ n
@@ -78,15 +80,13 @@ module _ (g : Graph) where
   -- ---- along the run
   module _ (steps : Closed g) (loopless : Loopless g) where
     pub words-run : (p : ℕ) → p < length g → W p ≡ inOrder (spelled KBWG W) (run KBWG (drop p g))
-    words-run p h = words-equation KBWG g p (record { itself = loopless p; below = λ q r. loopless q })
+    words-run p h = words-equation KBWG g p (clear-where-loopless KBWG g loopless p)
 
     pub words-end : (p : ℕ) → p < length g → isEnd KBWG (node g p) ≡ true → W p ≡ spelled KBWG W (node g p)
-    unfolding run inOrder
-    words-end p h e = words-run p h ∙ rw (drop-cons g p 0 h) (rw (e, run) (append-nil (spelled KBWG W (node g p))))
+    words-end p h e = words-at-end KBWG g p h (clear-where-loopless KBWG g loopless p) e
 
     pub words-on : (p : ℕ) → p < length g → isEnd KBWG (node g p) ≡ false → W p ≡ spelled KBWG W (node g p) ++ W (suc p)
-    unfolding run inOrder
-    words-on p h e = words-run p h ∙ rw (drop-cons g p 0 h) (rw (e, run) (ap (spelled KBWG W (node g p) ++_) (sym (words-run (suc p) (steps .runs p h e)))))
+    words-on p h e = words-before-end KBWG g p h (clear-where-loopless KBWG g loopless p) e
 
     -- a word of the first node of the run
     pub first-word : (p idx : ℕ) → p < length g → idx < size (node g p) → (idx < count KBWG g p) × (getD (W p) idx [] ≡ getD (spelled KBWG W (node g p)) idx [])

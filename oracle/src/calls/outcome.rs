@@ -5,6 +5,8 @@ use crate::numbers::Unreadable;
 
 pub const DONE: u64 = 0;
 pub const NOT_WHOLE_NODES: u64 = 1;
+// Of a lookup: there is no such word.
+pub const NONE: u64 = 1;
 pub const DOES_NOT_FIT: u64 = 6;
 pub const ARC_PAST_END: u64 = 8;
 pub const NO_END: u64 = 9;
