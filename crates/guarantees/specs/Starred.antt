@@ -3,6 +3,7 @@
 use mathlib.Core.Path.{_≡_, refl}
 use mathlib.Core.List.{List, [], _∷_, map}
 use Prim.Native.Nat.{ℕ}
+use lib.ListN.{getD}
 use Rattle.laws.specs.Lists.{All}
 use Rattle.node.specs.Nodes.{KWG, KBWG, fits}
 use Rattle.node.specs.Answers.{Answer, gives, nothing, firstOf}
@@ -14,7 +15,10 @@ use Rattle.load.specs.Bytes.{wholeNodes, partNode}
 use Rattle.load.specs.Repacking.{fitting, firstMisfit}
 use Rattle.load.specs.Loading.{begin, feed, finish, holding, stateAfter, nodesAfter, zeros}
 use Rattle.lookup.specs.Steps.{lent, difference, sum}
-use Rattle.lookup.specs.Walks.{findIn, passed, indexFrom, wordIndex, wordsHere, turnIn, wordFrom, wordByIndex}
+use Rattle.lookup.specs.Walks.{findIn, passed, indexFrom, wordIndex, wordsHere, turnIn, wordFrom, wordByIndex, stepTo}
+use Rattle.letters.specs.TileSets.{tileSet}
+use Rattle.letters.specs.LetterBits.{letterBits, filled, tilesOf}
+use Rattle.letters.specs.AlphaSets.{copies, spent, ended, completes, closing, along, crossCopies, crossLetters, crossFrom, crossSet}
 use Rattle.pieces.specs.Pieces.{Loads, loadWhole, oneFeed}
 
 -- "G in KBWG words (hexadecimal): 240, 40, 481, 442, C2"
@@ -24,6 +28,10 @@ G = 0x240 ∷ 0x40 ∷ 0x481 ∷ 0x442 ∷ 0xC2 ∷ []
 -- what a load answers at its end, and the nodes
 abbrev loaded : Loads → Answer × Graph
 loaded l = (l .finished, l .nodes)
+
+-- the accepting bits and all bits of a node
+abbrev bitsOf : ℕ → ℕ × ℕ
+bitsOf p = let l = letterBits G (counts G) (counts G) in (getD (l .accepting) p 0, getD (l .all) p 0)
 
 -- A sentence of the paper, as what the rules give and what the paper says they give.
 pub record Case : Type 1 where
@@ -60,8 +68,14 @@ cases =
     ∷ record { Side = Word × Answer; found = wordByIndex (counts G) G 2 2 3; expected = ([], nothing) }
     -- "Word 2: none."
     ∷ record { Side = Answer; found = wordIndex 4_294_967_295 G (counts G) 2 (2 ∷ []); expected = nothing }
+    -- "Accepting bits of node 2: 2; all bits: 6."
+    ∷ record { Side = ℕ × ℕ; found = bitsOf 2; expected = (2, 6) }
+    -- "Cross set of one A: 5."
+    ∷ record { Side = Answer; found = crossSet G (0 ∷ 1 ∷ []); expected = gives (5 ∷ []) }
+    -- "Of one B: 7."
+    ∷ record { Side = Answer; found = crossSet G (0 ∷ 0 ∷ 1 ∷ []); expected = gives (7 ∷ []) }
     ∷ []
 
 pub starred : All Holds cases
-unfolding cases fits fitting run inOrder spelled wordsWithin words table loadWhole oneFeed begin feed finish firstOf holding stateAfter nodesAfter wholeNodes partNode firstMisfit zeros largestArc lastEnds lent difference sum findIn passed indexFrom wordIndex wordsHere turnIn wordFrom wordByIndex
-starred = (refl, (refl, (refl, (refl, (refl, (refl, tt))))))
+unfolding cases fits fitting run inOrder spelled wordsWithin words table loadWhole oneFeed begin feed finish firstOf holding stateAfter nodesAfter wholeNodes partNode firstMisfit zeros largestArc lastEnds lent difference sum findIn passed indexFrom wordIndex wordsHere turnIn wordFrom wordByIndex stepTo tileSet letterBits filled tilesOf copies spent ended completes closing along crossCopies crossLetters crossFrom crossSet
+starred = (refl, (refl, (refl, (refl, (refl, (refl, (refl, (refl, (refl, tt)))))))))

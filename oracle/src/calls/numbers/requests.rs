@@ -1,0 +1,276 @@
+// The list `numbers`.
+
+use super::super::layout::{Fields, Layout};
+use super::super::samples::{empty_graph, graph, words_of};
+use super::{COUNT, NUMBER_TO_WORD, WORD_TO_NUMBER, graph_of, in_range};
+use crate::random::Random;
+use crate::requests::Requests;
+
+// The most tiles of a word that is asked, or asked for, but in the long graphs.
+const LONGEST: usize = 15;
+
+// How many words or numbers are all asked; of more, some.
+const ASK_ALL: usize = 8;
+
+struct Graph {
+    words: Vec<u32>,
+    nodes: Vec<Fields>,
+    // The Rust's own.
+    counts: Vec<u32>,
+}
+
+impl Graph {
+    fn new(words: Vec<u32>) -> Self {
+        let nodes = words.iter().map(|&w| Layout::Kbwg.fields(w)).collect();
+        let counts = graph_of(&words)
+            .count_words_alloc()
+            .expect("the graph has no loop");
+        Self {
+            words,
+            nodes,
+            counts: counts.into_vec(),
+        }
+    }
+
+    fn of_nodes(nodes: &[Fields]) -> Self {
+        Self::new(
+            nodes
+                .iter()
+                .map(|node| Layout::Kbwg.pack(node).expect("the node fits"))
+                .collect(),
+        )
+    }
+
+    // The node with the most words, but for node 0.
+    fn richest(&self) -> usize {
+        (1..self.counts.len())
+            .max_by_key(|&place| self.counts[place])
+            .unwrap_or(0)
+    }
+}
+
+pub fn requests(requests: &mut Requests) {
+    requests.comment("calls 6 to 8: the words counted, the number of a word, the word of a number");
+    sample_graphs(requests);
+    random_graphs(requests);
+    other_counts(requests);
+    long_graphs(requests);
+}
+
+fn ask_count(requests: &mut Requests, graph: &Graph) {
+    let mut numbers = vec![COUNT, graph.words.len() as u64];
+    numbers.extend(graph.words.iter().map(|&word| u64::from(word)));
+    requests.ask(&numbers);
+}
+
+// What the calls 7 and 8 start with.
+fn head(call: u64, graph: &Graph, counts: &[u32], start: usize) -> Vec<u64> {
+    let mut numbers = vec![call, graph.words.len() as u64];
+    let words = graph.words.iter().chain(counts);
+    numbers.extend(words.map(|&word| u64::from(word)));
+    numbers.push(start as u64);
+    numbers
+}
+
+fn ask_word(requests: &mut Requests, graph: &Graph, counts: &[u32], start: usize, word: &[u8]) {
+    if in_range::number_of_word(&graph.nodes, counts, start, word) {
+        let mut numbers = head(WORD_TO_NUMBER, graph, counts, start);
+        numbers.push(word.len() as u64);
+        numbers.extend(word.iter().map(|&tile| u64::from(tile)));
+        requests.ask(&numbers);
+    }
+}
+
+fn ask_number(requests: &mut Requests, graph: &Graph, counts: &[u32], start: usize, number: u32) {
+    if in_range::word_of_number(&graph.nodes, counts, start, number, LONGEST) {
+        let mut numbers = head(NUMBER_TO_WORD, graph, counts, start);
+        numbers.push(number.into());
+        requests.ask(&numbers);
+    }
+}
+
+// The words from a node, in the order of their numbers. Node 0 starts none.
+fn words_from(graph: &Graph, start: usize) -> Vec<Vec<u8>> {
+    let mut words = Vec::new();
+    let mut place = start;
+    while place > 0 {
+        let node = &graph.nodes[place];
+        if node.accepts {
+            words.push(vec![node.tile]);
+        }
+        for rest in words_from(graph, node.arc_index as usize) {
+            words.push([vec![node.tile], rest].concat());
+        }
+        place = if node.is_end { 0 } else { place + 1 };
+    }
+    words
+}
+
+// All places of a short list; of a longer one the first two, the middle and
+// the last two.
+fn some_places(len: usize) -> Vec<usize> {
+    if len <= ASK_ALL {
+        (0..len).collect()
+    } else {
+        vec![0, 1, len / 2, len - 2, len - 1]
+    }
+}
+
+// Words that a graph may not have: none of the word's tiles, fewer, one more,
+// one of them another, and tile 0.
+fn words_near(word: &[u8]) -> Vec<Vec<u8>> {
+    let mut near = vec![vec![], vec![0], [word, &[1]].concat()];
+    if let Some((&last, start)) = word.split_last() {
+        near.push(start.to_vec());
+        near.push([start, &[(last + 1) % 64]].concat());
+        near.push([&[63], &word[1..]].concat());
+    }
+    near
+}
+
+// From a node: numbers up to one past the count, words, and words near them.
+fn ask_from(requests: &mut Requests, graph: &Graph, counts: &[u32], start: usize) {
+    let count = graph.counts[start];
+    for number in some_places(count as usize) {
+        ask_number(requests, graph, counts, start, number as u32);
+    }
+    for number in [count, count + 1, u32::MAX] {
+        ask_number(requests, graph, counts, start, number);
+    }
+    let words = words_from(graph, start);
+    for place in some_places(words.len()) {
+        ask_word(requests, graph, counts, start, &words[place]);
+    }
+    let middle = words.get(words.len() / 2).cloned().unwrap_or_default();
+    for word in words_near(&middle) {
+        ask_word(requests, graph, counts, start, &word);
+    }
+}
+
+fn sample_graphs(requests: &mut Requests) {
+    for bytes in [graph(Layout::Kbwg), empty_graph(Layout::Kbwg)] {
+        let graph = Graph::new(words_of(&bytes));
+        ask_count(requests, &graph);
+        for start in 0..graph.words.len() {
+            ask_from(requests, &graph, &graph.counts, start);
+        }
+    }
+}
+
+// Nodes in no order of their own: a node leads only to nodes that come later in
+// an order drawn for the graph, and node 0 may stand anywhere in it.
+fn random_nodes(random: &mut Random, len: usize, tiles: u64) -> Vec<Fields> {
+    let order: Vec<u64> = (0..len).map(|_| random.next()).collect();
+    (0..len)
+        .map(|place| {
+            let later: Vec<usize> = (1..len).filter(|&to| order[to] > order[place]).collect();
+            let arc_index = match later.len() as u64 {
+                0 => 0,
+                _ if random.within(0, 5) == 0 => 0,
+                many => later[random.within(0, many) as usize],
+            };
+            Fields {
+                tile: random.within(0, tiles) as u8,
+                accepts: random.flag(),
+                is_end: !later.contains(&(place + 1)) || random.within(0, 3) == 0,
+                arc_index: arc_index as i32,
+            }
+        })
+        .collect()
+}
+
+// Each run's tiles made to ascend, as the graphs built by the Rust have them.
+fn ascend(nodes: &mut [Fields]) {
+    for place in 1..nodes.len() {
+        if !nodes[place - 1].is_end {
+            nodes[place].tile = nodes[place - 1].tile + 1;
+        }
+    }
+}
+
+fn random_graph(random: &mut Random, len: usize, kind: u32) -> Graph {
+    let tiles = [3, 5, 64][kind as usize];
+    let mut nodes = random_nodes(random, len, tiles);
+    if kind == 1 {
+        ascend(&mut nodes);
+    }
+    Graph::of_nodes(&nodes)
+}
+
+// Of some only the count; of others also lookups from node 0, from where it
+// leads, from the node with the most words, and from any node.
+fn random_graphs(requests: &mut Requests) {
+    let mut random = Random::new(13);
+    for len in 2..=12 {
+        for kind in 0..3 {
+            for _ in 0..6 {
+                ask_count(requests, &random_graph(&mut random, len, kind));
+            }
+            for _ in 0..2 {
+                let graph = random_graph(&mut random, len, kind);
+                ask_count(requests, &graph);
+                let any = random.within(1, len as u64) as usize;
+                for start in [0, graph.nodes[0].arc_index as usize, graph.richest(), any] {
+                    ask_from(requests, &graph, &graph.counts, start);
+                }
+            }
+        }
+    }
+}
+
+// Counts that are not the graph's own: each the same, few, the graph's own a
+// little changed, and any.
+fn other_counts(requests: &mut Requests) {
+    let mut random = Random::new(14);
+    for len in 2..=12 {
+        let graph = random_graph(&mut random, len, len as u32 % 3);
+        let mut counts = vec![vec![0; len], vec![1; len], vec![u32::MAX; len]];
+        counts.push((0..len).map(|_| random.within(0, 5) as u32).collect());
+        counts.push((0..len).map(|_| random.word()).collect());
+        // The last numbers: the largest is none.
+        counts.push(
+            (0..len)
+                .map(|_| u32::MAX - random.within(0, 2) as u32 * u32::MAX)
+                .collect(),
+        );
+        counts.push((0..len).map(|at| u32::MAX - at as u32).collect());
+        let mut changed = graph.counts.clone();
+        changed[random.within(0, len as u64) as usize] += 1;
+        counts.push(changed);
+        for counts in counts {
+            ask_from(requests, &graph, &counts, graph.richest());
+            ask_number(requests, &graph, &counts, 0, 0);
+        }
+    }
+}
+
+// A chain by arcs, to the next node and to the one before; and one long run.
+fn long_graphs(requests: &mut Requests) {
+    let len = 200;
+    let node = |place: usize, is_end: bool, arc_index: usize| Fields {
+        tile: (place % 64) as u8,
+        accepts: place % 3 > 0,
+        is_end,
+        arc_index: arc_index as i32,
+    };
+    let on = |place| node(place, true, (place + 1) % len);
+    let back = |place: usize| node(place, true, place.saturating_sub(1));
+    let run = |place| node(place, place + 1 == len, 0);
+    let graphs = [
+        (0..len).map(on).collect::<Vec<_>>(),
+        (0..len).map(back).collect(),
+        (0..len).map(run).collect(),
+    ];
+    for (nodes, starts) in graphs.iter().zip([[1, 190], [199, 10], [1, 150]]) {
+        let graph = Graph::of_nodes(nodes);
+        ask_count(requests, &graph);
+        for start in starts {
+            let words = words_from(&graph, start);
+            for place in [0, 5, words.len() - 1] {
+                ask_number(requests, &graph, &graph.counts, start, place as u32);
+                ask_word(requests, &graph, &graph.counts, start, &words[place]);
+            }
+            ask_number(requests, &graph, &graph.counts, start, words.len() as u32);
+        }
+    }
+}
