@@ -95,6 +95,27 @@ fn a_refused_load_says_why() {
 }
 
 #[test]
+fn the_words_of_the_sample_graph_have_numbers() {
+    // The words are 1, 1 2 and 2 2, from node 2.
+    let graph = "5 576 64 1153 1090 194";
+    let counts = "3 0 3 1 1";
+    let mut expected = format!("6 {graph} 0 {counts}\n");
+    let mut requests = format!("6 {graph}\n");
+    for (number, word) in ["1 1", "2 1 2", "2 2 2"].iter().enumerate() {
+        requests += &format!("7 {graph} {counts} 2 {word}\n8 {graph} {counts} 2 {number}\n");
+        expected += &format!("7 {graph} {counts} 2 {word} 0 {number}\n");
+        expected += &format!("8 {graph} {counts} 2 {number} 0 {word}\n");
+    }
+    // No such word, none from node 0, and no such number.
+    for request in ["7", "7", "8"].iter().zip(["2 1 2", "0 1 1", "2 3"]) {
+        let request = format!("{} {graph} {counts} {}", request.0, request.1);
+        requests += &format!("{request}\n");
+        expected += &format!("{request} 1\n");
+    }
+    assert_eq!(answers(&requests).0, expected);
+}
+
+#[test]
 fn a_refusal_names_the_node_and_keeps_what_was_done() {
     // The second node has tile 64 and arc 3, and half a node comes after.
     let (list, _) = answers("4 0 1 10 1 0 64 5 3 0 0 64 7 7\n3 0 1 1073741827\n");
@@ -125,7 +146,7 @@ fn an_unreadable_request_stops_the_run() {
 
 #[test]
 fn the_lists_are_the_same_each_time_and_fully_answered() {
-    let asked = ["requests", "nodes", "loading"];
+    let asked = ["requests", "nodes", "loading", "numbers"];
     let requests = text(oracle(&asked, "").stdout);
     assert_eq!(requests, text(oracle(&asked, "").stdout));
 

@@ -10,10 +10,10 @@ use Rattle.graph.specs.Runs.{Graph}
 use Rattle.graph.specs.Words.{count}
 use Rattle.graph.specs.Loops.{Step, Loops, Clear}
 use Rattle.count.specs.Work.{Kept}
-use Rattle.count.specs.declared.Found.{Found}
-use Rattle.count.specs.declared.Found.the-variants.{Nothing, At}
-use Rattle.count.specs.declared.AfterStep.{AfterStep}
-use Rattle.count.specs.declared.AfterStep.the-variants.{Stack, LoopAt}
+use Rattle.count.specs.declared.walk.Found.{Found}
+use Rattle.count.specs.declared.walk.Found.the-variants.{Nothing, At}
+use Rattle.count.specs.declared.walk.AfterStep.{AfterStep}
+use Rattle.count.specs.declared.walk.AfterStep.the-variants.{Stack, LoopAt}
 
 -- ---- the work list
 abbrev pub mark : List ℕ → ℕ → ℕ

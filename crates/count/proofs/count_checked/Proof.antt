@@ -10,8 +10,8 @@ use Rattle.node.specs.Nodes.{KBWG}
 use Rattle.graph.specs.LoopLaws.{reach-inside}
 use Rattle.graph.specs.ChecksLaws.{Fit}
 use Rattle.graph.specs.Counting.{Counted}
-use Rattle.count.specs.declared.Found.{Found}
-use Rattle.count.specs.declared.Found.the-variants.{Nothing, At}
+use Rattle.count.specs.declared.walk.Found.{Found}
+use Rattle.count.specs.declared.walk.Found.the-variants.{Nothing, At}
 use Rattle.count.specs.Said.{limit}
 use Rattle.count.specs.Work.{Kept}
 use Rattle.count.specs.Walk.{WalkedIs, ReachesIs}
@@ -23,9 +23,9 @@ use Rattle.count.proofs.count_checked.Statement.{statement}
 use Rattle.count.proofs.count_checked.Tie as tie
 use Rattle.count.proofs.count_checked.Reads as reads
 use Rattle.count.proofs.count_checked.Lts as lts
-use Rattle.count.proofs.clear.Reads as clear-reads
-use Rattle.count.proofs.reaches_limit.Reads as reaches-limit-reads
-use Rattle.count.proofs.walk.Reads as walk-reads
+use Rattle.count.proofs.counts.clear.Reads as clear-reads
+use Rattle.count.proofs.counts.reaches_limit.Reads as reaches-limit-reads
+use Rattle.count.proofs.walk.walk.Reads as walk-reads
 
 module _ (s : tie.Start) where
   abbrev nodes : List ℕ

@@ -6,10 +6,10 @@ use mathlib.Core.Logic.{_≢_, ⊎-elim}
 use Rattle.count.specs.Walk.{mark, done}
 use Rattle.count.proofs.Steps.{step-arc, step-next, steps-done}
 use borrow.Author.Needs.{needs}
-use Rattle.count.proofs.next_to_count.Statement.{statement}
-use Rattle.count.proofs.next_to_count.Tie as tie
-use Rattle.count.proofs.next_to_count.Reads as reads
-use Rattle.count.proofs.next_to_count.Lts as lts
+use Rattle.count.proofs.walk.next_to_count.Statement.{statement}
+use Rattle.count.proofs.walk.next_to_count.Tie as tie
+use Rattle.count.proofs.walk.next_to_count.Reads as reads
+use Rattle.count.proofs.walk.next_to_count.Lts as lts
 use Rattle.node.proofs.Node24.arc_index.Reads as arc-index-reads
 use Rattle.node.proofs.Node24.is_end.Reads as is-end-reads
 

@@ -5,20 +5,20 @@ use mathlib.Core.List.{List}
 use Prim.Native.Nat.{ℕ, _+_, _-_, _<_}
 use lib.ListN.{length}
 use Rattle.graph.specs.LoopLaws.{step-inside}
-use Rattle.count.specs.declared.Found.{Found}
-use Rattle.count.specs.declared.Found.the-variants.{Nothing, At}
+use Rattle.count.specs.declared.walk.Found.{Found}
+use Rattle.count.specs.declared.walk.Found.the-variants.{Nothing, At}
 use Rattle.count.specs.Said.{limit}
 use Rattle.count.specs.Walk.{stacked, NextIs, Stepped}
 use Rattle.count.proofs.Lists.{kept-all}
 use Rattle.count.proofs.WalkLaws.{size-lt, top-place, top-node, step-loops, step-pushes, step-counts}
 use borrow.Author.Needs.{needs}
-use Rattle.count.proofs.take_step.Statement.{statement}
-use Rattle.count.proofs.take_step.Tie as tie
-use Rattle.count.proofs.take_step.Reads as reads
-use Rattle.count.proofs.take_step.Lts as lts
-use Rattle.count.proofs.count_at.Reads as count-at-reads
-use Rattle.count.proofs.next_to_count.Reads as next-to-count-reads
-use Rattle.count.proofs.push.Reads as push-reads
+use Rattle.count.proofs.walk.take_step.Statement.{statement}
+use Rattle.count.proofs.walk.take_step.Tie as tie
+use Rattle.count.proofs.walk.take_step.Reads as reads
+use Rattle.count.proofs.walk.take_step.Lts as lts
+use Rattle.count.proofs.sums.count_at.Reads as count-at-reads
+use Rattle.count.proofs.walk.next_to_count.Reads as next-to-count-reads
+use Rattle.count.proofs.walk.push.Reads as push-reads
 
 -- the node at the top of the stack
 module _ (s : tie.Start) where

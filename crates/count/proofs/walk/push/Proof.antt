@@ -2,10 +2,10 @@
 use native.Mathlib.Omega.{arith}
 use lib.ListN.{length-set}
 use borrow.Author.Needs.{needs}
-use Rattle.count.proofs.push.Statement.{statement}
-use Rattle.count.proofs.push.Tie as tie
-use Rattle.count.proofs.push.Reads as reads
-use Rattle.count.proofs.push.Lts as lts
+use Rattle.count.proofs.walk.push.Statement.{statement}
+use Rattle.count.proofs.walk.push.Tie as tie
+use Rattle.count.proofs.walk.push.Reads as reads
+use Rattle.count.proofs.walk.push.Lts as lts
 
 add-work : tie.Need-add-work
 add-work c = search needs

@@ -6,10 +6,10 @@ use Prim.Native.Nat.{_-_, _≤_}
 use lib.ListN.{length, set}
 use Rattle.count.specs.Walk.{zeroed}
 use Rattle.count.proofs.Lists.{zeroed-more, zeroed-length}
-use Rattle.count.proofs.clear.Statement.{statement}
-use Rattle.count.proofs.clear.Tie as tie
-use Rattle.count.proofs.clear.Reads as reads
-use Rattle.count.proofs.clear.Lts as lts
+use Rattle.count.proofs.counts.clear.Statement.{statement}
+use Rattle.count.proofs.counts.clear.Tie as tie
+use Rattle.count.proofs.counts.clear.Reads as reads
+use Rattle.count.proofs.counts.clear.Lts as lts
 
 abbrev Inv-loop : tie.InvT-loop
 Inv-loop list₀ n i₀ list i = (i ≤ n) × (list ≡ zeroed i list₀)

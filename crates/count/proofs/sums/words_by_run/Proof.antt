@@ -7,10 +7,10 @@ use lib.ListN.{length, getD}
 use Rattle.node.specs.Nodes.{KBWG}
 use Rattle.graph.specs.CountLaws.{at-end, not-at-end}
 use borrow.Author.Needs.{needs}
-use Rattle.count.proofs.words_by_run.Statement.{statement}
-use Rattle.count.proofs.words_by_run.Tie as tie
-use Rattle.count.proofs.words_by_run.Reads as reads
-use Rattle.count.proofs.words_by_run.Lts as lts
+use Rattle.count.proofs.sums.words_by_run.Statement.{statement}
+use Rattle.count.proofs.sums.words_by_run.Tie as tie
+use Rattle.count.proofs.sums.words_by_run.Reads as reads
+use Rattle.count.proofs.sums.words_by_run.Lts as lts
 use Rattle.node.proofs.Node24.is_end.Reads as is-end-reads
 
 -- the run goes on, to a count that is lent

@@ -4,17 +4,17 @@ use native.Mathlib.Omega.{arith}
 use mathlib.Core.Path.{_≡_, sym, _∙_, subst}
 use mathlib.Core.List.{List}
 use Prim.Native.Nat.{ℕ}
-use Rattle.count.specs.declared.AfterStep.{AfterStep}
-use Rattle.count.specs.declared.AfterStep.the-variants.{Stack, LoopAt}
+use Rattle.count.specs.declared.walk.AfterStep.{AfterStep}
+use Rattle.count.specs.declared.walk.AfterStep.the-variants.{Stack, LoopAt}
 use Rattle.count.specs.Said.{limit}
 use Rattle.count.specs.Walk.{StepIs, Stepped}
 use Rattle.count.proofs.Roots.{Roots, turns, roots-start, roots-step, step-less, roots-next, next-less, root-steps, roots-loop, roots-end}
-use Rattle.count.proofs.walk.Statement.{statement}
-use Rattle.count.proofs.walk.Tie as tie
-use Rattle.count.proofs.walk.Reads as reads
-use Rattle.count.proofs.walk.Lts as lts
-use Rattle.count.proofs.push.Reads as push-reads
-use Rattle.count.proofs.take_step.Reads as take-step-reads
+use Rattle.count.proofs.walk.walk.Statement.{statement}
+use Rattle.count.proofs.walk.walk.Tie as tie
+use Rattle.count.proofs.walk.walk.Reads as reads
+use Rattle.count.proofs.walk.walk.Lts as lts
+use Rattle.count.proofs.walk.push.Reads as push-reads
+use Rattle.count.proofs.walk.take_step.Reads as take-step-reads
 
 abbrev Inv-loop : tie.InvT-loop
 Inv-loop nodes counts₀ work₀ n roots₀ size₀ counts work roots size = Roots limit nodes counts₀ work₀ counts work roots size

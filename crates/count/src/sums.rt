@@ -1,0 +1,64 @@
+// The sum that gives a node its count, capped.
+ghost use mathlib.Core.Path.{_≡_};
+ghost use mathlib.Core.Bool.{false};
+ghost use Prim.Native.Nat.{_+_, _<_, _≤_, min};
+ghost use lib.ListN.{length, getD};
+ghost use Rattle.node.specs.Nodes.{KBWG, arc, accepts, isEnd, flag};
+ghost use Rattle.graph.specs.ChecksLaws.{Fit};
+ghost use Rattle.graph.specs.CountLaws.{byArc, byRun, sumAt};
+ghost use Rattle.count.specs.Said.{limit};
+use node::Node24;
+
+// The lowest count that is too many.
+pub(crate) const LIMIT: u32 = 4294967295;
+
+// The sum, or the limit where the sum is larger.
+fn capped_sum(a: u32, b: u32) -> u32
+    ensures { λ r. ⌜ r ≡ min (a + b) limit ⌝ }
+{
+    if LIMIT - b < a { LIMIT } else { a + b }
+}
+
+// The word that ends at the node itself.
+fn own_word(node: u32) -> u32
+    ensures { λ r. ⌜ r ≡ flag (accepts KBWG node) ⌝ }
+{
+    if Node24(node).accepts() { 1 } else { 0 }
+}
+
+// The words that go on by the node's arc.
+fn words_by_arc(counts: &[u32], node: u32) -> u32
+    requires { ⌜ arc KBWG node < length (now counts) ⌝ }
+    ensures { λ r. ⌜ r ≡ byArc KBWG (λ q. getD (now (counts .entry)) q 0) node ⌝ }
+{
+    let arc = Node24(node).arc_index() as usize;
+    if arc == 0 {
+        return 0;
+    }
+    counts[arc]
+}
+
+// The words of the nodes after node p in its run.
+fn words_by_run(counts: &[u32], node: u32, p: usize) -> u32
+    requires { ⌜ (isEnd KBWG node ≡ false → p + 1 < length (now counts)) ⌝ }
+    ensures { λ r. ⌜ r ≡ byRun KBWG (λ q. getD (now (counts .entry)) q 0) node p ⌝ }
+{
+    if Node24(node).is_end() {
+        return 0;
+    }
+    counts[p + 1]
+}
+
+// The count of p by the counts of the nodes that it leads to.
+pub(crate) fn count_at(nodes: &[u32], counts: &[u32], p: usize) -> u32
+    requires { ⌜ Fit (now nodes) ⌝ }
+    requires { ⌜ p < length (now nodes) ⌝ }
+    requires { ⌜ length (now nodes) ≤ length (now counts) ⌝ }
+    ensures { λ r. ⌜ r ≡ min (sumAt KBWG (now (nodes .entry)) (λ q. getD (now (counts .entry)) q 0) p) limit ⌝ }
+{
+    let node = nodes[p];
+    let own = own_word(node);
+    let below = words_by_arc(counts, node);
+    let after = words_by_run(counts, node, p);
+    capped_sum(capped_sum(own, below), after)
+}
