@@ -5,7 +5,7 @@ use Prim.Native.Nat.{ℕ, suc}
 use Rattle.node.specs.Answers.{Answer, gives, nothing, refused}
 use Rattle.node.specs.Nodes.{KBWG, isEnd}
 use Rattle.graph.specs.Runs.{Graph}
-use Rattle.lookup.specs.Steps.{on, answer, require, lentPart, lent}
+use Rattle.lookup.specs.Steps.{on, _>>=_, answer, require, lentPart, lent}
 
 -- "each step moves to the next node and answers it; at an end node it says done": done is none
 unfoldable pub stepIn : Graph → ℕ → Answer
