@@ -41,7 +41,7 @@ pub fn run_step(nodes: &[u32], at: u32) -> Stepped
 }
 
 // The same step with the node reached: the one answered, else the one before.
-pub fn step_from(nodes: &[u32], at: u32) -> Moved
+fn step_from(nodes: &[u32], at: u32) -> Moved
     ensures { λ r. ⌜ movedAs r ≡ moves (now (nodes .entry)) at ⌝ }
 {
     let answer = run_step(nodes, at);
