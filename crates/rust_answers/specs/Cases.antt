@@ -39,6 +39,11 @@ abbrev pub Held : Bytes → List ℕ → ℕ → List ℕ → Type 0
 Held (Bytes.Are count) case at bytes = (at + 1 + count ≤ length case) × (count ≤ length bytes)
 Held Bytes.Malformed case at bytes = Unit {0}
 
+-- the words that were copied are within the case and within the room
+abbrev pub Copied : Bool → List ℕ → ℕ → ℕ → List ℕ → Type 0
+Copied true case from count words = (from + count ≤ length case) × (count ≤ length words)
+Copied false case from count words = Unit {0}
+
 -- the most that the number at a place may be: its limit, and past the limits the same for all
 abbrev pub limitAt : List ℕ → ℕ → ℕ → ℕ
 limitAt limits at most = pick (ltb at (length limits)) (getD limits at 0) most

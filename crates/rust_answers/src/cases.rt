@@ -2,7 +2,7 @@
 // are read from it by their place, and an answer is compared with the stored one.
 use node::Layout;
 ghost use mathlib.Core.Path.{_≡_};
-ghost use Rattle.rust_answers.specs.Cases.{wordAt, byteAt, flagAt, limitAt, Held, Shaped, Answered, Decides, Agrees};
+ghost use Rattle.rust_answers.specs.Cases.{wordAt, byteAt, flagAt, limitAt, Held, Copied, Shaped, Answered, Decides, Agrees};
 ghost use Prim.Native.Nat.{_≤_};
 ghost use lib.ListN.{length};
 
@@ -17,6 +17,9 @@ pub const FLAG: u64 = 1;
 pub const DONE: u64 = 0;
 
 pub const NOT_WHOLE_NODES: u64 = 1;
+
+// Of a lookup: there is no such word.
+pub const NONE: u64 = 1;
 
 pub const DOES_NOT_FIT: u64 = 6;
 
@@ -135,6 +138,31 @@ pub(crate) fn bytes_at(case: &[u64], at: usize, bytes: &mut [u8]) -> Bytes
         i += 1;
     }
     Bytes::Are(count)
+}
+
+// Copies so many words from a place on, and answers whether the case has them.
+pub(crate) fn words_at(case: &[u64], from: usize, count: usize, words: &mut [u32]) -> bool
+    ensures { λ r. ⌜ Copied r (now (case .entry)) from count (now (words .exit)) ⌝ }
+{
+    if case.len() < from {
+        return false;
+    }
+    if words.len() < count {
+        return false;
+    }
+    if case.len() - from < count {
+        return false;
+    }
+    let mut i = 0;
+    while i < count {
+        let number = case[from + i];
+        if WORD < number {
+            return false;
+        }
+        words[i] = number as u32;
+        i += 1;
+    }
+    true
 }
 
 // Whether what stands from a place on is a number for each limit, none above its limit, then so

@@ -123,7 +123,7 @@ fn kind_of(stored: &[u64]) -> u64 {
     }
 }
 
-fn second_of(stored: &[u64]) -> usize {
+pub(crate) fn second_of(stored: &[u64]) -> usize {
     if stored.len() < 2 {
         0
     } else {
@@ -362,7 +362,7 @@ fn put_finished(finished: Finished, at: usize, account: &mut [u64]) -> usize
     }
 }
 
-fn put_two(kind: u64, number: u64, at: usize, account: &mut [u64]) -> usize
+pub(crate) fn put_two(kind: u64, number: u64, at: usize, account: &mut [u64]) -> usize
     ensures { λ r. ⌜ r ≤ length (now (account .exit)) ⌝ }
 {
     let after_kind = put(kind, at, account);

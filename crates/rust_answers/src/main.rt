@@ -4,6 +4,7 @@ mod cases;
 mod lines;
 mod loading;
 mod nodes;
+mod numbers;
 mod tally;
 
 use cases::Verdict;
@@ -112,6 +113,9 @@ fn verdict(call: u64, case: &[u64]) -> Verdict {
         3 => nodes::repack_node(case),
         4 => nodes::repack_in_place(case),
         5 => loading::load(case),
+        6 => numbers::count_words(case),
+        7 => numbers::word_to_number(case),
+        8 => numbers::number_to_word(case),
         _ => Verdict::Malformed,
     }
 }

@@ -4,7 +4,7 @@ use libc::STDOUT_FILENO;
 ghost use Prim.Native.Nat.{_<_};
 
 // One more than the highest number of a call.
-pub const CALLS: usize = 6;
+pub const CALLS: usize = 9;
 
 pub struct Tally {
     // The number of the line that is being read.
@@ -80,6 +80,9 @@ fn print_calls(cases: [u64; CALLS]) {
     print_cases(b"repack_node: ", cases[3]);
     print_cases(b"repack_in_place: ", cases[4]);
     print_cases(b"loading: ", cases[5]);
+    print_cases(b"counting: ", cases[6]);
+    print_cases(b"word to number: ", cases[7]);
+    print_cases(b"number to word: ", cases[8]);
 }
 
 fn print_cases(call: &[u8], cases: u64) {
