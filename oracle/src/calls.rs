@@ -1,6 +1,7 @@
 // The families of calls. A new family is a module and a line in FAMILIES.
 
 mod layout;
+mod letters;
 mod loading;
 mod nodes;
 mod numbers;
@@ -28,6 +29,7 @@ const FAMILIES: &[Family] = &[
     nodes::FAMILY,
     loading::FAMILY,
     numbers::FAMILY,
+    letters::FAMILY,
 ];
 
 pub fn find_list(name: &str) -> Option<&'static Family> {

@@ -116,6 +116,29 @@ fn the_words_of_the_sample_graph_have_numbers() {
 }
 
 #[test]
+fn the_runs_of_the_sample_graph_have_tiles() {
+    // Nodes 2 and 3 are a run of the tiles 1 and 2, of which 1 accepts.
+    let graph = "5 576 64 1153 1090 194";
+    let cases = [
+        ("9", "0 2", "0 3"),
+        ("9", "2 2", "0 4"),
+        ("9", "0 3", "1"),
+        ("10", "2", "1 3"),
+        ("10", "3", "0"),
+        ("12", "3 0 1 1", "1"),
+        ("12", "3 0 0 1", "0"),
+        ("13", "3 0 0 1", "7"),
+    ];
+    let mut requests = format!("11 {graph}\n");
+    let mut expected = format!("11 {graph} 1 1 6 4 4 0 0 2 0 4\n");
+    for (call, inputs, answer) in cases {
+        requests += &format!("{call} {graph} {inputs}\n");
+        expected += &format!("{call} {graph} {inputs} {answer}\n");
+    }
+    assert_eq!(answers(&requests).0, expected);
+}
+
+#[test]
 fn a_refusal_names_the_node_and_keeps_what_was_done() {
     // The second node has tile 64 and arc 3, and half a node comes after.
     let (list, _) = answers("4 0 1 10 1 0 64 5 3 0 0 64 7 7\n3 0 1 1073741827\n");
@@ -146,7 +169,7 @@ fn an_unreadable_request_stops_the_run() {
 
 #[test]
 fn the_lists_are_the_same_each_time_and_fully_answered() {
-    let asked = ["requests", "nodes", "loading", "numbers"];
+    let asked = ["requests", "nodes", "loading", "numbers", "letters"];
     let requests = text(oracle(&asked, "").stdout);
     assert_eq!(requests, text(oracle(&asked, "").stdout));
 

@@ -160,7 +160,7 @@ fn starts_as_stored(account: &[u64], stored: &[u64]) -> bool {
     }
 }
 
-fn has_at(account: &[u64], at: usize, numbers: &[u64]) -> bool
+pub(crate) fn has_at(account: &[u64], at: usize, numbers: &[u64]) -> bool
     ensures { λ r. ⌜ Decides r (HasAt (now (account .entry)) at (now (numbers .entry))) ⌝ }
 {
     if account.len() < at {

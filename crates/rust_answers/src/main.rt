@@ -6,6 +6,7 @@ mod loading;
 mod nodes;
 mod numbers;
 mod tally;
+mod tiles;
 
 use cases::Verdict;
 use lines::Ended;
@@ -116,6 +117,11 @@ fn verdict(call: u64, case: &[u64]) -> Verdict {
         6 => numbers::count_words(case),
         7 => numbers::word_to_number(case),
         8 => numbers::number_to_word(case),
+        9 => tiles::run_lookup(case),
+        10 => tiles::run_cursor(case),
+        11 => tiles::letter_bits(case),
+        12 => tiles::accepts_alpha(case),
+        13 => tiles::alpha_cross_set(case),
         _ => Verdict::Malformed,
     }
 }

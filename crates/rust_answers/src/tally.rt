@@ -4,7 +4,7 @@ use libc::STDOUT_FILENO;
 ghost use Prim.Native.Nat.{_<_};
 
 // One more than the highest number of a call.
-pub const CALLS: usize = 9;
+pub const CALLS: usize = 14;
 
 pub struct Tally {
     // The number of the line that is being read.
@@ -83,6 +83,11 @@ fn print_calls(cases: [u64; CALLS]) {
     print_cases(b"counting: ", cases[6]);
     print_cases(b"word to number: ", cases[7]);
     print_cases(b"number to word: ", cases[8]);
+    print_cases(b"run lookup: ", cases[9]);
+    print_cases(b"run cursor: ", cases[10]);
+    print_cases(b"letter bits: ", cases[11]);
+    print_cases(b"accepts_alpha: ", cases[12]);
+    print_cases(b"alpha cross set: ", cases[13]);
 }
 
 fn print_cases(call: &[u8], cases: u64) {
