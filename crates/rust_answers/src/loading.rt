@@ -51,7 +51,7 @@ const NODES: usize = 8193;
 const UNTOUCHED: u32 = 2779096485;
 
 // A longer file is not cut in two at every place.
-const CUT_EVERYWHERE: usize = 200;
+const CUT_EVERYWHERE: usize = 8000;
 
 // LAYOUT N and N bytes, then 0 COUNT and COUNT words, or 1, or 6 NODE TILE ARC, or 8 ARC, or 9.
 pub(crate) fn load(case: &[u64]) -> Verdict {
