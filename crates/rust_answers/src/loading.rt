@@ -50,9 +50,6 @@ const NODES: usize = 8193;
 // What a lent node is until a call writes it.
 const UNTOUCHED: u32 = 2779096485;
 
-// A longer file is not cut in two at every place.
-const CUT_EVERYWHERE: usize = 8000;
-
 // LAYOUT N and N bytes, then 0 COUNT and COUNT words, or 1, or 6 NODE TILE ARC, or 8 ARC, or 9.
 pub(crate) fn load(case: &[u64]) -> Verdict {
     let mut bytes = [0u8; ROOM];
@@ -206,7 +203,7 @@ fn clear(nodes: &mut [u32])
     }
 }
 
-// Whether the file cut in two, and the file in single bytes, come to the same account.
+// Whether the file cut in two at each place, and the file in single bytes, come to the same account.
 fn same_in_pieces(
     layout: Layout,
     bytes: &[u8],
@@ -214,30 +211,17 @@ fn same_in_pieces(
     nodes: &mut [u32],
     again: &mut [u64],
 ) -> bool {
-    let step = step_for(bytes.len());
     let mut cut = bytes.len();
-    while step <= cut {
+    while 0 < cut {
         if !same_cut(layout, bytes, cut, usize::MAX, account, nodes, again) {
             return false;
         }
-        cut -= step;
+        cut -= 1;
     }
-    if !same_cut(layout, bytes, cut, usize::MAX, account, nodes, again) {
+    if !same_cut(layout, bytes, 0, usize::MAX, account, nodes, again) {
         return false;
     }
     same_cut(layout, bytes, 0, 1, account, nodes, again)
-}
-
-// From one cut to the next: every place, or some 40 of a longer file. An odd step comes to each of
-// the four places within a node.
-fn step_for(bytes: usize) -> usize
-    ensures { λ r. ⌜ 1 ≤ r ⌝ }
-{
-    if bytes <= CUT_EVERYWHERE {
-        1
-    } else {
-        bytes / 80 * 2 + 1
-    }
 }
 
 fn same_cut(

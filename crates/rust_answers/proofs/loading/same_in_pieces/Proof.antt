@@ -7,13 +7,10 @@ use Rattle.rust_answers.proofs.loading.same_in_pieces.Statement.{statem
 use Rattle.rust_answers.proofs.loading.same_in_pieces.Tie as tie
 
 abbrev Inv-loop : tie.InvT-loop
-Inv-loop layout bytes account nodes₀ again₀ step cut₀ nodes again cut = (cut ≤ length bytes) × (length nodes ≡ length nodes₀) × (length again ≡ length again₀)
+Inv-loop layout bytes account nodes₀ again₀ cut₀ nodes again cut = (cut ≤ length bytes) × (length nodes ≡ length nodes₀) × (length again ≡ length again₀)
 
 abbrev μ-loop : tie.MeasureT-loop
-μ-loop layout bytes account nodes₀ again₀ step cut₀ nodes again cut = cut
-
-step-for-requires : tie.Need-step-for-requires Inv-loop μ-loop
-step-for-requires c κs = search needs
+μ-loop layout bytes account nodes₀ again₀ cut₀ nodes again cut = cut
 
 loop-holds : tie.Need-loop-holds Inv-loop μ-loop
 loop-holds c = search needs
@@ -29,6 +26,9 @@ same-length-2 c = search needs
 
 returns : tie.Need-returns Inv-loop μ-loop
 returns c = search needs
+
+sub-cut : tie.Need-sub-cut Inv-loop μ-loop
+sub-cut c = search needs
 
 loop-less : tie.Need-loop-less Inv-loop μ-loop
 loop-less c = search needs
@@ -66,12 +66,12 @@ same-in-pieces-spec =
     (tie.spec
     Inv-loop
     μ-loop
-    step-for-requires
     loop-holds
     same-cut-requires
     same-length
     same-length-2
     returns
+    sub-cut
     loop-less
     loop-again
     same-cut-requires-2
