@@ -23,7 +23,7 @@ use Rattle.lookup.specs.Steps.{Try, on, stop}
 use Rattle.numbers.specs.Walkable.{Walkable}
 use Rattle.numbers.specs.RunWords.{words-run, words-end, words-on}
 use Rattle.numbers.specs.TileSearch.{nonempty, only-here}
-use Rattle.letters.specs.TileSets.{marked}
+use Rattle.laws.specs.BitSets.{marked}
 use Rattle.letters.specs.AlphaSets.{closing, completes, along, crossCopies, crossLetters}
 use Rattle.alphagrams.specs.Alphagrams.{alphagramFrom, NeverDescends, ReadBelow}
 use Rattle.alphagrams.specs.InsertLaws.{insert, insert-low, insert-high, starts}

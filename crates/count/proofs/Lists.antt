@@ -6,7 +6,7 @@ use native.Mathlib.Omega.{arith}
 use native.Mathlib.Numerals.{add-one}
 use lib.ListN.{length, getD, set, drop, replicate, length-append, length-drop, length-set, length-replicate, getD-replicate, replicate-append-replicate, List·getD-append}
 use lib.Seq.{drop-cons, drop-drop, drop-at, drop-set-lt, set-at, append-snoc}
-use Rattle.count.specs.Work.{Kept}
+use Rattle.graph.specs.Lent.{Kept}
 use Rattle.count.specs.Walk.{zeroed}
 
 pub kept-all : (n : ℕ) (l : List ℕ) → Kept n l l

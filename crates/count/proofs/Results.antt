@@ -16,7 +16,7 @@ use Rattle.graph.specs.Words.{count}
 use Rattle.graph.specs.LoopLaws.{reach-inside}
 use Rattle.graph.specs.CountLaws.{begins-with-table}
 use Rattle.graph.specs.Counting.{table, Loopless, countRow, Counted, unfit, loop, many, all}
-use Rattle.count.specs.Work.{Kept, WorkKept}
+use Rattle.graph.specs.Lent.{Kept, WorkKept, work-untouched}
 use Rattle.count.specs.Walk.{mark, isMet, isDone, Walk, AllDone, LoopFound, ReachesIs, zeroed}
 use Rattle.count.proofs.Lists.{kept-all, zeroed-of-kept}
 use Rattle.count.proofs.Rows.{counts-room}
@@ -24,12 +24,8 @@ use Rattle.count.proofs.Tally.{tally-zero}
 
 -- a refusal before the walk leaves both lists as they were
 pub unfit-answer : (limit : ℕ) (g : Graph) (c w : List ℕ) {r : Answer} → firstOf (countRow g (length c) (length w)) ≡ some r
-    → Counted limit g c (length w) r c × WorkKept g (length c) w w
-unfit-answer limit g c w e = (unfit e, record { past = kept-all (2 * length g) w; untouched = λ _. refl })
-
-pub walked-work : (g : Graph) (counts : ℕ) (w w′ : List ℕ) → firstOf (countRow g counts (length w)) ≡ none → Kept (2 * length g) w w′
-    → WorkKept g counts w w′
-walked-work g counts w w′ fit k = record { past = k; untouched = λ e. some≢none (sym e ∙ fit) }
+    → Counted limit g c (length w) r c × WorkKept (countRow g (length c) (length w)) (2 * length g) w w
+unfit-answer limit g c w e = (unfit e, work-untouched refl)
 
 -- the walk begins with all marks 0
 pub walk-start : (limit : ℕ) (g : Graph) (c w : List ℕ) → 2 * length g ≤ length w → length g ≤ length c

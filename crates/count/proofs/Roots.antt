@@ -7,7 +7,7 @@ use native.Mathlib.Omega.{arith}
 use lib.ListN.{length}
 use Rattle.graph.specs.Runs.{Graph}
 use Rattle.graph.specs.ChecksLaws.{Fit}
-use Rattle.count.specs.Work.{Kept}
+use Rattle.graph.specs.Lent.{Kept}
 use Rattle.count.specs.Walk.{mark, pushed, mets, dones, Done, Walk, Stepped, AllDone, LoopFound}
 use Rattle.count.proofs.Lists.{kept-all, kept-then}
 use Rattle.count.proofs.Tally.{same?, mets-le, dones-le}

@@ -9,7 +9,7 @@ use Rattle.node.specs.Nodes.{KBWG}
 use Rattle.graph.specs.Runs.{Graph}
 use Rattle.graph.specs.Words.{count}
 use Rattle.graph.specs.Loops.{Step, Loops, Clear}
-use Rattle.count.specs.Work.{Kept}
+use Rattle.graph.specs.Lent.{Kept}
 use Rattle.count.specs.declared.walk.Found.{Found}
 use Rattle.count.specs.declared.walk.Found.the-variants.{Nothing, At}
 use Rattle.count.specs.declared.walk.AfterStep.{AfterStep}

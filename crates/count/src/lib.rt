@@ -9,8 +9,8 @@ ghost use Prim.Native.Nat.{_*_};
 ghost use lib.ListN.{length};
 ghost use Rattle.node.specs.Answers.{firstOf};
 ghost use Rattle.graph.specs.Counting.{Counted as IsCounted, countRow};
+ghost use Rattle.graph.specs.Lent.{Kept, WorkKept};
 ghost use Rattle.count.specs.Said.{limit, said};
-ghost use Rattle.count.specs.Work.{Kept, WorkKept};
 use counts::clear;
 use counts::reaches_limit;
 use graph::NodesCheck;
@@ -53,7 +53,7 @@ fn count_checked(nodes: &[u32], counts: &mut [u32], work: &mut [u32]) -> Counted
 // Puts the number of words from each node into counts.
 pub fn count_words(nodes: &[u32], counts: &mut [u32], work: &mut [u32]) -> Counted
     ensures counted { λ r. ⌜ IsCounted limit (now (nodes .entry)) (now (counts .entry)) (length (now (work .entry))) (said r) (now (counts .exit)) ⌝ }
-    ensures free { λ r. ⌜ WorkKept (now (nodes .entry)) (length (now (counts .entry))) (now (work .entry)) (now (work .exit)) ⌝ }
+    ensures free { λ r. ⌜ WorkKept (countRow (now (nodes .entry)) (length (now (counts .entry))) (length (now (work .entry)))) (2 * length (now (nodes .entry))) (now (work .entry)) (now (work .exit)) ⌝ }
 {
     let n = nodes.len();
     if n < 2 {

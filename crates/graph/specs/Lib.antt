@@ -2,6 +2,7 @@ pub mod Runs
 pub mod Words
 pub mod Order
 pub mod Loops
+pub mod Lent
 pub mod Checks
 pub mod ChecksLaws
 pub mod Counting

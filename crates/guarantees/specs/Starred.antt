@@ -4,26 +4,37 @@ use mathlib.Core.Path.{_≡_, refl}
 use mathlib.Core.List.{List, [], _∷_, map}
 use Prim.Native.Nat.{ℕ}
 use lib.ListN.{getD}
+use Rattle.laws.specs.BitSets.{bitSet}
 use Rattle.laws.specs.Lists.{All}
+use Rattle.laws.specs.Sorting.{insertedAll}
 use Rattle.node.specs.Nodes.{KWG, KBWG, fits}
 use Rattle.node.specs.Answers.{Answer, gives, nothing, firstOf}
 use Rattle.node.specs.declared.Layout.the-variants.{Kwg}
 use Rattle.graph.specs.Runs.{Graph, run, largestArc, lastEnds}
-use Rattle.graph.specs.Words.{Word, inOrder, spelled, wordsWithin, words}
+use Rattle.graph.specs.Words.{Word, inOrder, spelled, wordsWithin, words, count}
 use Rattle.graph.specs.Counting.{table, counts}
-use Rattle.load.specs.Bytes.{wholeNodes, partNode}
+use Rattle.endian.specs.Bytes.{wholeNodes, partNode}
 use Rattle.load.specs.Repacking.{fitting, firstMisfit}
 use Rattle.load.specs.Loading.{begin, feed, finish, holding, stateAfter, nodesAfter, zeros}
 use Rattle.lookup.specs.Steps.{lent, difference, sum}
 use Rattle.lookup.specs.Walks.{findIn, passed, indexFrom, wordIndex, wordsHere, turnIn, wordFrom, wordByIndex, stepTo}
-use Rattle.letters.specs.TileSets.{tileSet}
 use Rattle.letters.specs.LetterBits.{letterBits, filled, tilesOf}
 use Rattle.letters.specs.AlphaSets.{copies, spent, ended, completes, closing, along, crossCopies, crossLetters, crossFrom, crossSet}
 use Rattle.pieces.specs.Pieces.{Loads, loadWhole, oneFeed}
+use Rattle.export.specs.Starts.{start}
+use Rattle.export.specs.Blocks.{met, blockAt}
+use Rattle.export.specs.Latin1.{byteOf}
+use Rattle.macondo_file.specs.Alphabet.{letters, letterOf}
+use Rattle.macondo_file.specs.File.{dawg, arcsOf, setOf, blocks, sets, blockOf, macondoNodes}
+use Rattle.lxd_file.specs.File.{runs, child, lxdNode, lxdNodes}
 
 -- "G in KBWG words (hexadecimal): 240, 40, 481, 442, C2"
 abbrev pub G : Graph
 G = 0x240 ∷ 0x40 ∷ 0x481 ∷ 0x442 ∷ 0xC2 ∷ []
+
+-- "tiles 1 and 2 are labelled A, B, tile 0 `?`"
+abbrev pub labels : List ℕ
+labels = 0x3F ∷ 0x41 ∷ 0x42 ∷ []
 
 -- what a load answers at its end, and the nodes
 abbrev loaded : Loads → Answer × Graph
@@ -74,8 +85,20 @@ cases =
     ∷ record { Side = Answer; found = crossSet G (0 ∷ 1 ∷ []); expected = gives (5 ∷ []) }
     -- "Of one B: 7."
     ∷ record { Side = Answer; found = crossSet G (0 ∷ 0 ∷ 1 ∷ []); expected = gives (7 ∷ []) }
+    -- "Macondo nodes: 02000000 00000003 01000003 00000001; sets 1, 2."
+    ∷ record {
+      Side = List ℕ × List ℕ;
+      found = (macondoNodes G labels dawg, sets G labels dawg);
+      expected = (0x02000000 ∷ 0x00000003 ∷ 0x01000003 ∷ 0x00000001 ∷ [], 1 ∷ 2 ∷ []);
+    }
+    -- "LXD nodes: 8A800000 8A800002 50400004 90800004 D0800000; 3 words."
+    ∷ record {
+      Side = List ℕ × ℕ;
+      found = (lxdNodes G labels, count KBWG G (start G 0));
+      expected = (0x8A800000 ∷ 0x8A800002 ∷ 0x50400004 ∷ 0x90800004 ∷ 0xD0800000 ∷ [], 3);
+    }
     ∷ []
 
 pub starred : All Holds cases
-unfolding cases fits fitting run inOrder spelled wordsWithin words table loadWhole oneFeed begin feed finish firstOf holding stateAfter nodesAfter wholeNodes partNode firstMisfit zeros largestArc lastEnds lent difference sum findIn passed indexFrom wordIndex wordsHere turnIn wordFrom wordByIndex stepTo tileSet letterBits filled tilesOf copies spent ended completes closing along crossCopies crossLetters crossFrom crossSet
-starred = (refl, (refl, (refl, (refl, (refl, (refl, (refl, (refl, (refl, tt)))))))))
+unfolding cases fits fitting run inOrder spelled wordsWithin words table loadWhole oneFeed begin feed finish firstOf holding stateAfter nodesAfter wholeNodes partNode firstMisfit zeros largestArc lastEnds lent difference sum findIn passed indexFrom wordIndex wordsHere turnIn wordFrom wordByIndex stepTo bitSet letterBits filled tilesOf copies spent ended completes closing along crossCopies crossLetters crossFrom crossSet insertedAll met blockAt letters letterOf arcsOf setOf blocks sets blockOf macondoNodes byteOf runs child lxdNode lxdNodes
+starred = (refl, (refl, (refl, (refl, (refl, (refl, (refl, (refl, (refl, (refl, (refl, tt)))))))))))

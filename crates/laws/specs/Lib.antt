@@ -1,5 +1,9 @@
 pub mod Bits
+pub mod BitSets
 pub mod Cases
+pub mod Firsts
 pub mod Lists
+pub mod Members
 pub mod Sets
+pub mod Sorting
 pub mod Without

@@ -1,4 +1,4 @@
--- What holds of every entry of a list, the entries that pass a test, and whether a number is among them.
+-- What holds of every entry of a list, the entries that pass a test, whether a number is among them, and lists joined.
 use mathlib.Core.Path.{sym, subst}
 use mathlib.Core.Bool.{Bool, true, false, _||_}
 use mathlib.Core.Logic.{⊎-elim}
@@ -29,3 +29,13 @@ kept f (x ∷ xs) = elim (f x) [ true ↦ x ∷ kept f xs | false ↦ kept f xs 
 abbrev pub member : ℕ → List ℕ → Bool
 member x [] = false
 member x (y ∷ ys) = eqb x y || member x ys
+
+-- whether some entry passes
+abbrev pub someOf : {A : Type 0} → (A → Bool) → List A → Bool
+someOf f [] = false
+someOf f (x ∷ xs) = f x || someOf f xs
+
+-- the lists one after the other
+abbrev pub joinAll : {A : Type 0} → List (List A) → List A
+joinAll [] = []
+joinAll (x ∷ xs) = x ++ joinAll xs

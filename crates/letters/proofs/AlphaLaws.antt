@@ -17,7 +17,7 @@ use Rattle.graph.specs.Runs.{Graph, node}
 use Rattle.lookup.specs.Steps.{Try, on, stop, _>>=_, answer}
 use Rattle.lookup.specs.Walks.{stepTo}
 use Rattle.lookup.specs.WalkLaws.{lent-on, lent-out}
-use Rattle.letters.specs.TileSets.{marked}
+use Rattle.laws.specs.BitSets.{marked}
 use Rattle.letters.specs.AlphaSets.{tallyRow, copies, spent, ended, completes, closing, along, crossCopies, crossLetters, crossFrom}
 
 -- ---- the row

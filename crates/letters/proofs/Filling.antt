@@ -16,7 +16,7 @@ use Rattle.node.specs.RowLaws.{row-refuses, row-passes, row-ends}
 use Rattle.node.specs.Nodes.{KBWG, tile, isEnd}
 use Rattle.graph.specs.Runs.{Graph, node, run}
 use Rattle.graph.specs.Counting.{table}
-use Rattle.letters.specs.TileSets.{marked, tileSet}
+use Rattle.laws.specs.BitSets.{marked, bitSet}
 use Rattle.letters.specs.LetterBits.{tilesOf, perNode, filled, bitsRow, lettered, letterBits, carry}
 
 -- ---- the row
@@ -47,12 +47,12 @@ runAfter v vs = elim (isEnd KBWG v) [ true ↦ [] | false ↦ run KBWG vs ]
 
 module _ (test : ℕ → Bool) where
   tiles-with : (v : ℕ) (vs : Graph)
-      → tileSet (map (tile KBWG) (kept test (v ∷ vs))) ≡ marked (tileSet (map (tile KBWG) (kept test vs))) (tile KBWG v) (test v)
-  unfolding tileSet
+      → bitSet (map (tile KBWG) (kept test (v ∷ vs))) ≡ marked (bitSet (map (tile KBWG) (kept test vs))) (tile KBWG v) (test v)
+  unfolding bitSet
   tiles-with v vs = split (test v) (λ y. rw (y, kept)) (λ y. rw (y, kept))
 
-  tiles-after : (v : ℕ) (vs : Graph) → tileSet (map (tile KBWG) (kept test (runAfter v vs))) ≡ carry (tilesOf test vs) v
-  unfolding tilesOf tileSet
+  tiles-after : (v : ℕ) (vs : Graph) → bitSet (map (tile KBWG) (kept test (runAfter v vs))) ≡ carry (tilesOf test vs) v
+  unfolding tilesOf bitSet
   tiles-after v vs = split (isEnd KBWG v) (λ e. rw (e, runAfter, carry)) (λ e. rw (e, runAfter, carry))
 
   tiles-step : (v : ℕ) (vs : Graph) → tilesOf test (v ∷ vs) ≡ marked (carry (tilesOf test vs) v) (tile KBWG v) (test v)
@@ -71,7 +71,7 @@ pub record Filling (test : ℕ → Bool) (g : Graph) (l₀ l : List ℕ) (s i : 
 
 module _ {test : ℕ → Bool} {g : Graph} {l₀ : List ℕ} where
   pub filling-start : Filling test g l₀ l₀ 0 (length g)
-  unfolding tilesOf tileSet run table
+  unfolding tilesOf bitSet run table
   filling-start =
       let d = drop-of-length-le g {i = length g} (omega arith) in
       record { set-is = ap (tilesOf test) (sym d); list-is = ap (λ k. sets l₀ (length g) (perNode test k)) (sym d) }

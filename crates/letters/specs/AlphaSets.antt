@@ -10,7 +10,7 @@ use Rattle.node.specs.Nodes.{tile, arc, accepts, KBWG, isEnd, flag}
 use Rattle.graph.specs.Runs.{Graph}
 use Rattle.lookup.specs.Steps.{Try, on, stop, _>>=_, answer, lentPart, lent}
 use Rattle.lookup.specs.Walks.{stepTo}
-use Rattle.letters.specs.TileSets.{marked}
+use Rattle.laws.specs.BitSets.{marked}
 
 -- "17+ tally over 64"
 abbrev pub tallyRow : List ℕ → Row

@@ -10,12 +10,12 @@ use Rattle.node.specs.Answers.{Answer, gives, refused, Row, firstOf}
 use Rattle.node.specs.Nodes.{tile, accepts, KBWG, isEnd}
 use Rattle.graph.specs.Runs.{Graph, run}
 use Rattle.graph.specs.Counting.{table}
-use Rattle.letters.specs.TileSets.{tileSet}
+use Rattle.laws.specs.BitSets.{bitSet}
 
 -- "from it to its run's end, or to the last lent node where no end comes": the tiles of the nodes that pass a test, in the run that
 -- begins at the head of the nodes left
 unfoldable pub tilesOf : (ℕ → Bool) → Graph → ℕ
-tilesOf test vs = tileSet (map (tile KBWG) (kept test (run KBWG vs)))
+tilesOf test vs = bitSet (map (tile KBWG) (kept test (run KBWG vs)))
 
 -- "per node"
 abbrev pub perNode : (ℕ → Bool) → Graph → List ℕ

@@ -1,4 +1,3 @@
-pub mod TileSets
 pub mod LetterBits
 pub mod AlphaSets
 pub mod Said

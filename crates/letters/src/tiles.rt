@@ -1,7 +1,7 @@
 // A set of tiles in 64 bits: bit t stands for tile t.
 ghost use mathlib.Core.Path.{_≡_};
 ghost use Rattle.node.specs.Nodes.{KBWG, tile};
-ghost use Rattle.letters.specs.TileSets.{marked as mark};
+ghost use Rattle.laws.specs.BitSets.{marked as mark};
 
 // The set with the tile of node v, where that is asked.
 pub(crate) fn marked(set: u64, v: u32, yes: bool) -> u64

@@ -9,8 +9,8 @@ use lib.Seq.{sets, drop-set-lt}
 use Rattle.node.specs.Answers.{Answer, gives, refused}
 use Rattle.node.specs.Nodes.{Places}
 use Rattle.node.specs.Said.{repackNodeAnswer}
-use Rattle.load.specs.Bytes.{toBytes, wholeNodes, nodeBytes}
-use Rattle.load.specs.BytesLaws.{nodeAt}
+use Rattle.endian.specs.Bytes.{toBytes, wholeNodes, nodeBytes}
+use Rattle.endian.specs.BytesLaws.{nodeAt}
 use Rattle.load.specs.Repacking.{firstMisfit, fitting, misfitAnswer}
 use Rattle.load.specs.RepackingLaws.{next-fits, next-stops, none-left}
 

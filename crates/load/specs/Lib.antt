@@ -1,5 +1,3 @@
-pub mod Bytes
-pub mod BytesLaws
 pub mod Repacking
 pub mod RepackingLaws
 pub mod Loading

@@ -13,7 +13,7 @@ use Rattle.node.specs.Said.{placesOf}
 use Rattle.node.specs.declared.Layout.{Layout}
 use Rattle.graph.specs.Runs.{Graph}
 use Rattle.graph.specs.Checks.{nodesRow}
-use Rattle.load.specs.Bytes.{wholeNodes, partNode}
+use Rattle.endian.specs.Bytes.{wholeNodes, partNode}
 use Rattle.load.specs.Repacking.{Misfit, firstMisfit, fitting, misfitAnswer, misfitOf}
 use Rattle.load.specs.declared.repack.Repacked.the-variants.{Whole, DoesNotFit}
 use Rattle.load.specs.declared.loader.Loader.{Loader}

@@ -11,8 +11,8 @@ use Rattle.node.specs.Nodes.{KBWG}
 use Rattle.node.specs.Said.{placesOf, repackNodeAnswer}
 use Rattle.node.specs.declared.Layout.{Layout}
 use Rattle.graph.specs.Runs.{Graph}
-use Rattle.load.specs.Bytes.{partNode}
-use Rattle.load.specs.BytesLaws.{nodeAt, part-next, part-whole}
+use Rattle.endian.specs.Bytes.{partNode}
+use Rattle.endian.specs.BytesLaws.{nodeAt, part-next, part-whole}
 use Rattle.load.specs.Repacking.{Misfit, misfit}
 use Rattle.load.specs.RepackingLaws.{next-fits, next-stops, none-left}
 use Rattle.load.specs.Loading.{holding, stopped, misfitIn, stateAt, stateAfter, nodesAfter, fresh}

@@ -6,7 +6,7 @@ use Prim.Native.Nat.{ℕ, suc}
 use lib.Seq.{sets}
 use Rattle.node.specs.Answers.{Answer, gives, refused}
 use Rattle.node.specs.Nodes.{Places, fields, tile, arc, fits, packed}
-use Rattle.load.specs.Bytes.{wholeNodes, nodeBytes}
+use Rattle.endian.specs.Bytes.{wholeNodes, nodeBytes}
 use Rattle.load.specs.declared.repack.Repacked.{Repacked}
 use Rattle.load.specs.declared.repack.Repacked.the-variants.{Whole, DoesNotFit}
 

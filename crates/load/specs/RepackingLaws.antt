@@ -11,8 +11,8 @@ use Rattle.node.specs.Answers.{gives, refused}
 use Rattle.node.specs.Nodes.{Places, Tile, Arc, fields, fits, packed}
 use Rattle.node.specs.Said.{repackNodeAnswer}
 use Rattle.node.specs.SaidLaws.{told-node, told-misfit}
-use Rattle.load.specs.Bytes.{wholeNodes}
-use Rattle.load.specs.BytesLaws.{nodeAt, whole-next, whole-none}
+use Rattle.endian.specs.Bytes.{wholeNodes}
+use Rattle.endian.specs.BytesLaws.{nodeAt, whole-next, whole-none}
 use Rattle.load.specs.Repacking.{Misfit, misfit, firstMisfit, fitting}
 
 module _ (old new : Places) where

@@ -11,8 +11,8 @@ use Rattle.laws.specs.Cases.{split, isSome, is-none}
 use Rattle.node.specs.Answers.{refused, firstOf}
 use Rattle.node.specs.RowLaws.{row-refuses, row-passes, row-ends, row-passed}
 use Rattle.node.specs.declared.Layout.{Layout}
-use Rattle.load.specs.Bytes.{partNode}
-use Rattle.load.specs.BytesLaws.{part-drop, length-part}
+use Rattle.endian.specs.Bytes.{partNode}
+use Rattle.endian.specs.BytesLaws.{part-drop, length-part}
 use Rattle.load.specs.Repacking.{Misfit, misfitOf}
 use Rattle.load.specs.declared.repack.Repacked.the-variants.{Whole}
 use Rattle.load.specs.Loading.{zeros, beginRow, soundRow, places, holding, stopped, misfitIn, stateAt, stateAfter}

@@ -4,7 +4,7 @@ ghost use mathlib.Core.List.{_++_};
 ghost use Prim.Native.Nat.{_+_, _<_, _≤_};
 ghost use lib.ListN.{length, getD, take, drop};
 ghost use lib.Seq.{sets};
-ghost use Rattle.load.specs.BytesLaws.{nodeAt};
+ghost use Rattle.endian.specs.BytesLaws.{nodeAt};
 ghost use Rattle.load.specs.Loading.{zeros};
 
 // Whether the places from at on are 0.
@@ -52,5 +52,5 @@ pub(crate) fn joined_node(held: [u8; 3], count: usize, piece: &[u8]) -> u32
     let b = joined_byte(held, count, piece, 1);
     let c = joined_byte(held, count, piece, 2);
     let d = joined_byte(held, count, piece, 3);
-    crate::bytes::from_le_bytes(a, b, c, d)
+    endian::from_le_bytes(a, b, c, d)
 }

@@ -1,5 +1,4 @@
 // Files of word graphs: loaded piece by piece, or repacked from one layout to the other.
-mod bytes;
 mod held;
 mod loader;
 mod repack;

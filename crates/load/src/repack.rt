@@ -24,10 +24,10 @@ pub fn repack_in_place(bytes: &mut [u8], from: Layout, to: Layout) -> Repacked
 {
     let mut i: usize = 0;
     while 4 <= bytes.len() - i {
-        let old = crate::bytes::read_le_u32(bytes, i);
+        let old = endian::read_le_u32(bytes, i);
         match node::repack_node(from, to, old) {
             Packed::Node(new) => {
-                crate::bytes::write_le_u32(bytes, i, new);
+                endian::write_le_u32(bytes, i, new);
             }
             Packed::DoesNotFit { tile, arc_index } => {
                 return Repacked::DoesNotFit {
@@ -51,7 +51,7 @@ pub(crate) fn repack_into(nodes: &mut [u32], at: usize, bytes: &[u8], from: Layo
     let mut i: usize = 0;
     let mut k = at;
     while 4 <= bytes.len() - i {
-        let old = crate::bytes::read_le_u32(bytes, i);
+        let old = endian::read_le_u32(bytes, i);
         match node::repack_node(from, Layout::Kbwg, old) {
             Packed::Node(new) => {
                 nodes[k] = new;

@@ -13,8 +13,8 @@ use Rattle.node.specs.Nodes.{Places, KBWG, fields, fits}
 use Rattle.node.specs.Said.{placesOf}
 use Rattle.node.specs.declared.Layout.{Layout}
 use Rattle.graph.specs.Runs.{Graph}
-use Rattle.load.specs.Bytes.{wholeNodes, partNode}
-use Rattle.load.specs.BytesLaws.{length-whole, length-part}
+use Rattle.endian.specs.Bytes.{wholeNodes, partNode}
+use Rattle.endian.specs.BytesLaws.{length-whole, length-part}
 use Rattle.load.specs.Repacking.{Misfit, firstMisfit, fitting}
 use Rattle.load.specs.RepackingLaws.{fitting-next, fitting-stops, misfit-later, misfit-here}
 use Rattle.load.specs.Loading.{places, zeros, holding, misfitIn, stateAt, stateAfter, nodesAfter}

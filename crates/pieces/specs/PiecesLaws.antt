@@ -15,8 +15,8 @@ use Rattle.node.specs.Nodes.{KBWG}
 use Rattle.node.specs.Said.{placesOf}
 use Rattle.node.specs.declared.Layout.{Layout}
 use Rattle.graph.specs.Runs.{Graph}
-use Rattle.load.specs.Bytes.{wholeNodes, partNode}
-use Rattle.load.specs.BytesLaws.{length-whole, length-part}
+use Rattle.endian.specs.Bytes.{wholeNodes, partNode}
+use Rattle.endian.specs.BytesLaws.{length-whole, length-part}
 use Rattle.load.specs.Repacking.{Misfit, firstMisfit, fitting, misfitAnswer}
 use Rattle.load.specs.RepackingLaws.{misfit-within}
 use Rattle.load.specs.Loading.{beginRow, soundRow, begin, start, Feeds, feed, zeros, holding, stopped, misfitIn, stateAfter, nodesAfter}

@@ -13,7 +13,7 @@ use Rattle.graph.specs.Counting.{Counted}
 use Rattle.count.specs.declared.walk.Found.{Found}
 use Rattle.count.specs.declared.walk.Found.the-variants.{Nothing, At}
 use Rattle.count.specs.Said.{limit}
-use Rattle.count.specs.Work.{Kept}
+use Rattle.graph.specs.Lent.{Kept}
 use Rattle.count.specs.Walk.{WalkedIs, ReachesIs}
 use Rattle.count.proofs.Lists.{zeroed-at, zeroed-kept, kept-then, kept-further}
 use Rattle.count.proofs.Rows.{counts-room, work-room, passed}

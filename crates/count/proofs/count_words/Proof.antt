@@ -9,7 +9,8 @@ use Rattle.graph.specs.Checks.{refusal, nodesRow}
 use Rattle.graph.specs.Counting.{countRow}
 use Rattle.count.specs.Said.{limit}
 use Rattle.count.proofs.Rows.{too-few-nodes, too-many-nodes, nodes-refused, counts-short, work-short, row-clear}
-use Rattle.count.proofs.Results.{unfit-answer, walked-work}
+use Rattle.graph.specs.Lent.{work-walked}
+use Rattle.count.proofs.Results.{unfit-answer}
 use borrow.Author.Needs.{needs}
 use Rattle.count.proofs.count_words.Statement.{statement}
 use Rattle.count.proofs.count_words.Tie as tie
@@ -89,7 +90,7 @@ same-length-2 : tie.Need-same-length-2
 same-length-2 c = search needs
 
 returns-7 : tie.Need-returns-7
-returns-7 c = let a = c .before .before .before .before .count-checked in (a .ensures .0, walked-work _ _ _ _ (fit (c .before .before .before .before .before .before .before)) (a .ensures .1))
+returns-7 c = let a = c .before .before .before .before .count-checked in (a .ensures .0, work-walked (fit (c .before .before .before .before .before .before .before)) (a .ensures .1))
 
 pub count-words-spec : {M : Type 1} → statement M
 count-words-spec =

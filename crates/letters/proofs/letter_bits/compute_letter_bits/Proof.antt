@@ -9,7 +9,7 @@ use lib.ListN.{length}
 use Rattle.node.specs.Answers.{gives}
 use Rattle.node.specs.Nodes.{KBWG, tile, accepts}
 use Rattle.graph.specs.Runs.{node}
-use Rattle.letters.specs.TileSets.{marked}
+use Rattle.laws.specs.BitSets.{marked}
 use Rattle.letters.specs.LetterBits.{every}
 use Rattle.letters.proofs.Filling.{Filling, filling-start, filling-length, filling-step, filling-done, all-short, accepting-short, long-enough}
 use Rattle.letters.proofs.letter_bits.compute_letter_bits.Statement.{statement}

@@ -9,7 +9,7 @@ use lib.Bits.{bitOr}
 use lib.Dec.{lit<}
 use lib.Pow.{shl-exact}
 use Rattle.node.specs.Nodes.{KBWG, tile}
-use Rattle.letters.specs.TileSets.{marked}
+use Rattle.laws.specs.BitSets.{marked}
 use Rattle.letters.proofs.tiles.marked.Statement.{statement}
 use Rattle.letters.proofs.tiles.marked.Tie as tie
 

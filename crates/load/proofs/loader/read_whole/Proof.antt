@@ -5,8 +5,8 @@ use lib.ListN.{length, drop, length-drop}
 use lib.Seq.{take-all}
 use Rattle.node.specs.Nodes.{KBWG}
 use Rattle.node.specs.Said.{placesOf}
-use Rattle.load.specs.Bytes.{wholeNodes}
-use Rattle.load.specs.BytesLaws.{length-whole}
+use Rattle.endian.specs.Bytes.{wholeNodes}
+use Rattle.endian.specs.BytesLaws.{length-whole}
 use Rattle.load.specs.Repacking.{misfitOf}
 use Rattle.load.specs.RepackingLaws.{misfit-within}
 use Rattle.load.specs.Loading.{places}

@@ -12,7 +12,7 @@ use Rattle.load.proofs.repack.repack_into.Statement.{statement}
 use Rattle.load.proofs.repack.repack_into.Tie as tie
 use Rattle.load.proofs.repack.repack_into.Reads as reads
 use Rattle.load.proofs.repack.repack_into.Lts as lts
-use Rattle.load.proofs.bytes.read_le_u32.Reads as read-le-u32-reads
+use Rattle.endian.proofs.read_le_u32.Reads as read-le-u32-reads
 use Rattle.node.proofs.repack_node.Reads as repack-node-reads
 
 abbrev Inv-loop : tie.InvT-loop

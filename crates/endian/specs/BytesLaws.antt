@@ -6,7 +6,7 @@ use native.Mathlib.Omega.{arith}
 use native.Mathlib.Numerals.{add-one, add-two, add-three, add-four}
 use lib.ListN.{length, getD, drop, length-drop}
 use lib.Seq.{drop-cons}
-use Rattle.load.specs.Bytes.{fromBytes, wholeNodes, partNode}
+use Rattle.endian.specs.Bytes.{fromBytes, wholeNodes, partNode}
 
 -- the node that begins at byte i
 abbrev pub nodeAt : List ℕ → ℕ → ℕ

@@ -2,10 +2,10 @@ use native.Mathlib.Omega.{arith}
 use native.Mathlib.Numerals.{add-one, add-two, add-three}
 use lib.ListN.{length-set}
 use borrow.Author.Needs.{needs}
-use Rattle.load.proofs.bytes.write_le_u32.Statement.{statement}
-use Rattle.load.proofs.bytes.write_le_u32.Tie as tie
-use Rattle.load.proofs.bytes.write_le_u32.Reads as reads
-use Rattle.load.proofs.bytes.write_le_u32.Lts as lts
+use Rattle.endian.proofs.write_le_u32.Statement.{statement}
+use Rattle.endian.proofs.write_le_u32.Tie as tie
+use Rattle.endian.proofs.write_le_u32.Reads as reads
+use Rattle.endian.proofs.write_le_u32.Lts as lts
 
 cast-bytes : tie.Need-cast-bytes
 cast-bytes c = search needs

@@ -1,0 +1,35 @@
+use native.Mathlib.Omega.{arith}
+use mathlib.Core.Path.{_≡_, ap, sym, _∙_}
+use mathlib.Core.List.{List}
+use Prim.Native.Nat.{ℕ, _+_}
+use lib.Seq.{sets}
+use Rattle.endian.specs.Bytes.{bigEndian}
+use Rattle.endian.specs.BigLaws.{halves}
+use Rattle.laws.specs.Sets.{sets-append}
+use borrow.Author.Needs.{needs}
+use Rattle.endian.proofs.write_be_halves.Statement.{statement}
+use Rattle.endian.proofs.write_be_halves.Tie as tie
+use Rattle.endian.proofs.write_be_halves.Reads as reads
+use Rattle.endian.proofs.write_be_halves.Lts as lts
+use Rattle.endian.proofs.write_be_u32.Reads as write-be-u32-reads
+
+write-be-u32-requires : tie.Need-write-be-u32-requires
+write-be-u32-requires c κs = search needs
+
+add-write-be-u32 : tie.Need-add-write-be-u32
+add-write-be-u32 c = search needs
+
+write-be-u32-requires-2 : tie.Need-write-be-u32-requires-2
+write-be-u32-requires-2 c κs = search needs
+
+same-length : tie.Need-same-length
+same-length c = search needs
+
+returns : tie.Need-returns
+returns c = let a = c .before .before .before .before .before .before .before .before .before .args in
+    c .before .before .write-be-u322 .ensures ∙ ap (λ (o : List ℕ). sets o (a .p + 4) (bigEndian 4 (a .low))) (c .before .before .before .before .before .before .write-be-u32 .ensures)
+    ∙ sym (sets-append (a .bytes .now) (a .p) (bigEndian 4 (a .high)) (bigEndian 4 (a .low))) ∙ ap (λ (b : List ℕ). sets (a .bytes .now) (a .p) b) (halves (a .high) (a .low) (omega (arith, c .before .before .before .before .before .before .before .before .before .fits)))
+
+pub write-be-halves-spec : {M : Type 1} → statement M
+write-be-halves-spec =
+    tie.close (tie.spec write-be-u32-requires add-write-be-u32 write-be-u32-requires-2 same-length returns)

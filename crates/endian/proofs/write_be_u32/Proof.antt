@@ -1,0 +1,70 @@
+use native.Mathlib.Omega.{arith}
+use mathlib.Core.Path.{_≡_, ap, _∙_}
+use mathlib.Core.List.{List}
+use Prim.Native.Nat.{ℕ, _/_, _%_}
+use lib.ListN.{length-set}
+use lib.Seq.{sets}
+use Rattle.endian.specs.BigLaws.{stores-four, four-bytes}
+use borrow.Author.Needs.{needs}
+use Rattle.endian.proofs.write_be_u32.Statement.{statement}
+use Rattle.endian.proofs.write_be_u32.Tie as tie
+use Rattle.endian.proofs.write_be_u32.Reads as reads
+use Rattle.endian.proofs.write_be_u32.Lts as lts
+
+cast-bytes : tie.Need-cast-bytes
+cast-bytes c = search needs
+
+slice-write-bytes : tie.Need-slice-write-bytes
+slice-write-bytes c = search needs
+
+cast-bytes-2 : tie.Need-cast-bytes-2
+cast-bytes-2 c = search needs
+
+add-bytes : tie.Need-add-bytes
+add-bytes c = search needs
+
+slice-write-bytes-2 : tie.Need-slice-write-bytes-2
+slice-write-bytes-2 c = simp length-set (omega arith)
+
+cast-bytes-3 : tie.Need-cast-bytes-3
+cast-bytes-3 c = search needs
+
+add-bytes-2 : tie.Need-add-bytes-2
+add-bytes-2 c = search needs
+
+slice-write-bytes-3 : tie.Need-slice-write-bytes-3
+slice-write-bytes-3 c = simp length-set (omega arith)
+
+cast-bytes-4 : tie.Need-cast-bytes-4
+cast-bytes-4 c = search needs
+
+add-bytes-3 : tie.Need-add-bytes-3
+add-bytes-3 c = search needs
+
+slice-write-bytes-4 : tie.Need-slice-write-bytes-4
+slice-write-bytes-4 c = simp length-set (omega arith)
+
+same-length : tie.Need-same-length
+same-length c = search needs
+
+returns : tie.Need-returns
+returns c = let a = c .args in let v = a .v in
+    stores-four (a .bytes .now) (a .p) (v / 16777216 % 256) (v / 65536 % 256) (v / 256 % 256) (v % 256) ∙ ap (λ (b : List ℕ). sets (a .bytes .now) (a .p) b) (four-bytes v)
+
+pub write-be-u32-spec : {M : Type 1} → statement M
+write-be-u32-spec =
+    tie.close
+    (tie.spec
+    cast-bytes
+    slice-write-bytes
+    cast-bytes-2
+    add-bytes
+    slice-write-bytes-2
+    cast-bytes-3
+    add-bytes-2
+    slice-write-bytes-3
+    cast-bytes-4
+    add-bytes-3
+    slice-write-bytes-4
+    same-length
+    returns)

@@ -1,0 +1,1 @@
+// What both writers of files for other programs share.

@@ -1,0 +1,25 @@
+-- A set of numbers as one number: bit t stands for t.
+use mathlib.Core.Path.{_≡_, ap₂, _∙_}
+use mathlib.Core.Bool.{Bool, true, false, _||_, or-comm}
+use mathlib.Core.List.{List, [], _∷_}
+use Prim.Native.Nat.{ℕ, _^_}
+use lib.Bits.{bitOr}
+use lib.Dec.{eqb}
+use Rattle.laws.specs.Bits.{hasBit, zero-bit, power-bit, or-bit}
+use Rattle.laws.specs.Lists.{member}
+
+-- with t, where the test holds
+abbrev pub marked : ℕ → ℕ → Bool → ℕ
+marked s t true = bitOr s (2 ^ t)
+marked s t false = s
+
+unfoldable pub bitSet : List ℕ → ℕ
+bitSet [] = 0
+bitSet (t ∷ ts) = marked (bitSet ts) t true
+
+-- what the number means
+pub bit-set-bit : (ts : List ℕ) (t : ℕ) → hasBit (bitSet ts) t ≡ member t ts
+unfolding bitSet
+bit-set-bit [] t = zero-bit t
+bit-set-bit (u ∷ ts) t =
+    or-bit (bitSet ts) (2 ^ u) t ∙ ap₂ _||_ (bit-set-bit ts t) (power-bit u t) ∙ or-comm (member t ts) (eqb t u)

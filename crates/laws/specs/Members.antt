@@ -1,0 +1,105 @@
+-- Who is in a list: in what is kept of it, in its image, in lists joined; and tests that ask for a member.
+use mathlib.Core.Path.{_≡_, refl, sym, ap, _∙_}
+use mathlib.Core.Bool.{Bool, true, false, _||_, true≢false}
+use mathlib.Core.Logic.{⊎-elim}
+use mathlib.Core.List.{List, [], _∷_, _++_, map, List·Memᴰ, List·Memᴰ·head, List·Memᴰ·tail, List·Memᴰ·not-nil, List·Memᴰ·cases-cons, List·Memᴰ·append-cases, Memᴰ·append-left, Memᴰ·append-right}
+use Prim.Native.Nat.{ℕ, zero, suc, zero-le, _≤_}
+use native.Mathlib.Omega.{arith}
+use lib.Dec.{eqb}
+use borrow.Author.Tests.{eqb-true, eqb-false}
+use lib.ListN.{length, drop}
+use Rattle.laws.specs.Cases.{split}
+use Rattle.laws.specs.Lists.{kept, member, someOf, joinAll}
+
+pub member-mem : (x : ℕ) (l : List ℕ) → member x l ≡ true → List·Memᴰ x l
+member-mem x [] e = absurd (true≢false (sym e))
+member-mem x (y ∷ l) e =
+    split (eqb x y)
+    (λ t. List·Memᴰ·head (eqb-true x y t))
+    (λ t. List·Memᴰ·tail (member-mem x l (rw t at e)))
+
+pub not-member : (x : ℕ) (l : List ℕ) → member x l ≡ false → List·Memᴰ x l → ⊥
+not-member x [] e m = List·Memᴰ·not-nil m
+not-member x (y ∷ l) e m =
+    split (eqb x y)
+    (λ t. true≢false (rw t at e))
+    (λ t. ⊎-elim (λ i. eqb-false x y t i) (λ k. not-member x l (rw t at e) k) (List·Memᴰ·cases-cons m))
+
+pub mem-member : (x : ℕ) (l : List ℕ) → List·Memᴰ x l → member x l ≡ true
+mem-member x l m = split (member x l) (λ e. e) (λ e. absurd (not-member x l e m))
+
+pub in-drop : {A : Type 0} (x : A) (n : ℕ) (l : List A) → List·Memᴰ x (drop n l) → List·Memᴰ x l
+in-drop x zero l m = m
+in-drop x (suc n) [] m = m
+in-drop x (suc n) (y ∷ l) m = List·Memᴰ·tail (in-drop x n l m)
+
+module _ {A B : Type 0} (f : A → B) where
+  pub in-map : (l : List A) (y : B) → List·Memᴰ y (map f l) → (x : A) × List·Memᴰ x l × (y ≡ f x)
+  in-map [] y m = absurd (List·Memᴰ·not-nil m)
+  in-map (x ∷ l) y m =
+      ⊎-elim
+      (λ i. (x, List·Memᴰ·head refl, i))
+      (λ k. let r = in-map l y k in (r .0, List·Memᴰ·tail (r .1), r .2))
+      (List·Memᴰ·cases-cons m)
+
+  pub map-in : (l : List A) (x : A) → List·Memᴰ x l → List·Memᴰ (f x) (map f l)
+  map-in [] x m = absurd (List·Memᴰ·not-nil m)
+  map-in (y ∷ l) x m = ⊎-elim (λ i. List·Memᴰ·head (ap f i)) (λ k. List·Memᴰ·tail (map-in l x k)) (List·Memᴰ·cases-cons m)
+
+module _ {A : Type 0} (f : A → Bool) where
+  pub in-kept : (l : List A) (x : A) → List·Memᴰ x (kept f l) → List·Memᴰ x l × (f x ≡ true)
+  in-kept [] x m = absurd (List·Memᴰ·not-nil m)
+  in-kept (a ∷ l) x m =
+      split (f a)
+      (λ t. ⊎-elim
+      (λ i. (List·Memᴰ·head i, ap f i ∙ t))
+      (λ k. let r = in-kept l x k in (List·Memᴰ·tail (r .0), r .1))
+      (List·Memᴰ·cases-cons (rw (t, kept) at m)))
+      (λ t. let r = in-kept l x (rw (t, kept) at m) in (List·Memᴰ·tail (r .0), r .1))
+
+  pub kept-in : (l : List A) (x : A) → List·Memᴰ x l → f x ≡ true → List·Memᴰ x (kept f l)
+  kept-in [] x m e = absurd (List·Memᴰ·not-nil m)
+  kept-in (a ∷ l) x m e =
+      split (f a)
+      (λ t. rw (t, kept) (⊎-elim (λ i. List·Memᴰ·head i) (λ k. List·Memᴰ·tail (kept-in l x k e)) (List·Memᴰ·cases-cons m)))
+      (λ t. rw (t, kept) (⊎-elim (λ i. absurd (true≢false (sym e ∙ ap f i ∙ t))) (λ k. kept-in l x k e) (List·Memᴰ·cases-cons m)))
+
+  pub kept-length : (l : List A) → length (kept f l) ≤ length l
+  kept-length [] = zero-le
+  kept-length (x ∷ l) =
+      let h = kept-length l in
+      split (f x) (λ t. rw (t, kept) (omega arith)) (λ t. rw (t, kept) (omega arith))
+
+  pub some-of : (l : List A) → someOf f l ≡ true → (x : A) × List·Memᴰ x l × (f x ≡ true)
+  some-of [] e = absurd (true≢false (sym e))
+  some-of (a ∷ l) e =
+      split (f a)
+      (λ t. (a, List·Memᴰ·head refl, t))
+      (λ t. let r = some-of l (rw t at e) in (r .0, List·Memᴰ·tail (r .1), r .2))
+
+  pub of-some : (l : List A) (x : A) → List·Memᴰ x l → f x ≡ true → someOf f l ≡ true
+  of-some [] x m e = absurd (List·Memᴰ·not-nil m)
+  of-some (a ∷ l) x m e =
+      split (f a)
+      (λ t. rw t)
+      (λ t. rw t (⊎-elim (λ i. absurd (true≢false (sym e ∙ ap f i ∙ t))) (λ k. of-some l x k e) (List·Memᴰ·cases-cons m)))
+
+  pub none-of : (l : List A) → someOf f l ≡ false → (x : A) → List·Memᴰ x l → f x ≡ false
+  none-of l e x m = split (f x) (λ t. absurd (true≢false (sym (of-some l x m t) ∙ e))) (λ t. t)
+
+module _ {A B : Type 0} (f : A → List B) where
+  pub in-join : (l : List A) (y : B) → List·Memᴰ y (joinAll (map f l)) → (x : A) × List·Memᴰ x l × List·Memᴰ y (f x)
+  in-join [] y m = absurd (List·Memᴰ·not-nil m)
+  in-join (x ∷ l) y m =
+      ⊎-elim
+      (λ i. (x, List·Memᴰ·head refl, i))
+      (λ k. let r = in-join l y k in (r .0, List·Memᴰ·tail (r .1), r .2))
+      (List·Memᴰ·append-cases (f x) m)
+
+  pub join-in : (l : List A) (x : A) (y : B) → List·Memᴰ x l → List·Memᴰ y (f x) → List·Memᴰ y (joinAll (map f l))
+  join-in [] x y m n = absurd (List·Memᴰ·not-nil m)
+  join-in (z ∷ l) x y m n =
+      ⊎-elim
+      (λ i. Memᴰ·append-left (joinAll (map f l)) (rw i at n))
+      (λ k. Memᴰ·append-right (f z) (join-in l x y k n))
+      (List·Memᴰ·cases-cons m)

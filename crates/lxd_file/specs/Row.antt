@@ -1,0 +1,48 @@
+-- The row "LXD" of "Where each check stands" in document 01, and what the call answers and writes.
+use mathlib.Core.List.{List, [], _∷_, _++_, map}
+use Prim.Native.Nat.{ℕ, _+_, _*_, _^_}
+use lib.Dec.{ltb, leb}
+use lib.ListN.{length, getD}
+use Rattle.laws.specs.Lists.{joinAll, someOf}
+use Rattle.node.specs.Answers.{refused, Row, firstOf}
+use Rattle.node.specs.Nodes.{KBWG, tile}
+use Rattle.graph.specs.Runs.{Graph}
+use Rattle.graph.specs.Words.{count}
+use Rattle.graph.specs.Checks.{graphRow}
+use Rattle.export.specs.Starts.{start, runOf, unlabelled, deeper}
+use Rattle.export.specs.Latin1.{noByte}
+use Rattle.export.specs.Written.{Written, written}
+use Rattle.lxd_file.specs.File.{runs, lxdFile}
+
+-- the nodes that can be reached from the start, those of a run that is entered twice in both
+abbrev pub reached : Graph → List ℕ
+reached g = joinAll (map (runOf g) (runs g))
+
+-- the checks before the walk
+abbrev pub checkRow : Graph → List ℕ → List ℕ → List ℕ → ℕ → Row
+checkRow g labels title date lentWork =
+    graphRow g
+    ++ (someOf noByte title, refused 20 [])
+    ∷ (ltb 31 (length title), refused 19 [])
+    ∷ (someOf noByte date, refused 20 [])
+    ∷ (ltb 19 (length date), refused 19 [])
+    ∷ (unlabelled g labels, refused 21 [])
+    ∷ (ltb lentWork (8 * length g), refused 11 [])
+    ∷ []
+
+-- those of the walk and of the sizes; nodes 0 and 1 are counted, "before the no-words cut"
+abbrev pub walkRow : Graph → List ℕ → List ℕ → List ℕ → ℕ → Row
+walkRow g labels title date lentFile =
+    (deeper g 64 (start g 0), refused 22 [])
+    ∷ (someOf (λ v. noByte (getD labels (tile KBWG v) 0)) (reached g), refused 23 [])
+    ∷ (leb 4_294_967_295 (count KBWG g (start g 0)), refused 13 [])
+    ∷ (ltb (2 ^ 22) (2 + length (reached g)), refused 25 [])
+    ∷ (ltb lentFile (length (lxdFile g labels title date)), refused 11 [])
+    ∷ []
+
+unfoldable pub lxdRow : Graph → List ℕ → List ℕ → List ℕ → ℕ → ℕ → Row
+lxdRow g labels title date lentWork lentFile = checkRow g labels title date lentWork ++ walkRow g labels title date lentFile
+
+-- what the call answers, and the file after it
+unfoldable pub toLxd : Graph → List ℕ → List ℕ → List ℕ → ℕ → List ℕ → Written
+toLxd g labels title date lentWork lent = written (firstOf (lxdRow g labels title date lentWork (length lent))) (lxdFile g labels title date) lent

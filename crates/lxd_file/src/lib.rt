@@ -1,0 +1,1 @@
+// An LXD file: its bytes and the words that are read from them, in specs/.

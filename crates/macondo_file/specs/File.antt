@@ -1,0 +1,74 @@
+-- The bytes of a Macondo file, from document 01, "Files for other programs".
+use mathlib.Core.Bool.{Bool, _&&_, not}
+use mathlib.Core.List.{List, [], _∷_, _++_, map}
+use Prim.Native.Nat.{ℕ, suc, _+_, _*_, _^_}
+use lib.Dec.{eqb}
+use lib.ListN.{length, getD}
+use Rattle.laws.specs.BitSets.{bitSet}
+use Rattle.laws.specs.Firsts.{placeIn, firsts}
+use Rattle.laws.specs.Lists.{kept, joinAll}
+use Rattle.laws.specs.Sorting.{sorted}
+use Rattle.endian.specs.Bytes.{bigEndian, bigEndians}
+use Rattle.node.specs.Nodes.{KBWG, tile, arc, accepts}
+use Rattle.graph.specs.Runs.{Graph}
+use Rattle.export.specs.Starts.{start, runOf, hasArc}
+use Rattle.export.specs.Blocks.{met, blockAt}
+use Rattle.macondo_file.specs.Alphabet.{precedes, letters, letterOf}
+
+pub data Format : Type 0 where
+  dawg gaddag : Format
+
+-- what sets a format apart: "`cdwg` or `cgdg`", and the node whose arc is the start
+pub record Marks : Type 0 where
+  pub magic : List ℕ
+  pub root : ℕ
+
+abbrev pub marks : Format → Marks
+marks dawg = record { magic = 0x63 ∷ 0x64 ∷ 0x77 ∷ 0x67 ∷ []; root = 0 }
+marks gaddag = record { magic = 0x63 ∷ 0x67 ∷ 0x64 ∷ 0x67 ∷ []; root = 1 }
+
+module _ (g : Graph) (labels : List ℕ) where
+  -- "then its arcs by that order": the nodes of a run that have arcs
+  unfoldable pub arcsOf : ℕ → List ℕ
+  arcsOf p = sorted (λ v w. precedes labels (tile KBWG v) (tile KBWG w)) (kept hasArc (runOf g p))
+
+  -- "a set has bit r for the letter of rank r"; "tile 0's bit dropped"
+  abbrev pub endsInLetter : ℕ → Bool
+  endsInLetter v = accepts KBWG v && not (eqb (tile KBWG v) 0)
+
+  unfoldable pub setOf : ℕ → ℕ
+  setOf p = bitSet (map (λ v. letterOf labels (tile KBWG v)) (kept endsInLetter (runOf g p)))
+
+  module _ (f : Format) where
+    -- "Blocks are numbered depth first, each before its children"
+    unfoldable pub blocks : List ℕ
+    blocks = met (λ p. map (arc KBWG) (arcsOf p)) 64 [] (start g (marks f .root))
+
+    -- "sets from 0 by first appearance in that order"
+    unfoldable pub sets : List ℕ
+    sets = firsts [] (map setOf blocks)
+
+    -- "A block's number is the place of its head, from 0."
+    abbrev pub blockNumber : ℕ → ℕ
+    blockNumber p = blockAt (λ q. suc (length (arcsOf q))) 0 blocks p
+
+    -- "Head: arc count × 2^24 + letter-set number; arc: letter × 2^24 + child block."
+    unfoldable pub blockOf : ℕ → List ℕ
+    blockOf p =
+        (length (arcsOf p) * 2 ^ 24 + placeIn sets (setOf p))
+        ∷ map (λ v. letterOf labels (tile KBWG v) * 2 ^ 24 + blockNumber (arc KBWG v)) (arcsOf p)
+
+    unfoldable pub macondoNodes : List ℕ
+    macondoNodes = joinAll (map blockOf blocks)
+
+    -- "letter count (4), code points (4 each)", and so for the sets (8 each) and the nodes
+    abbrev section : ℕ → List ℕ → List ℕ
+    section width numbers = bigEndian 4 (length numbers) ++ bigEndians width numbers
+
+    -- "the code points stand in rank order"
+    abbrev pub codePoints : List ℕ
+    codePoints = map (λ t. getD labels t 0) (letters labels)
+
+    unfoldable pub macondoFile : List ℕ → List ℕ
+    macondoFile name =
+        marks f .magic ++ (length name ∷ name) ++ (section 4 codePoints ++ (section 8 sets ++ section 4 macondoNodes))

@@ -1,0 +1,5 @@
+pub mod Alphabet
+pub mod File
+pub mod Reading
+pub mod Row
+pub mod Spelling

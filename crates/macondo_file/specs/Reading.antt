@@ -1,0 +1,49 @@
+-- The words of a Macondo file, from document 01: "Read: block 0's words; from a block, each letter of its set; each arc's letter before
+-- the child's words."
+use mathlib.Core.Bool.{true, false}
+use mathlib.Core.List.{List, [], _∷_, _++_, map}
+use Prim.Native.Nat.{ℕ, zero, suc, _+_, _*_, _/_, _%_, _^_}
+use lib.ListN.{getD, take, drop}
+use Rattle.laws.specs.Bits.{hasBit}
+use Rattle.endian.specs.Bytes.{fromBig, bigNumbers}
+use Rattle.graph.specs.Words.{Word, inOrder}
+
+-- "each letter of its set": those below n
+abbrev pub setWords : ℕ → ℕ → List Word
+setWords zero set = []
+setWords (suc r) set = setWords r set ++ elim (hasBit set r) [ true ↦ (r ∷ []) ∷ [] | false ↦ [] ]
+
+-- "each arc's letter before the child's words"
+abbrev pub arcWords : (ℕ → List Word) → ℕ → List Word
+arcWords from v = map ((v / 2 ^ 24) ∷_) (from (v % 2 ^ 24))
+
+-- the words from block b that follow fewer than k arcs
+unfoldable pub blockWords : List ℕ → List ℕ → ℕ → ℕ → List Word
+blockWords sets nodes zero b = []
+blockWords sets nodes (suc k) b =
+    setWords 64 (getD sets (getD nodes b 0 % 2 ^ 24) 0)
+    ++ inOrder (arcWords (blockWords sets nodes k)) (take (getD nodes b 0 / 2 ^ 24) (drop (suc b) nodes))
+
+-- a section: its count, its numbers, and the bytes after it
+abbrev pub countAt : List ℕ → ℕ
+countAt bytes = fromBig 0 (take 4 bytes)
+
+abbrev pub numbersAt : ℕ → List ℕ → List ℕ
+numbersAt width bytes = bigNumbers width (countAt bytes) (drop 4 bytes)
+
+abbrev pub after : ℕ → List ℕ → List ℕ
+after width bytes = drop (4 + width * countAt bytes) bytes
+
+-- where the sections begin: magic, name length, name; code points; sets; nodes
+abbrev pub lettersIn : List ℕ → List ℕ
+lettersIn file = drop (5 + getD file 4 0) file
+
+abbrev pub setsIn : List ℕ → List ℕ
+setsIn file = after 4 (lettersIn file)
+
+abbrev pub nodesIn : List ℕ → List ℕ
+nodesIn file = after 8 (setsIn file)
+
+-- "block 0's words": no path follows as many arcs as there are nodes
+unfoldable pub macondoWords : List ℕ → List Word
+macondoWords file = blockWords (numbersAt 8 (setsIn file)) (numbersAt 4 (nodesIn file)) (countAt (nodesIn file)) 0
