@@ -2,3 +2,5 @@ pub mod Starts
 pub mod Blocks
 pub mod Latin1
 pub mod Written
+pub mod Places
+pub mod PlacesLaws

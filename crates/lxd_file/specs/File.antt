@@ -47,9 +47,9 @@ module _ (g : Graph) where
     -- "Nodes 0 and 1 are 8A800000 and 8A800002 .. With no words, node 2 is 8A800000 and the last."
     unfoldable pub lxdNodes : List ℕ
     lxdNodes =
-        0x8A800000 ∷ 0x8A800002 ∷ elim (eqb (count KBWG g (start g 0)) 0)
-        [ true ↦ 0x8A800000 ∷ []
-        | false ↦ map lxdNode (joinAll (map (runOf g) runs))
+        0x8A800000 ∷ 0x8A800002 ∷ elim (eqb (count KBWG g (start g 0)) 0) [
+          | true ↦ 0x8A800000 ∷ []
+          | false ↦ map lxdNode (joinAll (map (runOf g) runs))
         ]
 
     -- "64; node count; title (32 bytes) and date (20), zero-filled; word count; nodes. Numbers are 4 bytes."

@@ -1,0 +1,25 @@
+use borrow.Author.Tests.{eq-eqb, ne-eqb}
+use Rattle.export.specs.Places.{placeAt}
+use borrow.Author.Needs.{needs}
+use Rattle.export.proofs.places.place_of.Statement.{statement}
+use Rattle.export.proofs.places.place_of.Tie as tie
+use Rattle.export.proofs.places.place_of.Reads as reads
+use Rattle.export.proofs.places.place_of.Lts as lts
+
+mul-v : tie.Need-mul-v
+mul-v c = search needs
+
+shared-slice-read-v : tie.Need-shared-slice-read-v
+shared-slice-read-v c = search needs
+
+sub-t9 : tie.Need-sub-t9
+sub-t9 c = search needs
+
+returns : tie.Need-returns
+returns c = rw (eq-eqb _ _ (c .if1 .taken), placeAt)
+
+returns-2 : tie.Need-returns-2
+returns-2 c = rw (ne-eqb _ _ (c .if1 .left), placeAt)
+
+pub place-of-spec : {M : Type 1} → statement M
+place-of-spec = tie.close (tie.spec mul-v shared-slice-read-v sub-t9 returns returns-2)
