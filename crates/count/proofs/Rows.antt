@@ -11,7 +11,7 @@ use Rattle.laws.specs.Cases.{or-false-left, or-false-right}
 use Rattle.node.specs.Answers.{Answer, refused, Row, firstOf}
 use Rattle.node.specs.RowLaws.{row-refuses, row-passes, row-passed, row-ends, rows-refuse, rows-pass, rows-passed}
 use Rattle.graph.specs.Runs.{Graph}
-use Rattle.graph.specs.Checks.{nodesRow, graphRow}
+use Rattle.graph.specs.Checks.{graphRow}
 use Rattle.graph.specs.ChecksLaws.{Fit, fit}
 use Rattle.graph.specs.Counting.{countRow}
 
@@ -19,31 +19,21 @@ module _ (g : Graph) (counts work : ℕ) where
   abbrev lent : Row
   lent = (ltb counts (length g) || ltb work (2 * length g), refused 11 []) ∷ []
 
-  pub too-few-nodes : length g < 2 → firstOf (countRow g counts work) ≡ some (refused 10 [])
-  too-few-nodes h = row-refuses _ _ _ (rw (lt-ltb _ _ h))
+  pub graph-refused : {r : Answer} → firstOf (graphRow g) ≡ some r → firstOf (countRow g counts work) ≡ some r
+  graph-refused e = rows-refuse (graphRow g) lent e
 
-  pub too-many-nodes : 16_777_216 < length g → firstOf (countRow g counts work) ≡ some (refused 10 [])
-  too-many-nodes h = row-refuses _ _ _ (rw (lt-ltb _ _ h) (or-true (ltb (length g) 2)))
+  module _ (sound : firstOf (graphRow g) ≡ none) where
+    judged : firstOf (countRow g counts work) ≡ firstOf lent
+    judged = rows-pass (graphRow g) lent sound
 
-  module _ (enough : 2 ≤ length g) (not-over : length g ≤ 16_777_216) where
-    sized : firstOf (countRow g counts work) ≡ firstOf (nodesRow g ++ lent)
-    sized = row-passes _ _ _ (rw (le-ltb _ _ enough, le-ltb _ _ not-over))
+    pub counts-short : counts < length g → firstOf (countRow g counts work) ≡ some (refused 11 [])
+    counts-short h = judged ∙ row-refuses _ _ _ (rw (lt-ltb _ _ h))
 
-    pub nodes-refused : {r : Answer} → firstOf (nodesRow g) ≡ some r → firstOf (countRow g counts work) ≡ some r
-    nodes-refused e = sized ∙ rows-refuse (nodesRow g) lent e
+    pub work-short : work < 2 * length g → firstOf (countRow g counts work) ≡ some (refused 11 [])
+    work-short h = judged ∙ row-refuses _ _ _ (rw (lt-ltb _ _ h) (or-true (ltb counts (length g))))
 
-    module _ (sound : firstOf (nodesRow g) ≡ none) where
-      judged : firstOf (countRow g counts work) ≡ firstOf lent
-      judged = sized ∙ rows-pass (nodesRow g) lent sound
-
-      pub counts-short : counts < length g → firstOf (countRow g counts work) ≡ some (refused 11 [])
-      counts-short h = judged ∙ row-refuses _ _ _ (rw (lt-ltb _ _ h))
-
-      pub work-short : work < 2 * length g → firstOf (countRow g counts work) ≡ some (refused 11 [])
-      work-short h = judged ∙ row-refuses _ _ _ (rw (lt-ltb _ _ h) (or-true (ltb counts (length g))))
-
-      pub row-clear : length g ≤ counts → 2 * length g ≤ work → firstOf (countRow g counts work) ≡ none
-      row-clear a b = judged ∙ row-passes _ _ _ (rw (le-ltb _ _ a, le-ltb _ _ b)) ∙ row-ends
+    pub row-clear : length g ≤ counts → 2 * length g ≤ work → firstOf (countRow g counts work) ≡ none
+    row-clear a b = judged ∙ row-passes _ _ _ (rw (le-ltb _ _ a, le-ltb _ _ b)) ∙ row-ends
 
   module _ (clear : firstOf (countRow g counts work) ≡ none) where
     sound : firstOf (graphRow g) ≡ none

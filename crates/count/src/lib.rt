@@ -13,7 +13,7 @@ ghost use Rattle.graph.specs.Lent.{Kept, WorkKept};
 ghost use Rattle.count.specs.Said.{limit, said};
 use counts::clear;
 use counts::reaches_limit;
-use graph::NodesCheck;
+use graph::GraphCheck;
 use walk::Found;
 use walk::walk;
 
@@ -56,18 +56,15 @@ pub fn count_words(nodes: &[u32], counts: &mut [u32], work: &mut [u32]) -> Count
     ensures free { λ r. ⌜ WorkKept (countRow (now (nodes .entry)) (length (now (counts .entry))) (length (now (work .entry)))) (2 * length (now (nodes .entry))) (now (work .entry)) (now (work .exit)) ⌝ }
 {
     let n = nodes.len();
-    if n < 2 {
-        return Counted::WrongSize;
-    }
-    if 16777216 < n {
-        return Counted::WrongSize;
-    }
-    match graph::check_nodes(nodes) {
-        NodesCheck::Sound => {}
-        NodesCheck::ArcPastEnd(arc_index) => {
+    match graph::check_graph(nodes) {
+        GraphCheck::Sound => {}
+        GraphCheck::WrongSize => {
+            return Counted::WrongSize;
+        }
+        GraphCheck::ArcPastEnd(arc_index) => {
             return Counted::ArcPastEnd(arc_index);
         }
-        NodesCheck::NoEnd => {
+        GraphCheck::NoEnd => {
             return Counted::NoEnd;
         }
     }

@@ -7,6 +7,7 @@ use lib.ListN.{length}
 use Rattle.node.specs.Answers.{Answer, refused, Row}
 use Rattle.node.specs.Nodes.{KBWG}
 use Rattle.graph.specs.Runs.{Graph, largestArc, lastEnds}
+use Rattle.graph.specs.declared.GraphCheck.{GraphCheck}
 use Rattle.graph.specs.declared.NodesCheck.{NodesCheck}
 use Rattle.graph.specs.declared.NodesCheck.the-variants.{Sound, ArcPastEnd, NoEnd}
 
@@ -26,3 +27,10 @@ nodesRow g =
 -- "10+ under 2 nodes or over 16,777,216; 8; 9"
 abbrev pub graphRow : Graph → Row
 graphRow g = (ltb (length g) 2 || ltb 16_777_216 (length g), refused 10 []) ∷ nodesRow g
+
+-- what `check_graph` refuses by
+abbrev pub graphRefusal : GraphCheck → Option Answer
+graphRefusal GraphCheck.Sound = none
+graphRefusal GraphCheck.WrongSize = some (refused 10 [])
+graphRefusal (GraphCheck.ArcPastEnd r) = some (refused 8 (r ∷ []))
+graphRefusal GraphCheck.NoEnd = some (refused 9 [])

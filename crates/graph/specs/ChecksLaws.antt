@@ -1,6 +1,6 @@
 -- The checks 8 and 9 along a list of nodes, the rows by the facts that decide them, and what passing a row tells.
 use mathlib.Core.Path.{_≡_, refl, sym, ap, _∙_}
-use mathlib.Core.Bool.{true, false, not, true≢false}
+use mathlib.Core.Bool.{true, false, not, or-true, true≢false}
 use mathlib.Core.List.{[], _∷_}
 use mathlib.Core.Option.{none, some}
 use Prim.Native.Nat.{ℕ, zero, suc, _+_, _-_, _≤_, _<_, max}
@@ -9,7 +9,7 @@ use native.Mathlib.Nat.{max-zero, le-max-left, le-max-right, le-trans}
 use native.Mathlib.Numerals.{add-one}
 use lib.ListN.{length, drop}
 use lib.Seq.{drop-cons, drop-length}
-use borrow.Author.Tests.{le-leb, lt-leb, leb-false, ltb-false, not-false}
+use borrow.Author.Tests.{le-leb, lt-leb, leb-false, lt-ltb, le-ltb, ltb-false, not-false}
 use lib.Dec.{ltb}
 use Rattle.laws.specs.Cases.{or-false-left, or-false-right}
 use Rattle.node.specs.Answers.{refused, firstOf}
@@ -58,6 +58,17 @@ module _ (g : Graph) where
 
     pub nodes-sound : lastEnds KBWG g ≡ true → firstOf (nodesRow g) ≡ none
     nodes-sound e = row-passes _ _ _ (lt-leb _ _ inside) ∙ row-passes _ _ _ (ap not e) ∙ row-ends
+
+-- ---- the row of 10, 8 and 9
+module _ (g : Graph) where
+  pub too-few-nodes : length g < 2 → firstOf (graphRow g) ≡ some (refused 10 [])
+  too-few-nodes h = row-refuses _ _ _ (rw (lt-ltb _ _ h))
+
+  pub too-many-nodes : 16_777_216 < length g → firstOf (graphRow g) ≡ some (refused 10 [])
+  too-many-nodes h = row-refuses _ _ _ (rw (lt-ltb _ _ h) (or-true (ltb (length g) 2)))
+
+  pub right-size : 2 ≤ length g → length g ≤ 16_777_216 → firstOf (graphRow g) ≡ firstOf (nodesRow g)
+  right-size a b = row-passes _ _ _ (rw (le-ltb _ _ a, le-ltb _ _ b))
 
 -- ---- what passing the rows tells
 arc-within : (y : Places) (g : Graph) (p : ℕ) → p < length g → arc y (node g p) ≤ largestArc y g

@@ -4,11 +4,18 @@ ghost use Prim.Native.Nat.{max};
 ghost use Rattle.node.specs.Answers.{firstOf};
 ghost use Rattle.node.specs.Nodes.{KBWG};
 ghost use Rattle.graph.specs.Runs.{largestArc, lastEnds};
-ghost use Rattle.graph.specs.Checks.{nodesRow, refusal};
+ghost use Rattle.graph.specs.Checks.{nodesRow, refusal, graphRow, graphRefusal};
 use node::Node24;
 
 pub enum NodesCheck {
     Sound,
+    ArcPastEnd(u32),
+    NoEnd,
+}
+
+pub enum GraphCheck {
+    Sound,
+    WrongSize,
     ArcPastEnd(u32),
     NoEnd,
 }
@@ -53,5 +60,22 @@ pub fn check_nodes(nodes: &[u32]) -> NodesCheck
         NodesCheck::Sound
     } else {
         NodesCheck::NoEnd
+    }
+}
+
+// The same, of a graph that is neither too small nor too large to number its words.
+pub fn check_graph(nodes: &[u32]) -> GraphCheck
+    ensures { λ r. ⌜ graphRefusal r ≡ firstOf (graphRow (now (nodes .entry))) ⌝ }
+{
+    if nodes.len() < 2 {
+        return GraphCheck::WrongSize;
+    }
+    if 16777216 < nodes.len() {
+        return GraphCheck::WrongSize;
+    }
+    match check_nodes(nodes) {
+        NodesCheck::Sound => GraphCheck::Sound,
+        NodesCheck::ArcPastEnd(arc_index) => GraphCheck::ArcPastEnd(arc_index),
+        NodesCheck::NoEnd => GraphCheck::NoEnd,
     }
 }

@@ -1,4 +1,13 @@
+pub mod CopiedLaws
 pub mod File
+pub mod FileLaws
+pub mod Latin1Laws
+pub mod NodesLaws
+pub mod NumbersLaws
+pub mod PackedLaws
 pub mod Reading
 pub mod Row
+pub mod RowLaws
+pub mod RunsLaws
 pub mod Spelling
+pub mod SpellingLaws

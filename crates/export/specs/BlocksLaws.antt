@@ -1,0 +1,232 @@
+-- What a writer has met, and where its blocks stand. The idea: from a start whose chains end within the turns left, every block met
+-- has its children met, and a block that is met again adds nothing, so there are no more blocks than nodes.
+use mathlib.Core.Path.{_≡_, refl, ap, _∙_, sym, subst}
+use mathlib.Core.Bool.{Bool, true, false}
+use mathlib.Core.Logic.{_⊎_, inl, inr, ⊎-elim}
+use mathlib.Core.List.{List, [], _∷_, _++_, map, List·Memᴰ, List·Memᴰ·head, List·Memᴰ·tail, List·Memᴰ·not-nil, List·Memᴰ·cases-cons, List·Memᴰ·append-cases, List·Memᴰ·eq-of-singleton, Memᴰ·append-left, Memᴰ·append-right, Memᴰ·cast}
+use Prim.Native.Nat.{ℕ, zero, suc, zero-le, _+_, _≤_, _<_}
+use native.Mathlib.Nat.{add-zero, add-assoc}
+use native.Mathlib.Omega.{arith}
+use lib.Dec.{eqb}
+use borrow.Author.Tests.{eqb-true, eqb-false, eq-eqb}
+use lib.ListN.{length, drop, length-append}
+use lib.Seq.{drop-append-add}
+use Rattle.laws.specs.Cases.{split}
+use Rattle.laws.specs.Lists.{kept, member, joinAll}
+use Rattle.laws.specs.Members.{member-mem, mem-member, kept-length}
+use Rattle.laws.specs.Without.{below, length-below, in-below}
+use Rattle.export.specs.Blocks.{each, met, blockAt, total}
+
+-- ---- a weaker test keeps more
+module _ {A : Type 0} (f h : A → Bool) (weaker : (x : A) → f x ≡ true → h x ≡ true) where
+  pub kept-le : (l : List A) → length (kept f l) ≤ length (kept h l)
+  kept-le [] = zero-le
+  kept-le (a ∷ l) =
+      let r = kept-le l in
+      split (f a)
+      (λ t. rw (t, weaker a t, kept) (omega arith))
+      (λ t. split (h a) (λ u. rw (t, u, kept) (omega arith)) (λ u. rw (t, u, kept) (omega arith)))
+
+  pub kept-less : (l : List A) (x : A) → List·Memᴰ x l → f x ≡ false → h x ≡ true → length (kept f l) < length (kept h l)
+  kept-less [] x m n y = absurd (List·Memᴰ·not-nil m)
+  kept-less (a ∷ l) x m n y =
+      let r = kept-le l in
+      ⊎-elim
+      (λ i.
+      let no : f a ≡ false = ap f (sym i) ∙ n in
+      let yes : h a ≡ true = ap h (sym i) ∙ y in
+      rw (no, yes, kept) (omega arith))
+      (λ k.
+      let s = kept-less l x k n y in
+      split (f a)
+      (λ t. rw (t, weaker a t, kept) (omega arith))
+      (λ t. split (h a) (λ u. rw (t, u, kept) (omega arith)) (λ u. rw (t, u, kept) (omega arith))))
+      (List·Memᴰ·cases-cons m)
+
+-- ---- what holds of the blocks seen, and still holds with one more that was not seen, holds of all that are met
+module _ (children : ℕ → List ℕ) (S : ℕ → Type 0) (stays : (p q : ℕ) → S p → List·Memᴰ q (children p) → S q)
+    (P : List ℕ → Type 0) (more : (seen : List ℕ) (p : ℕ) → P seen → S p → member p seen ≡ false → P (seen ++ p ∷ [])) where
+  abbrev Held : ℕ → Type 0
+  Held k = (seen : List ℕ) (p : ℕ) → P seen → S p → P (met children k seen p)
+
+  each-holds : (k : ℕ) → Held k → (qs seen : List ℕ) → P seen → ((q : ℕ) → List·Memᴰ q qs → S q) → P (each (met children k) seen qs)
+  each-holds k f [] seen h s = h
+  each-holds k f (q ∷ qs) seen h s =
+      each-holds k f qs (met children k seen q) (f seen q h (s q (List·Memᴰ·head refl))) (λ r m. s r (List·Memᴰ·tail m))
+
+  pub met-holds : (k : ℕ) → Held k
+  unfolding met
+  met-holds zero seen p h s = h
+  met-holds (suc k) seen p h s =
+      split (member p seen)
+      (λ t. rw (t, met) h)
+      (λ t. rw (t, met) (each-holds k (met-holds k) (children p) (seen ++ p ∷ []) (more seen p h s t) (λ q m. stays p q s m)))
+
+  -- the same from nothing seen, where it holds of the first block alone
+  pub met-from-first : (k p : ℕ) → P (p ∷ []) → S p → P (met children (suc k) [] p)
+  unfolding met
+  met-from-first k p h s = each-holds k (met-holds k) (children p) (p ∷ []) h (λ q m. stays p q s m)
+
+module _ (children : ℕ → List ℕ) where
+  -- what holds of the start and goes over to children holds of every block met
+  module _ (S : ℕ → Type 0) (stays : (p q : ℕ) → S p → List·Memᴰ q (children p) → S q) where
+    pub every-met : (k p : ℕ) → S p → (x : ℕ) → List·Memᴰ x (met children k [] p) → S x
+    every-met k p s =
+        met-holds children S stays (λ l. (x : ℕ) → List·Memᴰ x l → S x)
+        (λ seen q h t e x m. ⊎-elim (λ i. h x i) (λ i. subst S (sym (List·Memᴰ·eq-of-singleton i)) t) (List·Memᴰ·append-cases seen m))
+        k [] p (λ x m. absurd (List·Memᴰ·not-nil m)) s
+
+  -- the start stands first
+  pub first-met : (k p : ℕ) → (r : List ℕ) × (met children (suc k) [] p ≡ p ∷ r)
+  first-met k p =
+      met-from-first children (λ _. Unit) (λ _ _ _ _. tt) (λ l. (r : List ℕ) × (l ≡ p ∷ r))
+      (λ seen q h _ e. (h .0 ++ q ∷ [], ap (_++ q ∷ []) (h .1))) k p ([], refl) tt
+
+  -- as many blocks as there are nodes, or fewer
+  module _ (n : ℕ) (stays : (p q : ℕ) → p < n → List·Memᴰ q (children p) → q < n) where
+    pub few-met : (k p : ℕ) → p < n → length (met children k [] p) ≤ n
+    few-met k p s =
+        let seenOf : List ℕ → List ℕ = λ l. kept (λ x. member x l) (below n) in
+        let a : length (met children k [] p) ≤ length (seenOf (met children k [] p)) =
+        met-holds children (λ q. q < n) stays (λ l. length l ≤ length (seenOf l))
+        (λ seen q h t e.
+        let l = length-append seen (q ∷ []) in
+        let m = kept-less (λ x. member x seen) (λ x. member x (seen ++ q ∷ []))
+        (λ x i. mem-member x (seen ++ q ∷ []) (Memᴰ·append-left (q ∷ []) (member-mem x seen i)))
+        (below n) q (in-below n q t) e (mem-member q (seen ++ q ∷ []) (Memᴰ·append-right seen (List·Memᴰ·head refl))) in
+        omega arith)
+        k [] p zero-le s in
+        let b = kept-length (λ x. member x (met children k [] p)) (below n) in
+        let c = length-below n in
+        omega arith
+
+  -- ---- no child is left out
+  -- every chain of children from p is shorter than k
+  abbrev pub Low : ℕ → ℕ → Type 0
+  Low zero p = ⊥
+  Low (suc k) p = (q : ℕ) → List·Memᴰ q (children p) → Low k q
+
+  -- what was seen stays, and what was not has its children met
+  record Met (seen result : List ℕ) : Type 0 where
+    keeps : (x : ℕ) → List·Memᴰ x seen → List·Memᴰ x result
+    closed : (x : ℕ) → List·Memᴰ x result → List·Memᴰ x seen ⊎ ((q : ℕ) → List·Memᴰ q (children x) → List·Memᴰ q result)
+
+  met-then : (a b c : List ℕ) → Met a b → Met b c → Met a c
+  met-then a b c h k =
+      record {
+        keeps = λ x m. k .keeps x (h .keeps x m);
+        closed = λ x m. ⊎-elim
+            (λ i. ⊎-elim (λ j. inl j) (λ f. inr (λ q n. k .keeps q (f q n))) (h .closed x i))
+            (λ f. inr f)
+            (k .closed x m);
+      }
+
+  abbrev MetFrom : ℕ → Type 0
+  MetFrom k = (seen : List ℕ) (p : ℕ) → Low k p → Met seen (met children k seen p) × List·Memᴰ p (met children k seen p)
+
+  each-met : (k : ℕ) → MetFrom k → (qs seen : List ℕ) → ((q : ℕ) → List·Memᴰ q qs → Low k q)
+      → Met seen (each (met children k) seen qs) × ((q : ℕ) → List·Memᴰ q qs → List·Memᴰ q (each (met children k) seen qs))
+  each-met k f [] seen l = (record { keeps = λ x m. m; closed = λ x m. inl m }, λ q m. absurd (List·Memᴰ·not-nil m))
+  each-met k f (q ∷ qs) seen l =
+      let a = f seen q (l q (List·Memᴰ·head refl)) in
+      let b = each-met k f qs (met children k seen q) (λ r m. l r (List·Memᴰ·tail m)) in (
+        met-then seen (met children k seen q) (each (met children k) (met children k seen q) qs) (a .0) (b .0),
+        λ r m. ⊎-elim (λ i. Memᴰ·cast i (b .0 .keeps q (a .1))) (λ n. b .1 r n) (List·Memᴰ·cases-cons m),
+      )
+
+  met-from : (k : ℕ) → MetFrom k
+  unfolding met
+  met-from zero seen p l = absurd l
+  met-from (suc k) seen p l =
+      split (member p seen)
+      (λ t. rw (t, met) (record { keeps = λ x m. m; closed = λ x m. inl m }, member-mem p seen t))
+      (λ t. rw (t, met) (
+      let b = each-met k (met-from k) (children p) (seen ++ p ∷ []) l in
+      let own : (x : ℕ) → x ≡ p → (q : ℕ) → List·Memᴰ q (children x) → List·Memᴰ q (each (met children k) (seen ++ p ∷ []) (children p)) =
+      λ x i q n. b .1 q (subst (λ z. List·Memᴰ q (children z)) i n) in (
+        record {
+          keeps = λ x m. b .0 .keeps x (Memᴰ·append-left (p ∷ []) m);
+          closed = λ x m. ⊎-elim
+              (λ i. ⊎-elim (λ j. inl j) (λ j. inr (own x (List·Memᴰ·eq-of-singleton j))) (List·Memᴰ·append-cases seen i))
+              (λ f. inr f)
+              (b .0 .closed x m);
+        },
+        b .0 .keeps p (Memᴰ·append-right seen (List·Memᴰ·head refl)),
+      )))
+
+  pub start-met : (k p : ℕ) → Low k p → List·Memᴰ p (met children k [] p)
+  start-met k p l = met-from k [] p l .1
+
+  pub children-met : (k p : ℕ) → Low k p
+      → (x q : ℕ) → List·Memᴰ x (met children k [] p) → List·Memᴰ q (children x) → List·Memᴰ q (met children k [] p)
+  children-met k p l x q m n = ⊎-elim (λ i. absurd (List·Memᴰ·not-nil i)) (λ f. f q n) (met-from k [] p l .0 .closed x m)
+
+-- ---- where a block stands
+module _ (size : ℕ → ℕ) (block : ℕ → List ℕ) (fits : (q : ℕ) → length (block q) ≡ size q) where
+  -- after the d nodes of the blocks before it
+  pub block-at : (l : List ℕ) (at p : ℕ) → List·Memᴰ p l
+      → (d : ℕ) × (rest : List ℕ) × (blockAt size at l p ≡ at + d) × (drop d (joinAll (map block l)) ≡ block p ++ rest)
+  unfolding blockAt
+  block-at [] at p m = absurd (List·Memᴰ·not-nil m)
+  block-at (q ∷ l) at p m =
+      split (eqb p q)
+      (λ t. (0, joinAll (map block l), rw (t, blockAt) (sym (add-zero at)), rw (eqb-true p q t)))
+      (λ t.
+      let r = block-at l (at + size q) p (⊎-elim (λ i. absurd (eqb-false p q t i)) (λ n. n) (List·Memᴰ·cases-cons m)) in (
+        size q + r .0,
+        r .1,
+        rw (t, blockAt) (r .2 ∙ add-assoc at (size q) (r .0)),
+        ap (λ k. drop (k + r .0) (block q ++ joinAll (map block l))) (sym (fits q))
+            ∙ drop-append-add (block q) (joinAll (map block l)) (r .0)
+            ∙ r .3,
+      ))
+
+  pub blocks-length : (l : List ℕ) → length (joinAll (map block l)) ≡ total size l
+  unfolding total
+  blocks-length [] = refl
+  blocks-length (q ∷ l) =
+      let a = fits q in
+      let b = blocks-length l in
+      length-append (block q) (joinAll (map block l)) ∙ omega arith
+
+module _ (size : ℕ → ℕ) where
+  pub block-first : (at p : ℕ) (l : List ℕ) → blockAt size at (p ∷ l) p ≡ at
+  unfolding blockAt
+  block-first at p l = rw (eq-eqb p p refl, blockAt)
+
+  -- a block ends where all do, or before
+  pub block-within : (l : List ℕ) (at p : ℕ) → List·Memᴰ p l → blockAt size at l p + size p ≤ at + total size l
+  unfolding blockAt total
+  block-within [] at p m = absurd (List·Memᴰ·not-nil m)
+  block-within (q ∷ l) at p m =
+      split (eqb p q)
+      (λ t. rw (t, blockAt) (let e = ap size (eqb-true p q t) in omega arith))
+      (λ t.
+      let r = block-within l (at + size q) p (⊎-elim (λ i. absurd (eqb-false p q t i)) (λ n. n) (List·Memᴰ·cases-cons m)) in
+      rw (t, blockAt) (omega arith))
+
+  -- and any number asked for is at most that of the end
+  pub block-upto : (l : List ℕ) (at p : ℕ) → blockAt size at l p ≤ at + total size l
+  unfolding blockAt total
+  block-upto [] at p = omega arith
+  block-upto (q ∷ l) at p =
+      split (eqb p q)
+      (λ t. rw (t, blockAt) (omega arith))
+      (λ t. let r = block-upto l (at + size q) p in rw (t, blockAt) (omega arith))
+
+  pub block-from : (l : List ℕ) (at p : ℕ) → at ≤ blockAt size at l p
+  unfolding blockAt
+  block-from [] at p = omega arith
+  block-from (q ∷ l) at p =
+      split (eqb p q)
+      (λ t. rw (t, blockAt) (omega arith))
+      (λ t. let r = block-from l (at + size q) p in rw (t, blockAt) (omega arith))
+
+  -- blocks of a node or more take as many nodes as there are blocks, or more
+  pub blocks-most : (l : List ℕ) → ((q : ℕ) → List·Memᴰ q l → 0 < size q) → length l ≤ total size l
+  unfolding total
+  blocks-most [] h = zero-le
+  blocks-most (q ∷ l) h =
+      let a = h q (List·Memᴰ·head refl) in
+      let b = blocks-most l (λ r m. h r (List·Memᴰ·tail m)) in
+      omega arith

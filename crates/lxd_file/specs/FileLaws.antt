@@ -1,0 +1,63 @@
+-- A written file read back: its length, the two numbers of its header, and its nodes.
+use mathlib.Core.Path.{_≡_, sym, ap, _∙_}
+use mathlib.Core.List.{List, _++_, map, List·Memᴰ}
+use Prim.Native.Nat.{ℕ, _+_, _*_, _^_, _<_}
+use native.Mathlib.Omega.{arith}
+use lib.ListN.{length, getD, drop, replicate, length-append, length-take, length-replicate}
+use lib.Seq.{drop-drop, drop-at}
+use Rattle.endian.specs.Bytes.{toBytes, nodeBytes, wholeNodes}
+use Rattle.node.specs.Nodes.{KBWG}
+use Rattle.graph.specs.Runs.{Graph}
+use Rattle.graph.specs.Words.{count}
+use Rattle.export.specs.Starts.{start}
+use Rattle.export.specs.Latin1.{byteWritten}
+use Rattle.lxd_file.specs.File.{field, lxdNodes, lxdFile}
+use Rattle.lxd_file.specs.Reading.{nodesRead, nodeCount, wordCount}
+use Rattle.lxd_file.specs.NumbersLaws.{number-read, numbers-read, length-numbers}
+
+pub length-field : (size : ℕ) (text : List ℕ) → length (field size text) ≡ size
+length-field size text =
+    let a = length-replicate {A = ℕ} size 0 in
+    let b = length-append (map byteWritten text) (replicate size 0) in
+    rw length-take (omega arith)
+
+after-two : (a b r : List ℕ) (m n : ℕ) → length a ≡ m → length b ≡ n → drop (m + n) (a ++ (b ++ r)) ≡ r
+after-two a b r m n h k = sym (drop-drop n m (a ++ (b ++ r))) ∙ ap (drop n) (drop-at a (b ++ r) m h) ∙ drop-at b r n k
+
+module _ (g : Graph) (labels title date : List ℕ) where
+  abbrev file : List ℕ
+  file = lxdFile g labels title date
+
+  abbrev nodes : List ℕ
+  nodes = lxdNodes g labels
+
+  abbrev spelled : ℕ
+  spelled = count KBWG g (start g 0)
+
+  pub length-file : length file ≡ 64 + 4 * length nodes
+  unfolding lxdFile
+  length-file =
+      let a = length-field 32 title in
+      let b = length-field 20 date in
+      let c = length-numbers nodes in
+      simp length-append (omega arith)
+
+  -- ---- what stands after the date, and after the header
+  after-date : drop 60 file ≡ toBytes spelled ++ nodeBytes nodes
+  unfolding lxdFile
+  after-date =
+      after-two (field 32 title) (field 20 date) (toBytes spelled ++ nodeBytes nodes) 32 20 (length-field 32 title) (length-field 20 date)
+
+  after-header : drop 64 file ≡ nodeBytes nodes
+  after-header = sym (drop-drop 4 60 file) ∙ ap (drop 4) after-date
+
+  -- ---- what is read
+  pub file-nodes : ((v : ℕ) → List·Memᴰ v nodes → v < 2 ^ 32) → nodesRead file ≡ nodes
+  file-nodes h = ap wholeNodes after-header ∙ numbers-read nodes h
+
+  pub file-node-count : length nodes < 2 ^ 32 → nodeCount file ≡ length nodes
+  unfolding lxdFile
+  file-node-count h = ap (λ l. getD l 0 0) (number-read (length nodes) _ h)
+
+  pub file-word-count : spelled < 2 ^ 32 → wordCount file ≡ spelled
+  file-word-count h = ap (λ l. getD (wholeNodes l) 0 0) after-date ∙ ap (λ l. getD l 0 0) (number-read spelled (nodeBytes nodes) h)

@@ -1,0 +1,95 @@
+-- Every file that the writer accepts spells the words from the start, each tile renamed to its label. The idea: the runs stand in the
+-- file as copies, and no chain of runs is longer than the file.
+use mathlib.Core.Path.{_≡_, refl, sym, ap, _∙_}
+use mathlib.Core.List.{List, [], _∷_, _++_, map, List·Memᴰ}
+use Prim.Native.Nat.{ℕ, suc, _+_}
+use native.Mathlib.Omega.{arith}
+use lib.ListN.{length, getD, drop, length-map}
+use Rattle.laws.specs.Members.{join-in}
+use Rattle.node.specs.Nodes.{KBWG, arc}
+use Rattle.graph.specs.Runs.{Graph, run}
+use Rattle.graph.specs.Words.{Word, inOrder, spelled, wordsWithin, words}
+use Rattle.export.specs.Starts.{start, runOf}
+use Rattle.export.specs.BlocksLaws.{block-at}
+use Rattle.export.specs.ChainLaws.{words-within}
+use Rattle.lxd_file.specs.File.{LXD, runs, child, lxdNode, lxdNodes}
+use Rattle.lxd_file.specs.Reading.{lxdWords}
+use Rattle.lxd_file.specs.Row.{reached}
+use Rattle.lxd_file.specs.RowLaws.{Accepted, accepted}
+use Rattle.lxd_file.specs.Spelling.{spelt, renamed, LxdSpells}
+use Rattle.lxd_file.specs.CopiedLaws.{map-append, drop-map, run-copied, Copied, words-copied}
+use Rattle.lxd_file.specs.FileLaws.{file-nodes, file-node-count, file-word-count}
+use Rattle.lxd_file.specs.RunsLaws.{size, place, no-child, child-place, start-place, runs-inside, runs-within, place-within, start-in-runs, arc-in-runs, runs-end, ends-from, start-inside}
+use Rattle.lxd_file.specs.NodesLaws.{words-or-none, nodes-none, nodes-some, node-fields, nodes-below, nodes-few}
+
+none-left : (ws : List Word) → length ws ≡ 0 → ws ≡ []
+none-left [] e = refl
+none-left (w ∷ ws) e = absurd (omega arith)
+
+module _ (g : Graph) (labels : List ℕ) (ok : Accepted g labels) where
+  abbrev label : ℕ → ℕ
+  label t = getD labels t 0
+
+  abbrev copies : List ℕ
+  copies = 0x8A800000 ∷ 0x8A800002 ∷ map (lxdNode g labels) (reached g)
+
+  -- ---- a run of the graph stands in the file as its copy
+  copy-at : (p : ℕ) → List·Memᴰ p (runs g) → (rest : List ℕ) × (drop (place g p) copies ≡ map (lxdNode g labels) (runOf g p) ++ rest)
+  copy-at p m =
+      let b = block-at (size g) (runOf g) (λ q. refl) (runs g) 2 p m in
+      let e : place g p ≡ suc (suc (b .0)) = let x = b .2 in omega arith in
+      let h = lxdNode g labels in
+      (map h (b .1), rw e (drop-map h (b .0) (reached g) ∙ ap (map h) (b .3) ∙ map-append h (runOf g p) (b .1)))
+
+  run-at : (p : ℕ) → List·Memᴰ p (runs g) → run LXD (drop (place g p) copies) ≡ map (lxdNode g labels) (runOf g p)
+  run-at p m =
+      let c = copy-at p m in
+      ap (run LXD) (c .1)
+      ∙ run-copied KBWG LXD (lxdNode g labels) (drop p g) (c .0) (ends-from g (ok .sound .steps) p (runs-inside g (ok .sound) p m))
+      (λ v n. node-fields g labels ok v (join-in (runOf g) (runs g) p v m n) .end-is)
+
+  copied : Copied KBWG LXD g copies (runs g) (place g) label (lxdNode g labels)
+  copied =
+      record {
+        runs = run-at;
+        tiles = λ v m. node-fields g labels ok v m .tile-is;
+        flags = λ v m. node-fields g labels ok v m .accepts-is;
+        no-arc = λ v m z. node-fields g labels ok v m .arc-is ∙ ap (child g) z ∙ no-child g;
+        arcs = λ v m n.
+            let i = arc-in-runs g (ok .sound) (ok .ended) v m n in
+            let two = place-within g (ok .sound) (arc KBWG v) i .0 in
+            (i, node-fields g labels ok v m .arc-is ∙ child-place g (arc KBWG v) n, λ z. omega arith);
+      }
+
+  -- ---- so the copies spell the words, and the nodes of a file with no words spell none
+  copies-spell : words LXD copies 2 ≡ spelt g labels
+  unfolding words
+  copies-spell =
+      let s = start g 0 in
+      let n = length copies in
+      let l = length-map (reached g) (lxdNode g labels) in
+      let r = runs-within g (ok .sound) in
+      ap (wordsWithin LXD n copies) (sym (start-place g))
+      ∙ words-copied KBWG LXD g copies (runs g) (place g) label (lxdNode g labels) copied n s (start-in-runs g (ok .sound) (ok .ended))
+      ∙ ap (map (map label))
+      (words-within g (ok .sound .steps) n s (start-inside g (ok .sound)) (runs-end g (ok .sound) (ok .ended) n (omega arith)))
+
+  nodes-spell : words LXD (lxdNodes g labels) 2 ≡ spelt g labels
+  unfolding words wordsWithin inOrder spelled run
+  nodes-spell =
+      words-or-none g
+      (λ z. ap (λ l. words LXD l 2) (nodes-none g labels z) ∙ ap (map (renamed labels)) (sym (none-left (words KBWG g (start g 0)) z)))
+      (λ n. ap (λ l. words LXD l 2) (nodes-some g labels n) ∙ copies-spell)
+
+pub lxd-spells : LxdSpells
+unfolding lxdWords
+lxd-spells g labels title date lentWork lentFile e =
+    let ok = accepted g labels title date lentWork lentFile e in
+    let nodes = file-nodes g labels title date (nodes-below g labels ok) in
+    let few = nodes-few g labels ok in
+    let most = ok .few in
+    record {
+      read = ap (λ l. words LXD l 2) nodes ∙ nodes-spell g labels ok;
+      nodes-told = file-node-count g labels title date (omega arith) ∙ sym (ap length nodes);
+      words-told = file-word-count g labels title date (omega arith) ∙ sym (length-map (words KBWG g (start g 0)) (renamed labels));
+    }

@@ -1,0 +1,2 @@
+pub mod NumbersLeft
+pub mod Tests

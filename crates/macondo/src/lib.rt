@@ -1,0 +1,3 @@
+// Writes a graph as a file for Macondo.
+mod checks;
+mod sections;
