@@ -82,20 +82,25 @@ module _ (children : ℕ → List ℕ) where
       met-from-first children (λ _. Unit) (λ _ _ _ _. tt) (λ l. (r : List ℕ) × (l ≡ p ∷ r))
       (λ seen q h _ e. (h .0 ++ q ∷ [], ap (_++ q ∷ []) (h .1))) k p ([], refl) tt
 
+  still-member : (seen : List ℕ) (p x : ℕ) → member x seen ≡ true → member x (seen ++ p ∷ []) ≡ true
+  still-member seen p x e = mem-member x (seen ++ p ∷ []) (Memᴰ·append-left (p ∷ []) (member-mem x seen e))
+
   -- as many blocks as there are nodes, or fewer
   module _ (n : ℕ) (stays : (p q : ℕ) → p < n → List·Memᴰ q (children p) → q < n) where
+    abbrev seenBelow : List ℕ → List ℕ
+    seenBelow seen = kept (λ x. member x seen) (below n)
+
+    one-more : (seen : List ℕ) (p : ℕ) → length seen ≤ length (seenBelow seen) → p < n → member p seen ≡ false
+        → length (seen ++ p ∷ []) ≤ length (seenBelow (seen ++ p ∷ []))
+    one-more seen p h i e =
+        let new = mem-member p (seen ++ p ∷ []) (Memᴰ·append-right seen (List·Memᴰ·head refl)) in
+        let a = kept-less (λ x. member x seen) (λ x. member x (seen ++ p ∷ [])) (still-member seen p) (below n) p (in-below n p i) e new in
+        let b = length-append seen (p ∷ []) in
+        omega arith
+
     pub few-met : (k p : ℕ) → p < n → length (met children k [] p) ≤ n
-    few-met k p s =
-        let seenOf : List ℕ → List ℕ = λ l. kept (λ x. member x l) (below n) in
-        let a : length (met children k [] p) ≤ length (seenOf (met children k [] p)) =
-        met-holds children (λ q. q < n) stays (λ l. length l ≤ length (seenOf l))
-        (λ seen q h t e.
-        let l = length-append seen (q ∷ []) in
-        let m = kept-less (λ x. member x seen) (λ x. member x (seen ++ q ∷ []))
-        (λ x i. mem-member x (seen ++ q ∷ []) (Memᴰ·append-left (q ∷ []) (member-mem x seen i)))
-        (below n) q (in-below n q t) e (mem-member q (seen ++ q ∷ []) (Memᴰ·append-right seen (List·Memᴰ·head refl))) in
-        omega arith)
-        k [] p zero-le s in
+    few-met k p i =
+        let a = met-holds children (λ q. q < n) stays (λ l. length l ≤ length (seenBelow l)) one-more k [] p zero-le i in
         let b = kept-length (λ x. member x (met children k [] p)) (below n) in
         let c = length-below n in
         omega arith
@@ -121,6 +126,21 @@ module _ (children : ℕ → List ℕ) where
             (k .closed x m);
       }
 
+  -- a block with its children met
+  met-after : (seen result : List ℕ) (p : ℕ) → Met (seen ++ p ∷ []) result → ((q : ℕ) → List·Memᴰ q (children p) → List·Memᴰ q result)
+      → Met seen result
+  met-after seen result p h own =
+      record {
+        keeps = λ x m. h .keeps x (Memᴰ·append-left (p ∷ []) m);
+        closed = λ x m. ⊎-elim
+            (λ i. ⊎-elim
+            (λ j. inl j)
+            (λ j. inr (λ q n. own q (subst (λ z. List·Memᴰ q (children z)) (List·Memᴰ·eq-of-singleton j) n)))
+            (List·Memᴰ·append-cases seen i))
+            (λ f. inr f)
+            (h .closed x m);
+      }
+
   abbrev MetFrom : ℕ → Type 0
   MetFrom k = (seen : List ℕ) (p : ℕ) → Low k p → Met seen (met children k seen p) × List·Memᴰ p (met children k seen p)
 
@@ -142,17 +162,8 @@ module _ (children : ℕ → List ℕ) where
       (λ t. rw (t, met) (record { keeps = λ x m. m; closed = λ x m. inl m }, member-mem p seen t))
       (λ t. rw (t, met) (
       let b = each-met k (met-from k) (children p) (seen ++ p ∷ []) l in
-      let own : (x : ℕ) → x ≡ p → (q : ℕ) → List·Memᴰ q (children x) → List·Memᴰ q (each (met children k) (seen ++ p ∷ []) (children p)) =
-      λ x i q n. b .1 q (subst (λ z. List·Memᴰ q (children z)) i n) in (
-        record {
-          keeps = λ x m. b .0 .keeps x (Memᴰ·append-left (p ∷ []) m);
-          closed = λ x m. ⊎-elim
-              (λ i. ⊎-elim (λ j. inl j) (λ j. inr (own x (List·Memᴰ·eq-of-singleton j))) (List·Memᴰ·append-cases seen i))
-              (λ f. inr f)
-              (b .0 .closed x m);
-        },
-        b .0 .keeps p (Memᴰ·append-right seen (List·Memᴰ·head refl)),
-      )))
+      let here = b .0 .keeps p (Memᴰ·append-right seen (List·Memᴰ·head refl)) in
+      (met-after seen (each (met children k) (seen ++ p ∷ []) (children p)) p (b .0) (b .1), here)))
 
   pub start-met : (k p : ℕ) → Low k p → List·Memᴰ p (met children k [] p)
   start-met k p l = met-from k [] p l .1

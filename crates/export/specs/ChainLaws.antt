@@ -173,3 +173,14 @@ module _ (g : Graph) where
   words-within c k p h e =
       sym (words-from k (k + length g) p (omega arith) e)
       ∙ words-from (length g) (k + length g) p (omega arith) (shallow-graph g c k p h e)
+
+  -- and the words satisfy the equation of document 01
+  pub shallow-equation : Closed g → (k p : ℕ) → p < length g → deeper g k p ≡ false
+      → words KBWG g p ≡ inOrder (spelled KBWG (words KBWG g)) (runOf g p)
+  unfolding wordsWithin
+  shallow-equation c zero p h e = absurd (none-deeper g p e)
+  shallow-equation c (suc k) p h e =
+      sym (words-within c (suc k) p h e)
+      ∙ in-order-same (spelled KBWG (λ q. wordsWithin KBWG k g q)) (spelled KBWG (words KBWG g)) (runOf g p)
+      (λ v m. spelled-same (λ q. wordsWithin KBWG k g q) (words KBWG g) v
+      (λ a. let i = arc-from g p v m a in words-within c k (arc KBWG v) (arcs-inside g c p (arc KBWG v) i) (shallow-arc g k p (arc KBWG v) e i)))

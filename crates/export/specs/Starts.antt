@@ -1,10 +1,10 @@
 -- What both writers read of a graph, from document 01, "Files for other programs".
 use mathlib.Core.Bool.{Bool, true, _&&_, not}
-use mathlib.Core.List.{List, map}
+use mathlib.Core.List.{List}
 use Prim.Native.Nat.{ℕ, zero, suc}
 use lib.Dec.{eqb, leb}
 use lib.ListN.{length, drop}
-use Rattle.laws.specs.Lists.{kept, someOf}
+use Rattle.laws.specs.Lists.{someOf}
 use Rattle.node.specs.Nodes.{KBWG, tile, arc}
 use Rattle.graph.specs.Runs.{Graph, node, run}
 

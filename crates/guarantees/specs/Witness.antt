@@ -1,23 +1,41 @@
--- The five nodes of document 01 meet the premises: what is promised of graphs that count and ascend, and of alphagram lexicons, is not empty.
-use mathlib.Core.Path.{refl}
-use mathlib.Core.List.{List}
+-- The five nodes of document 01 meet the premises of what is promised: of demand 3, fed in pieces, finished, counted, numbered and written
+-- both ways, and of alphagram lexicons.
+use mathlib.Core.Path.{_≡_, refl}
+use mathlib.Core.List.{List, [], _∷_}
 use Prim.Native.Nat.{ℕ, zero, suc, _≤_, _<_}
 use native.Mathlib.Omega.{arith}
 use lib.Dec.{lit<}
-use lib.ListN.{length}
+use lib.ListN.{length, take, replicate}
+use Rattle.laws.specs.BitSets.{bitSet}
 use Rattle.laws.specs.Lists.{all-mem}
-use Rattle.node.specs.Answers.{firstOf}
-use Rattle.node.specs.Nodes.{KBWG}
+use Rattle.laws.specs.Sorting.{insertedAll}
+use Rattle.endian.specs.Bytes.{wholeNodes, partNode, nodeBytes, bigEndians}
+use Rattle.node.specs.Answers.{gives, firstOf}
+use Rattle.node.specs.Nodes.{KBWG, fits}
+use Rattle.node.specs.declared.Layout.the-variants.{Kwg}
 use Rattle.graph.specs.Runs.{run, ascends, largestArc, lastEnds}
 use Rattle.graph.specs.Words.{inOrder, spelled, wordsWithin, words, count}
-use Rattle.graph.specs.Counting.{counts, table, Counts}
+use Rattle.graph.specs.Counting.{table, Counts, Counted, all}
 use Rattle.graph.specs.ChecksLaws.{fit}
 use Rattle.graph.specs.UpwardLaws.{leadsUp, upward-loopless}
-use Rattle.numbers.specs.Numbered.{Lent, Numbered}
-use Rattle.numbers.specs.NumberedLaws.{numbered}
+use Rattle.load.specs.Repacking.{fitting, firstMisfit}
+use Rattle.load.specs.Loading.{begin, feed, finish, holding, stateAfter, nodesAfter, zeros}
+use Rattle.pieces.specs.Pieces.{loadPieces, fedPieces, feedAll}
+use Rattle.numbers.specs.Numbered.{Numbered}
+use Rattle.export.specs.Starts.{deeper}
+use Rattle.export.specs.Blocks.{met, blockAt}
+use Rattle.export.specs.Latin1.{byteOf}
+use Rattle.export.specs.Written.{Written}
+use Rattle.macondo_file.specs.Alphabet.{letters, letterOf}
+use Rattle.macondo_file.specs.File.{dawg, arcsOf, setOf, blocks, sets, blockOf, macondoNodes, macondoFile}
+use Rattle.macondo_file.specs.Row.{macondoRow, toMacondo}
+use Rattle.lxd_file.specs.File.{runs, child, lxdNode, lxdNodes, lxdFile}
+use Rattle.lxd_file.specs.Row.{lxdRow, toLxd}
 use Rattle.alphagrams.specs.Alphagrams.{NeverDescends, AlphagramLexicon, Alpha}
 use Rattle.alphagrams.specs.MeaningLaws.{alpha-means}
-use Rattle.guarantees.specs.Starred.{G}
+use Rattle.guarantees.specs.Demand3.{Ready, Wrote, table as loaded}
+use Rattle.guarantees.specs.Demand3Laws.{demand-3}
+use Rattle.guarantees.specs.Starred.{G, labels}
 
 few : (p : ℕ) → p < length G → count KBWG G p < 4_294_967_295
 unfolding words wordsWithin inOrder spelled run
@@ -32,13 +50,63 @@ pub G-counts : Counts 4_294_967_295 G
 unfolding firstOf largestArc lastEnds leadsUp
 G-counts = record { fit = refl; loopless = upward-loopless G refl; few = few }
 
-pub G-lent : Lent G G (counts G)
-unfolding table
-G-lent = record { nodes-are = refl; counts-are = refl }
+-- G as a KWG file, cut inside nodes, with a piece of no bytes
+abbrev pub G-pieces : List (List ℕ)
+G-pieces =
+    (0x02 ∷ 0x00 ∷ 0x40 ∷ 0x00 ∷ 0x00 ∷ [])
+    ∷ (0x00 ∷ 0x40 ∷ [])
+    ∷ []
+    ∷ (0x00 ∷ 0x04 ∷ 0x00 ∷ 0x80 ∷ 0x01 ∷ 0x04 ∷ 0x00 ∷ 0x40 ∷ 0x02 ∷ 0x00 ∷ 0x00 ∷ 0xC0 ∷ 0x02 ∷ [])
+    ∷ []
 
-pub G-numbered : Numbered 4_294_967_295 G G (counts G) 2
-unfolding ascends
-G-numbered = numbered 4_294_967_295 G G-counts refl G (counts G) G-lent 2 (omega arith) (omega arith)
+-- lent nodes and counts, longer than G, and bytes for the files
+abbrev lent : List ℕ
+lent = replicate 6 7
+
+abbrev counted : List ℕ
+counted = 3 ∷ 0 ∷ 3 ∷ 1 ∷ 1 ∷ 7 ∷ []
+
+abbrev bytes : List ℕ
+bytes = replicate 90 7
+
+G-counted : Counted 4_294_967_295 G lent 10 (gives []) counted
+unfolding firstOf largestArc lastEnds table words wordsWithin inOrder spelled run
+G-counted = all refl (G-counts .loopless) few
+
+pub G-ready : Ready 20 Kwg lent G-pieces 4_294_967_295 5 counted
+unfolding loadPieces fedPieces feedAll begin feed finish firstOf holding stateAfter nodesAfter wholeNodes partNode firstMisfit fitting fits zeros largestArc lastEnds ascends
+G-ready = record { loads = refl; lentCounts = lent; lentWork = 10; counts = G-counted; ascending = refl }
+
+abbrev G-macondo : Written
+G-macondo = toMacondo G labels [] dawg 40 bytes
+
+abbrev G-lxd : Written
+G-lxd = toLxd G labels (0x47 ∷ []) [] 40 bytes
+
+-- every premise at once, with what it brings
+pub record Met : Type 0 where
+  pub ready : Ready 20 Kwg lent G-pieces 4_294_967_295 5 counted
+  pub numbered : Numbered 4_294_967_295 G (loaded 20 Kwg lent G-pieces) counted 2
+  pub macondo : Wrote G-macondo (take 57 (G-macondo .bytes))
+  pub lxd : Wrote G-lxd (take 84 (G-lxd .bytes))
+
+macondo-written : G-macondo .answer ≡ gives (57 ∷ [])
+unfolding toMacondo macondoRow firstOf largestArc lastEnds ascends deeper run insertedAll table met blockAt letters letterOf arcsOf setOf bitSet blocks sets blockOf macondoNodes macondoFile bigEndians
+macondo-written = refl
+
+lxd-written : G-lxd .answer ≡ gives (84 ∷ [])
+unfolding toLxd lxdRow firstOf largestArc lastEnds deeper run met blockAt runs child lxdNode lxdNodes lxdFile byteOf nodeBytes words wordsWithin inOrder spelled
+lxd-written = refl
+
+pub G-met : Met
+unfolding loadPieces fedPieces feedAll begin feed finish firstOf holding stateAfter nodesAfter wholeNodes partNode firstMisfit fitting fits zeros largestArc lastEnds
+G-met =
+    record {
+      ready = G-ready;
+      numbered = demand-3 4_294_967_295 .numbering 20 Kwg lent G-pieces 5 counted G-ready 2 (omega arith) (omega arith);
+      macondo = record { size = 57; answered = macondo-written; bytes = refl };
+      lxd = record { size = 84; answered = lxd-written; bytes = refl };
+    }
 
 never-descends : AlphagramLexicon G
 unfolding words wordsWithin inOrder spelled run

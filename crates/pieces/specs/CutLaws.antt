@@ -8,16 +8,17 @@ use native.Mathlib.Numerals.{add-one}
 use lib.ListN.{length, getD, take, drop, length-drop, drop-of-length-le, take-append-drop}
 use lib.Seq.{take-all, drop-drop, drop-cons}
 use borrow.Author.Tests.{ltb-true, ltb-false}
+use Rattle.laws.specs.Lists.{joinAll}
 use Rattle.laws.specs.Cases.{split}
 use Rattle.node.specs.declared.Layout.{Layout}
 use Rattle.graph.specs.Runs.{Graph}
-use Rattle.pieces.specs.Pieces.{feedAll, fedPieces, fedWhole, joined, joinAll, oneFeed, Loads, loadPieces, loadWhole, cutAt}
+use Rattle.pieces.specs.Pieces.{feedAll, fedPieces, fedWhole, joined, oneFeed, Loads, loadPieces, loadWhole, cutAt}
 use Rattle.pieces.specs.PiecesLaws.{loads-as-whole, loads-however-cut}
 use Rattle.load.specs.Loading.{Begins, begin, Feeds, feed, Finishes, finish}
 use Rattle.load.specs.declared.loader.Loader.{Loader}
 
 pub cut-joins : (cuts bytes : List ℕ) → joinAll (cutAt cuts bytes) ≡ bytes
-unfolding joinAll cutAt
+unfolding cutAt
 cut-joins [] bytes = append-nil bytes
 cut-joins (c ∷ cuts) bytes = ap (λ r. take c bytes ++ r) (cut-joins cuts (drop c bytes)) ∙ take-append-drop c bytes
 

@@ -83,10 +83,6 @@ module _ (announced : ℕ) (layout : Layout) (nodes : Graph) (pieces : List (Lis
     pub placed : fedPieces .nodes ≡ nodesAfter layout 0 joined nodes
 
 -- ---- a file of the announced length, cut into pieces anyhow
-unfoldable pub joinAll : List (List ℕ) → List ℕ
-joinAll [] = []
-joinAll (p ∷ ps) = p ++ joinAll ps
-
 -- the bytes up to the end of each piece, after those that came before
 unfoldable pub upToEach : List ℕ → List (List ℕ) → List (List ℕ)
 upToEach before [] = []

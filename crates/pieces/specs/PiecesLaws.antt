@@ -9,6 +9,7 @@ use borrow.Author.Tests.{ltb-true, ltb-false, le-ltb}
 use lib.Dec.{ltb}
 use lib.ListN.{length, length-append}
 use lib.Seq.{length-sets}
+use Rattle.laws.specs.Lists.{joinAll}
 use Rattle.laws.specs.Cases.{split, split-option, some≢none}
 use Rattle.node.specs.Answers.{Answer, refused, firstOf}
 use Rattle.node.specs.Nodes.{KBWG}
@@ -24,7 +25,7 @@ use Rattle.load.specs.StateLaws.{sound-state, bad-length, state-holding, state-
 use Rattle.load.specs.BeginLaws.{begin-empty}
 use Rattle.load.specs.CallLaws.{feed-unsound, feed-kept, feed-long, feed-reads}
 use Rattle.pieces.specs.JoinLaws.{part-places, part-zeros, misfit-joined, state-joined, nodes-joined, misfit-kept, state-stays, nodes-stay}
-use Rattle.pieces.specs.Pieces.{feedAll, joinedOnto, joinedFrom, pieceAnswer, feedAnswers, joined, answers, fedPieces, fedWhole, LoadsAsWhole, joinAll, upToEach, oneFeed, LoadsHoweverCut}
+use Rattle.pieces.specs.Pieces.{feedAll, joinedOnto, joinedFrom, pieceAnswer, feedAnswers, joined, answers, fedPieces, fedWhole, LoadsAsWhole, upToEach, oneFeed, LoadsHoweverCut}
 use Rattle.load.specs.declared.loader.Loader.{Loader}
 
 module _ (announced : ℕ) (layout : Layout) (nodes : Graph) (ok : firstOf (beginRow announced (length nodes)) ≡ none) where
@@ -218,7 +219,7 @@ module _ (announced : ℕ) (layout : Layout) (nodes : Graph) where
         rw (ok, oneFeed) (rw (started announced layout nodes []) (step-joined announced layout nodes ok [] bytes zero-le refl (omega arith)))
 
     joined-is : (b : List ℕ) (ps : List (List ℕ)) → length (b ++ joinAll ps) ≤ announced → joinedFrom announced b ps ≡ b ++ joinAll ps
-    unfolding joinedFrom joinAll joinedOnto
+    unfolding joinedFrom joinedOnto
     joined-is b [] h = sym (append-nil b)
     joined-is b (p ∷ ps) h =
         let g = append-assoc b p (joinAll ps) in
@@ -235,7 +236,7 @@ module _ (announced : ℕ) (layout : Layout) (nodes : Graph) where
 
     each-fed : (b : List ℕ) (ps : List (List ℕ)) → length (b ++ joinAll ps) ≤ announced
         → feedAnswers announced layout b ps ≡ map (λ bytes. oneFeed announced layout nodes bytes .answer) (upToEach b ps)
-    unfolding feedAnswers upToEach joinAll joinedOnto
+    unfolding feedAnswers upToEach joinedOnto
     each-fed b [] h = refl
     each-fed b (p ∷ ps) h =
         let l = rw (← append-assoc b p (joinAll ps)) at h in

@@ -32,20 +32,19 @@ module _ (s : tie.Start) where
   work = length (s .args .work .now)
 
 -- what the check of the graph says
-judged : (c : tie.After-check-graph) {k : GraphCheck} → c .check-graph .result ≡ k → firstOf (graphRow (nodes (c  .before .before .before .before))) ≡ graphRefusal k
+judged : (c : tie.After-check-graph) {k : GraphCheck} → c .check-graph .result ≡ k → firstOf (graphRow (nodes (c .before .before .before .before))) ≡ graphRefusal k
 judged c e = sym (c .check-graph .ensures) ∙ ap graphRefusal e
 
 refused-there : (c : tie.After-check-graph) {k : GraphCheck} → c .check-graph .result ≡ k → {r : Answer} → graphRefusal k ≡ some r
-    → let s = c  .before .before .before .before in firstOf (countRow (nodes s) (counts s) (work s)) ≡ some r
-refused-there c e i = let s = c  .before .before .before .before in graph-refused (nodes s) (counts s) (work s) (judged c e ∙ i)
+    → let s = c .before .before .before .before in firstOf (countRow (nodes s) (counts s) (work s)) ≡ some r
+refused-there c e i = let s = c .before .before .before .before in graph-refused (nodes s) (counts s) (work s) (judged c e ∙ i)
 
-sound : (c : tie.After-enum-told) → firstOf (graphRow (nodes (c  .before .before .before .before .before .before))) ≡ none
-sound c = judged (c  .before .before) (c .enum-told .given .1)
+sound : (c : tie.After-enum-told) → firstOf (graphRow (nodes (c .before .before .before .before .before .before))) ≡ none
+sound c = judged (c .before .before) (c .enum-told .given .1)
 
 -- past all checks
-fit : (c : tie.Else2) → let s = c  .before .before .before .before .before .before .before .before in firstOf (countRow (nodes s) (counts s) (work s)) ≡ none
-fit c = let s = c  .before .before .before .before .before .before .before .before in row-clear (nodes s) (counts s) (work s) (sound (c  .before .before)) (c .before .if1 .left) (c .if2 .left)
-
+fit : (c : tie.Else2) → let s = c .before .before .before .before .before .before .before .before in firstOf (countRow (nodes s) (counts s) (work s)) ≡ none
+fit c = let s = c .before .before .before .before .before .before .before .before in row-clear (nodes s) (counts s) (work s) (sound (c .before .before)) (c .before .if1 .left) (c .if2 .left)
 
 check-graph-requires : tie.Need-check-graph-requires
 check-graph-requires c κs = search needs
@@ -57,31 +56,31 @@ enum-told-2 : tie.Need-enum-told-2
 enum-told-2 c = search needs
 
 returns : tie.Need-returns
-returns c = unfit-answer limit _ _ _ (refused-there (c  .before .before) (c .enum-told2 .given .1) refl)
+returns c = unfit-answer limit _ _ _ (refused-there (c .before .before) (c .enum-told2 .given .1) refl)
 
 enum-known-arc-index : tie.Need-enum-known-arc-index
 enum-known-arc-index c = search needs
 
 returns-2 : tie.Need-returns-2
-returns-2 c = unfit-answer limit _ _ _ (refused-there (c  .before .before .before) (c .before .arc-index .given .1) refl)
+returns-2 c = unfit-answer limit _ _ _ (refused-there (c .before .before .before) (c .before .arc-index .given .1) refl)
 
 enum-told-3 : tie.Need-enum-told-3
 enum-told-3 c = search needs
 
 returns-3 : tie.Need-returns-3
-returns-3 c = unfit-answer limit _ _ _ (refused-there (c  .before .before) (c .enum-told3 .given .1) refl)
+returns-3 c = unfit-answer limit _ _ _ (refused-there (c .before .before) (c .enum-told3 .given .1) refl)
 
 returns-4 : tie.Need-returns-4
-returns-4 c = let s = c  .before .before .before .before .before .before .before in unfit-answer limit _ _ _ (counts-short (nodes s) (counts s) (work s) (sound (c .before)) (c .if1 .taken))
+returns-4 c = let s = c .before .before .before .before .before .before .before in unfit-answer limit _ _ _ (counts-short (nodes s) (counts s) (work s) (sound (c .before)) (c .if1 .taken))
 
 mul-if2 : tie.Need-mul-if2
 mul-if2 c = search needs
 
 returns-5 : tie.Need-returns-5
-returns-5 c = let s = c  .before .before .before .before .before .before .before .before in unfit-answer limit _ _ _ (work-short (nodes s) (counts s) (work s) (sound (c  .before .before)) (c .if2 .taken))
+returns-5 c = let s = c .before .before .before .before .before .before .before .before in unfit-answer limit _ _ _ (work-short (nodes s) (counts s) (work s) (sound (c .before .before)) (c .if2 .taken))
 
 count-checked-requires : tie.Need-count-checked-requires
-count-checked-requires c κs = fit (c  .before .before)
+count-checked-requires c κs = fit (c .before .before)
 
 same-length : tie.Need-same-length
 same-length c = search needs
@@ -90,7 +89,7 @@ same-length-2 : tie.Need-same-length-2
 same-length-2 c = search needs
 
 returns-6 : tie.Need-returns-6
-returns-6 c = let a = c  .before .before .before .before .count-checked in (a .ensures .0, work-walked (fit (c  .before .before .before .before .before .before .before)) (a .ensures .1))
+returns-6 c = let a = c .before .before .before .before .count-checked in (a .ensures .0, work-walked (fit (c .before .before .before .before .before .before .before)) (a .ensures .1))
 
 pub count-words-spec : {M : Type 1} → statement M
 count-words-spec =

@@ -19,7 +19,6 @@ use Rattle.node.proofs.Node24.tile.Reads as tile-reads
 abbrev lacks : List ℕ → ℕ → Bool
 lacks labels v = leb (length labels) (tile KBWG v)
 
-
 abbrev Inv-loop : tie.InvT-loop
 Inv-loop nodes labels i₀ i = someOf (lacks labels) (drop i nodes) ≡ someOf (lacks labels) nodes
 
@@ -42,8 +41,8 @@ cast-if1 : tie.Need-cast-if1 Inv-loop μ-loop
 cast-if1 c = search needs
 
 returns : tie.Need-returns Inv-loop μ-loop
-returns c = let s = c  .before .before .before .before .before .before .before in let l = s .args .nodes .now in let i = c  .before .before .before .before .loop in
-    sym (some-here (lacks (s .args .labels .now)) l 0 (i .i) (c  .before .before .before .loop-test .taken)
+returns c = let s = c .before .before .before .before .before .before .before in let l = s .args .nodes .now in let i = c .before .before .before .before .loop in
+    sym (some-here (lacks (s .args .labels .now)) l 0 (i .i) (c .before .before .before .loop-test .taken)
     (le-leb _ (tile KBWG (getD l (i .i) 0)) (omega (arith, c .before .tile .ensures, c .if1 .taken)))) ∙ i .inv
 
 add-i : tie.Need-add-i Inv-loop μ-loop
@@ -53,12 +52,12 @@ loop-less : tie.Need-loop-less Inv-loop μ-loop
 loop-less c = search needs
 
 loop-again : tie.Need-loop-again Inv-loop μ-loop
-loop-again c = let s = c  .before .before .before .before .before .before .before in let l = s .args .nodes .now in let i = c  .before .before .before .before .loop in
-    sym (some-next (lacks (s .args .labels .now)) l 0 (i .i) (c  .before .before .before .loop-test .taken)
+loop-again c = let s = c .before .before .before .before .before .before .before in let l = s .args .nodes .now in let i = c .before .before .before .before .loop in
+    sym (some-next (lacks (s .args .labels .now)) l 0 (i .i) (c .before .before .before .loop-test .taken)
     (lt-leb _ (tile KBWG (getD l (i .i) 0)) (omega (arith, c .before .tile .ensures, c .if1 .left)))) ∙ i .inv
 
 returns-2 : tie.Need-returns-2 Inv-loop μ-loop
-returns-2 c = let s = c  .before .before .before .before in let i = c .before .loop in
+returns-2 c = let s = c .before .before .before .before in let i = c .before .loop in
     sym (some-past (lacks (s .args .labels .now)) (s .args .nodes .now) 0 (i .i) (omega (arith, c .loop-test .left))) ∙ i .inv
 
 pub lacks-label-spec : {M : Type 1} → statement M

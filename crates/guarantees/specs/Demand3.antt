@@ -1,0 +1,75 @@
+-- Demand 3 of document 01, undivided: however a graph file is cut it ends as in one piece; where it loads, counts and ascends, numbers
+-- below a node's count name exactly its words, in order, each word gives its number back and everything else gets none; every file that
+-- is written spells exactly the words it should. It speaks of the definitions that the contracts of the calls name.
+use mathlib.Core.Path.{_≡_}
+use mathlib.Core.Bool.{true}
+use mathlib.Core.List.{List, [], _∷_, List·Memᴰ}
+use mathlib.Core.Logic.{_↔_}
+use Prim.Native.Nat.{ℕ, _<_}
+use lib.ListN.{take, drop}
+use Rattle.laws.specs.Lists.{joinAll}
+use Rattle.node.specs.Answers.{gives}
+use Rattle.node.specs.Nodes.{KBWG}
+use Rattle.node.specs.declared.Layout.{Layout}
+use Rattle.graph.specs.Runs.{Graph, run, ascends}
+use Rattle.graph.specs.Words.{Word, inOrder, spelled, words}
+use Rattle.graph.specs.Counting.{Counted}
+use Rattle.pieces.specs.Pieces.{LoadsAsWhole, LoadsHoweverCut, loadPieces}
+use Rattle.numbers.specs.Numbered.{Lent, Numbered}
+use Rattle.export.specs.Starts.{start}
+use Rattle.export.specs.Written.{Written}
+use Rattle.macondo_file.specs.File.{Format, marks}
+use Rattle.macondo_file.specs.Reading.{macondoWords}
+use Rattle.macondo_file.specs.Row.{toMacondo}
+use Rattle.macondo_file.specs.Spelling as macondo
+use Rattle.lxd_file.specs.Row.{toLxd}
+use Rattle.lxd_file.specs.Spelling as lxd
+
+-- "Words from p: for each node of the run in order, its tile alone if it accepts; then, where its arc is not 0, its tile before each word
+-- from the arc."
+abbrev pub WordsAt : Graph → ℕ → Type 0
+WordsAt g p = words KBWG g p ≡ inOrder (spelled KBWG (words KBWG g)) (run KBWG (drop p g))
+
+-- "once written": the call answered the file's length, and these are the bytes
+pub record Wrote (w : Written) (file : List ℕ) : Type 0 where
+  pub size : ℕ
+  pub answered : w .answer ≡ gives (size ∷ [])
+  pub bytes : file ≡ take size (w .bytes)
+
+-- Begin, the feeds of the pieces, and finish, over lent nodes.
+module _ (announced : ℕ) (layout : Layout) (lent : Graph) (pieces : List (List ℕ)) where
+  abbrev pub table : Graph
+  table = loadPieces announced layout lent pieces .nodes
+
+  -- "A file loads where finish gives no refusal, and counts where counting its N nodes, with lists long enough, gives none"; its runs
+  -- ascend; `counted` is what counting left of the counts it was lent
+  pub record Ready (limit n : ℕ) (counted : List ℕ) : Type 0 where
+    pub loads : loadPieces announced layout lent pieces .finished ≡ gives (n ∷ [])
+    pub lentCounts : List ℕ
+    pub lentWork : ℕ
+    pub counts : Counted limit (take n table) lentCounts lentWork (gives []) counted
+    pub ascending : ascends KBWG (take n table) ≡ true
+
+-- The limit is the lowest count that is too many, of as many bits as the counts have.
+pub record Demand3 (limit : ℕ) : Type 0 where
+  -- for every list of load calls: answer, state and table are those of one feed of the joined bytes, every feed's answer included
+  pub loading : (announced : ℕ) (layout : Layout) (lent : Graph) (pieces : List (List ℕ)) → LoadsAsWhole announced layout lent pieces
+  -- however a graph file is cut
+  pub cutting : (layout : Layout) (lent : Graph) (pieces : List (List ℕ)) → LoadsHoweverCut layout lent (joinAll pieces) pieces
+  -- from every node above 0: numbers name words, words give numbers back, and all else gets none
+  pub numbering : (announced : ℕ) (layout : Layout) (lent : Graph) (pieces : List (List ℕ)) (n : ℕ) (counted : List ℕ)
+      → Ready announced layout lent pieces limit n counted
+      → (p : ℕ) → 0 < p → p < n → Numbered limit (take n (table announced layout lent pieces)) (table announced layout lent pieces) counted p
+  -- the same where node and count lists are lent longer than N
+  pub lending : (announced : ℕ) (layout : Layout) (lent : Graph) (pieces : List (List ℕ)) (n : ℕ) (counted : List ℕ)
+      → Ready announced layout lent pieces limit n counted
+      → (nodes counts : List ℕ) → Lent (take n (table announced layout lent pieces)) nodes counts
+      → (p : ℕ) → 0 < p → p < n → Numbered limit (take n (table announced layout lent pieces)) nodes counts p
+  -- "every Macondo or LXD file, once written, spells exactly the words of its start node, renamed, less those ending in tile 0 in Macondo"
+  pub macondo : (g : Graph) (labels name : List ℕ) (f : Format) (lentWork : ℕ) (lent file : List ℕ)
+      → Wrote (toMacondo g labels name f lentWork lent) file
+      → WordsAt g (start g (marks f .root)) × ((w : Word) → List·Memᴰ w (macondoWords file) ↔ List·Memᴰ w (macondo.spelt g labels f))
+  -- its words as a list, in order; and its header tells how many nodes and words are read
+  pub lxd : (g : Graph) (labels title date : List ℕ) (lentWork : ℕ) (lent file : List ℕ)
+      → Wrote (toLxd g labels title date lentWork lent) file
+      → WordsAt g (start g 0) × lxd.Spells file (lxd.spelt g labels)

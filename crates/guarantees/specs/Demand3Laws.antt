@@ -1,0 +1,157 @@
+-- Demand 3 holds. The idea: each sentence is a law of the crate that owns its subject; here is what joins them, that a call's answer with
+-- a number in it came past every check of its row.
+use mathlib.Core.Path.{_≡_, refl, sym, ap, _∙_, subst}
+use mathlib.Core.Bool.{Bool, true, false}
+use mathlib.Core.List.{List, [], _∷_, _++_}
+use mathlib.Core.Option.{Option, none, some}
+use Prim.Native.Nat.{ℕ, _≤_, _<_, _/_, max}
+use native.Mathlib.Omega.{arith}
+use lib.Dec.{eqb}
+use lib.ListN.{length, take, drop, set, length-set}
+use lib.Seq.{length-take-le, take-at}
+use Rattle.laws.specs.Cases.{split, split-option}
+use Rattle.laws.specs.Lists.{All}
+use Rattle.node.specs.Answers.{Answer, gives, nothing, refused, Row, firstOf}
+use Rattle.node.specs.RowLaws.{row-answer, rows-passed, row-passed}
+use Rattle.node.specs.declared.Layout.{Layout}
+use Rattle.graph.specs.Runs.{Graph}
+use Rattle.load.specs.Repacking.{Misfit, misfitAnswer, misfitOf}
+use Rattle.load.specs.Loading.{soundRow, finishRow, finishes, finish}
+use Rattle.load.specs.StateLaws.{Sound, sound}
+use Rattle.load.specs.declared.loader.Loader.{Loader}
+use Rattle.pieces.specs.Pieces.{loadPieces, fedPieces}
+use Rattle.pieces.specs.PiecesLaws.{loads-as-whole, loads-however-cut}
+use Rattle.numbers.specs.Numbered.{Lent, Numbered}
+use Rattle.numbers.specs.NumberedLaws.{numbered, counted-lent}
+use Rattle.export.specs.Starts.{start}
+use Rattle.export.specs.ChainLaws.{shallow-equation}
+use Rattle.export.specs.Written.{Written, written}
+use Rattle.macondo_file.specs.File.{Format, dawg, gaddag, marks, macondoFile}
+use Rattle.macondo_file.specs.Row.{macondoRow, toMacondo}
+use Rattle.macondo_file.specs.RowLaws.{accepted-checks, accepted-walk}
+use Rattle.macondo_file.specs.SpellingLaws.{macondo-spells}
+use Rattle.lxd_file.specs.File.{lxdFile}
+use Rattle.lxd_file.specs.Row.{lxdRow, toLxd}
+use Rattle.lxd_file.specs.RowLaws.{accepted}
+use Rattle.lxd_file.specs.SpellingLaws.{lxd-spells}
+use Rattle.guarantees.specs.Demand3.{Demand3, Ready, Wrote, WordsAt, table}
+
+-- an answer that carries no value: what every check of a row gives, none refused included
+NoValue : Answer → Type 0
+NoValue (gives []) = Unit
+NoValue (gives (v ∷ vs)) = ⊥
+NoValue nothing = Unit
+NoValue (refused n vs) = Unit
+
+misfit-none : (o : Option Misfit) → NoValue (misfitAnswer o)
+unfolding NoValue
+misfit-none none = tt
+misfit-none (some m) = tt
+
+-- ---- where finish answers a number of nodes, so many stand in the table
+passed-finish : (s : Loader) (nodes : Graph) {n : ℕ} → (o : Option Answer) → firstOf (finishRow s nodes) ≡ o
+    → finishes o (eqb (s .announced) 4) s nodes .answer ≡ gives (n ∷ []) → n ≤ length (finishes o (eqb (s .announced) 4) s nodes .nodes)
+unfolding NoValue
+passed-finish s nodes {n} (some r) e i =
+    absurd (subst NoValue i (row-answer NoValue (finishRow s nodes) (tt, (tt, (tt, (tt, (misfit-none (misfitOf (s .kept)), (tt, (tt, (tt, tt)))))))) e))
+passed-finish s nodes {n} none e i =
+    one-or-more (eqb (s .announced) 4) (sound s (length nodes) (rows-passed (soundRow s (length nodes)) _ e) .length .room) i
+  where
+    one-or-more : (one : Bool) → max (s .announced / 4) 2 ≤ length nodes → finishes none one s nodes .answer ≡ gives (n ∷ [])
+        → n ≤ length (finishes none one s nodes .nodes)
+    one-or-more true room j = let k : 2 ≡ n = cc in simp length-set (omega arith)
+    one-or-more false room j = let k : s .announced / 4 ≡ n = cc in omega arith
+
+finished-within : (s : Loader) (nodes : Graph) {n : ℕ} → finish s nodes .answer ≡ gives (n ∷ []) → n ≤ length (finish s nodes .nodes)
+unfolding finish
+finished-within s nodes i = passed-finish s nodes (firstOf (finishRow s nodes)) refl i
+
+module _ (announced : ℕ) (layout : Layout) (lent : Graph) (pieces : List (List ℕ)) (limit n : ℕ) (counted : List ℕ)
+    (r : Ready announced layout lent pieces limit n counted) where
+  nodes-loaded : length (take n (table announced layout lent pieces)) ≡ n
+  unfolding loadPieces
+  nodes-loaded =
+      let fed = fedPieces announced layout lent pieces in
+      length-take-le n (table announced layout lent pieces) (finished-within (fed .state) (fed .nodes) (r .loads))
+
+  -- the lists as the calls left them
+  lists-left : Lent (take n (table announced layout lent pieces)) (table announced layout lent pieces) counted
+  lists-left =
+      record {
+        nodes-are = ap (λ k. take k (table announced layout lent pieces)) nodes-loaded;
+        counts-are = counted-lent limit _ (r .lentCounts) counted (r .lentWork) (r .counts) .1;
+      }
+
+  numbers : (nodes counts : List ℕ) → Lent (take n (table announced layout lent pieces)) nodes counts
+      → (p : ℕ) → 0 < p → p < n → Numbered limit (take n (table announced layout lent pieces)) nodes counts p
+  numbers nodes counts is p z h =
+      numbered limit (take n (table announced layout lent pieces)) (counted-lent limit _ (r .lentCounts) counted (r .lentWork) (r .counts) .0)
+      (r .ascending) nodes counts is p z (rw nodes-loaded h)
+
+-- ---- where a writer answers a length, no check refused, and the bytes are the file's
+wrote-passed : (row : Row) → All (λ (c : Bool × Answer). NoValue (c .1)) row → (file lent : List ℕ) {bytes : List ℕ} (o : Option Answer) → firstOf row ≡ o
+    → Wrote (written o file lent) bytes → (o ≡ none) × (bytes ≡ file)
+unfolding NoValue
+wrote-passed row plain file lent (some r) e w = absurd (subst NoValue (w .answered) (row-answer NoValue row plain e))
+wrote-passed row plain file lent none e w =
+    let i = w .answered in
+    let k : length file ≡ w .size = cc in
+    (refl, w .bytes ∙ take-at file (drop (length file) lent) (w .size) k)
+
+wrote : (row : Row) → All (λ (c : Bool × Answer). NoValue (c .1)) row → (file lent : List ℕ) {bytes : List ℕ}
+    → Wrote (written (firstOf row) file lent) bytes → (firstOf row ≡ none) × (bytes ≡ file)
+wrote row plain file lent w = wrote-passed row plain file lent (firstOf row) refl w
+
+module _ (g : Graph) (labels name : List ℕ) (f : Format) (lentWork : ℕ) (lent file : List ℕ)
+    (w : Wrote (toMacondo g labels name f lentWork lent) file) where
+  macondo-wrote : (firstOf (macondoRow g labels name f lentWork (length lent)) ≡ none) × (file ≡ macondoFile g labels f name)
+  unfolding toMacondo macondoRow NoValue
+  macondo-wrote =
+      wrote (macondoRow g labels name f lentWork (length lent)) (tt, (tt, (tt, (tt, (tt, (tt, (tt, (tt, (tt, (tt, (tt, (tt, tt))))))))))))
+      (macondoFile g labels f name) lent w
+
+  macondo-equation : WordsAt g (start g (marks f .root))
+  macondo-equation =
+      let row = macondo-wrote .0 in
+      let fits = accepted-checks g labels name f lentWork (length lent) row .sound in
+      shallow-equation g (fits .steps) 64 (start g (marks f .root)) (fits .steps .arcs (marks f .root) (root-inside f (fits .two)))
+      (accepted-walk g labels name f lentWork (length lent) row .shallow)
+    where
+      root-inside : (f : Format) → 2 ≤ length g → marks f .root < length g
+      root-inside dawg h = omega arith
+      root-inside gaddag h = omega arith
+
+module _ (g : Graph) (labels title date : List ℕ) (lentWork : ℕ) (lent file : List ℕ)
+    (w : Wrote (toLxd g labels title date lentWork lent) file) where
+  lxd-wrote : (firstOf (lxdRow g labels title date lentWork (length lent)) ≡ none) × (file ≡ lxdFile g labels title date)
+  unfolding toLxd lxdRow NoValue
+  lxd-wrote =
+      wrote (lxdRow g labels title date lentWork (length lent)) (tt, (tt, (tt, (tt, (tt, (tt, (tt, (tt, (tt, (tt, (tt, (tt, (tt, (tt, tt))))))))))))))
+      (lxdFile g labels title date) lent w
+
+  lxd-equation : WordsAt g (start g 0)
+  lxd-equation =
+      let ok = accepted g labels title date lentWork (length lent) (lxd-wrote .0) in
+      shallow-equation g (ok .sound .steps) 64 (start g 0) (ok .sound .steps .arcs 0 (let h = ok .sound .two in omega arith)) (ok .ended)
+
+-- Demand 3, for counts of any width.
+pub demand-3 : (limit : ℕ) → Demand3 limit
+demand-3 limit =
+    record {
+      loading = loads-as-whole;
+      cutting = λ layout lent pieces. loads-however-cut layout lent pieces;
+      numbering = λ announced layout lent pieces n counted r p z h.
+          numbers announced layout lent pieces limit n counted r (table announced layout lent pieces) counted
+          (lists-left announced layout lent pieces limit n counted r) p z h;
+      lending = λ announced layout lent pieces n counted r. numbers announced layout lent pieces limit n counted r;
+      macondo = λ g labels name f lentWork lent file w.
+          let done = macondo-wrote g labels name f lentWork lent file w in (
+            macondo-equation g labels name f lentWork lent file w,
+            λ u. rw (done .1) (macondo-spells g labels name f lentWork (length lent) (done .0) u),
+          );
+      lxd = λ g labels title date lentWork lent file w.
+          let done = lxd-wrote g labels title date lentWork lent file w in (
+            lxd-equation g labels title date lentWork lent file w,
+            rw (done .1) (lxd-spells g labels title date lentWork (length lent) (done .0)),
+          );
+    }

@@ -1,2 +1,0 @@
-pub mod NumbersLeft
-pub mod Tests

@@ -1,3 +1,0 @@
-// Writes a graph as a file for Macondo.
-mod checks;
-mod sections;

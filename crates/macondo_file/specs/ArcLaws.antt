@@ -1,0 +1,86 @@
+-- The arcs of a block are those of its run, and there are at most as many as labels. The idea: in a run that ascends every node takes
+-- a tile of its own below the label count.
+use mathlib.Core.Path.{_≡_, refl}
+use mathlib.Core.Bool.{true}
+use mathlib.Core.List.{List, [], _∷_, map, List·Memᴰ, List·Memᴰ·head, List·Memᴰ·tail}
+use Prim.Native.Nat.{ℕ, zero-le, _+_, _≤_, _<_}
+use native.Mathlib.Omega.{arith}
+use lib.ListN.{length, drop}
+use Rattle.laws.specs.Cases.{split}
+use Rattle.laws.specs.Lists.{kept}
+use Rattle.laws.specs.Members.{in-map, map-in, in-kept, kept-in, kept-length}
+use Rattle.laws.specs.Sorting.{in-sorted, sorted-in, sorted-length}
+use Rattle.node.specs.Nodes.{KBWG, tile, arc, isEnd}
+use Rattle.graph.specs.Runs.{Graph, run, ascends}
+use Rattle.graph.specs.WordsAscend.{ascends-head, ascends-tail, ascends-drop}
+use Rattle.export.specs.Starts.{runOf, hasArc}
+use Rattle.export.specs.ChainLaws.{in-graph, arcsFrom, arc-from, from-arc}
+use Rattle.macondo_file.specs.Alphabet.{precedes}
+use Rattle.macondo_file.specs.File.{arcsOf}
+use Rattle.macondo_file.specs.RowLaws.{Checked}
+
+module _ (g : Graph) (labels : List ℕ) where
+  -- the blocks that the arcs of p's block lead to
+  abbrev pub childrenOf : ℕ → List ℕ
+  childrenOf p = map (arc KBWG) (arcsOf g labels p)
+
+  pub in-arcs : (p v : ℕ) → List·Memᴰ v (arcsOf g labels p) → List·Memᴰ v (runOf g p) × (hasArc v ≡ true)
+  unfolding arcsOf
+  in-arcs p v m =
+      in-kept hasArc (runOf g p) v (in-sorted (λ v w. precedes labels (tile KBWG v) (tile KBWG w)) (kept hasArc (runOf g p)) v m)
+
+  pub arcs-in : (p v : ℕ) → List·Memᴰ v (runOf g p) → hasArc v ≡ true → List·Memᴰ v (arcsOf g labels p)
+  unfolding arcsOf
+  arcs-in p v m h =
+      sorted-in (λ v w. precedes labels (tile KBWG v) (tile KBWG w)) (kept hasArc (runOf g p)) v (kept-in hasArc (runOf g p) v m h)
+
+  -- the order changes nothing of where they lead
+  pub in-children : (p q : ℕ) → List·Memᴰ q (childrenOf p) → List·Memᴰ q (arcsFrom g p)
+  in-children p q m =
+      let r = in-map (arc KBWG) (arcsOf g labels p) q m in
+      let a = in-arcs p (r .0) (r .1) in
+      rw (r .2) (arc-from g p (r .0) (a .0) (a .1))
+
+  pub children-in : (p q : ℕ) → List·Memᴰ q (arcsFrom g p) → List·Memᴰ q (childrenOf p)
+  children-in p q m =
+      let r = from-arc g p q m in
+      rw (r .3) (map-in (arc KBWG) (arcsOf g labels p) (r .0) (arcs-in p (r .0) (r .1) (r .2)))
+
+  pub arcs-length : (p : ℕ) → length (arcsOf g labels p) ≤ length (runOf g p)
+  unfolding arcsOf
+  arcs-length p =
+      let a = sorted-length (λ v w. precedes labels (tile KBWG v) (tile KBWG w)) (kept hasArc (runOf g p)) in
+      let b = kept-length hasArc (runOf g p) in
+      omega arith
+
+-- ---- how long a run is
+module _ (n : ℕ) where
+  run-from : (v : ℕ) (l : Graph) → ascends KBWG (v ∷ l) ≡ true → ((w : ℕ) → List·Memᴰ w (run KBWG (v ∷ l)) → tile KBWG w < n)
+      → length (run KBWG (v ∷ l)) + tile KBWG v ≤ n
+  unfolding run
+  run-from v [] a h =
+      let t = h v (List·Memᴰ·head refl) in
+      split (isEnd KBWG v) (λ e. rw (e, run) (omega arith)) (λ e. rw (e, run) (omega arith))
+  run-from v (u ∷ l) a h =
+      let t = h v (List·Memᴰ·head refl) in
+      split (isEnd KBWG v)
+      (λ e. rw (e, run) (omega arith))
+      (λ e.
+      let up = ascends-head KBWG v u l a e in
+      let r = run-from u l (ascends-tail KBWG v u l a) (λ w m. h w (rw (e, run) (List·Memᴰ·tail m))) in
+      rw (e, run) (omega arith))
+
+  pub run-most : (l : Graph) → ascends KBWG l ≡ true → ((w : ℕ) → List·Memᴰ w (run KBWG l) → tile KBWG w < n) → length (run KBWG l) ≤ n
+  unfolding run
+  run-most [] a h = zero-le
+  run-most (v ∷ l) a h = let r = run-from v l a h in omega arith
+
+module _ {g : Graph} {labels name : List ℕ} {lentWork : ℕ} (c : Checked g labels name lentWork) where
+  pub run-few : (p : ℕ) → length (runOf g p) ≤ 50
+  run-few p =
+      let a = run-most (length labels) (drop p g) (ascends-drop KBWG p g (c .ascending)) (λ v m. c .labelled v (in-graph g p v m)) in
+      let b = c .fifty in
+      omega arith
+
+  pub arcs-few : (p : ℕ) → length (arcsOf g labels p) ≤ 50
+  arcs-few p = let a = arcs-length g labels p in let b = run-few p in omega arith

@@ -1,0 +1,138 @@
+-- The sections of a Macondo file, read back: the reader sees the sets and nodes that were written. Each section's count says how far
+-- it goes. And the file's length.
+use mathlib.Core.Path.{_≡_, refl, sym, ap, ap₂, _∙_}
+use mathlib.Core.List.{List, [], _∷_, _++_, append-assoc, append-nil, List·Memᴰ}
+use Prim.Native.Nat.{ℕ, _+_, _-_, _*_, _^_, _≤_, _<_}
+use native.Mathlib.Omega.{arith}
+use lib.ListN.{length, getD, drop, length-append, length-map}
+use lib.Seq.{take-at, drop-at, getD-at}
+use Rattle.endian.specs.Bytes.{bigEndian, bigEndians, fromBig, bigNumbers}
+use Rattle.endian.specs.BigLaws.{big-length, bigs-length, big-back, numbers-back}
+use Rattle.graph.specs.Runs.{Graph}
+use Rattle.macondo_file.specs.Alphabet.{letters}
+use Rattle.macondo_file.specs.AlphabetLaws.{letters-length}
+use Rattle.macondo_file.specs.File.{Format, dawg, gaddag, marks, sets, macondoNodes, codePoints, macondoFile}
+use Rattle.macondo_file.specs.Reading.{blockWords, countAt, numbersAt, after, lettersIn, setsIn, nodesIn, macondoWords}
+use Rattle.macondo_file.specs.RowLaws.{Checked}
+use Rattle.macondo_file.specs.BlockLaws.{sets-few, blocks-few, sets-below, nodes-below}
+
+-- ---- one section: its count, then its numbers
+abbrev written : ℕ → List ℕ → List ℕ
+written width numbers = bigEndian 4 (length numbers) ++ bigEndians width numbers
+
+section-length : (width : ℕ) (l : List ℕ) → length (written width l) ≡ 4 + width * length l
+section-length width l =
+    let a = big-length 4 (length l) in
+    let b = bigs-length width l in
+    length-append (bigEndian 4 (length l)) (bigEndians width l) ∙ omega arith
+
+module _ (width : ℕ) (l rest : List ℕ) (small : length l < 256 ^ 4) where
+  count-first : written width l ++ rest ≡ bigEndian 4 (length l) ++ (bigEndians width l ++ rest)
+  count-first = append-assoc (bigEndian 4 (length l)) (bigEndians width l) rest
+
+  section-count : countAt (written width l ++ rest) ≡ length l
+  section-count =
+      ap countAt count-first
+      ∙ ap (fromBig 0) (take-at (bigEndian 4 (length l)) (bigEndians width l ++ rest) 4 (big-length 4 (length l)))
+      ∙ big-back 4 (length l) small
+
+  section-after : after width (written width l ++ rest) ≡ rest
+  section-after =
+      ap (λ n. drop (4 + width * n) (written width l ++ rest)) section-count
+      ∙ drop-at (written width l) rest (4 + width * length l) (section-length width l)
+
+  section-numbers : ((v : ℕ) → List·Memᴰ v l → v < 256 ^ width) → numbersAt width (written width l ++ rest) ≡ l
+  section-numbers h =
+      ap (λ n. bigNumbers width n (drop 4 (written width l ++ rest))) section-count
+      ∙ ap (λ b. bigNumbers width (length l) (drop 4 b)) count-first
+      ∙ ap (bigNumbers width (length l)) (drop-at (bigEndian 4 (length l)) (bigEndians width l ++ rest) 4 (big-length 4 (length l)))
+      ∙ numbers-back width l rest h
+
+-- ---- the file
+magic-length : (f : Format) → length (marks f .magic) ≡ 4
+magic-length dawg = refl
+magic-length gaddag = refl
+
+module _ (g : Graph) (labels : List ℕ) (f : Format) (name : List ℕ) where
+  abbrev nodePart : List ℕ
+  nodePart = written 4 (macondoNodes g labels f)
+
+  abbrev setPart : List ℕ
+  setPart = written 8 (sets g labels f) ++ nodePart
+
+  abbrev letterPart : List ℕ
+  letterPart = written 4 (codePoints g labels f) ++ setPart
+
+  abbrev front : List ℕ
+  front = marks f .magic ++ (length name ∷ name)
+
+  file-is : macondoFile g labels f name ≡ front ++ letterPart
+  unfolding macondoFile
+  file-is = refl
+
+  front-length : length front ≡ 5 + length name
+  front-length = let a = magic-length f in length-append (marks f .magic) (length name ∷ name) ∙ omega arith
+
+  pub code-points-length : length (codePoints g labels f) ≡ length labels - 1
+  code-points-length = length-map (letters labels) (λ t. getD labels t 0) ∙ letters-length labels
+
+  pub file-length : length (macondoFile g labels f name)
+      ≡ 17 + length name + 4 * (length labels - 1) + 8 * length (sets g labels f) + 4 * length (macondoNodes g labels f)
+  file-length =
+      let a = front-length in
+      let b = code-points-length in
+      let c = section-length 4 (codePoints g labels f) in
+      let d = section-length 8 (sets g labels f) in
+      let e = section-length 4 (macondoNodes g labels f) in
+      let h = length-append front letterPart in
+      let i = length-append (written 4 (codePoints g labels f)) setPart in
+      let j = length-append (written 8 (sets g labels f)) nodePart in
+      ap length file-is ∙ omega arith
+
+  name-read : getD (macondoFile g labels f name) 4 0 ≡ length name
+  name-read =
+      ap (λ b. getD b 4 0) (file-is ∙ append-assoc (marks f .magic) (length name ∷ name) letterPart)
+      ∙ getD-at (marks f .magic) (length name) (name ++ letterPart) 0 4 (magic-length f)
+
+  letters-read : lettersIn (macondoFile g labels f name) ≡ letterPart
+  letters-read =
+      ap₂ (λ n b. drop (5 + n) b) name-read file-is
+      ∙ drop-at front letterPart (5 + length name) front-length
+
+module _ {g : Graph} {labels name : List ℕ} {lentWork : ℕ} (c : Checked g labels name lentWork) (f : Format)
+    (few : length (macondoNodes g labels f) ≤ 2 ^ 24) where
+  abbrev file : List ℕ
+  file = macondoFile g labels f name
+
+  sets-read : setsIn file ≡ setPart g labels f name
+  sets-read =
+      let a = code-points-length g labels f name in
+      let b = c .fifty in
+      ap (after 4) (letters-read g labels f name) ∙ section-after 4 (codePoints g labels f) (setPart g labels f name) (omega arith)
+
+  sets-counted : length (sets g labels f) < 256 ^ 4
+  sets-counted =
+      let a = sets-few g labels f in
+      let b = blocks-few c f in
+      let d = c .sound .most in
+      omega arith
+
+  nodes-read : nodesIn file ≡ nodePart g labels f name ++ []
+  nodes-read =
+      ap (after 8) sets-read
+      ∙ section-after 8 (sets g labels f) (nodePart g labels f name) sets-counted
+      ∙ sym (append-nil (nodePart g labels f name))
+
+  sets-back : numbersAt 8 (setsIn file) ≡ sets g labels f
+  sets-back = ap (numbersAt 8) sets-read ∙ section-numbers 8 (sets g labels f) (nodePart g labels f name) sets-counted (sets-below c f)
+
+  nodes-back : numbersAt 4 (nodesIn file) ≡ macondoNodes g labels f
+  nodes-back = ap (numbersAt 4) nodes-read ∙ section-numbers 4 (macondoNodes g labels f) [] (omega arith) (nodes-below c f few)
+
+  count-back : countAt (nodesIn file) ≡ length (macondoNodes g labels f)
+  count-back = ap countAt nodes-read ∙ section-count 4 (macondoNodes g labels f) [] (omega arith)
+
+  -- the reader walks the sets and nodes that were written
+  pub file-read : macondoWords file ≡ blockWords (sets g labels f) (macondoNodes g labels f) (length (macondoNodes g labels f)) 0
+  unfolding macondoWords
+  file-read i = blockWords (sets-back i) (nodes-back i) (count-back i) 0
