@@ -23,7 +23,7 @@ use Rattle.graph.specs.Counting.{counts, Loopless}
 use Rattle.lookup.specs.Steps.{Try, on, _>>=_, answer, lentPart}
 use Rattle.lookup.specs.WalkLaws.{lent-on}
 use Rattle.numbers.specs.Walkable.{Walkable}
-use Rattle.numbers.specs.RunWords.{table-length, table-at}
+use Rattle.graph.specs.TableLaws.{table-length, table-at}
 use Rattle.letters.specs.AlphaSets.{tallyRow, completes, crossFrom, acceptsAlpha, crossSet}
 use Rattle.alphagrams.specs.Alphagrams.{alphagram, ReadBelow, AlphagramLexicon, oneMore, Accepted, Alpha}
 use Rattle.alphagrams.specs.InsertLaws.{insert, starts, one-more, one-more-short}

@@ -14,7 +14,7 @@ use Rattle.node.specs.Nodes.{KBWG}
 use Rattle.graph.specs.Runs.{Graph}
 use Rattle.graph.specs.Words.{count}
 use Rattle.graph.specs.LoopLaws.{reach-inside}
-use Rattle.graph.specs.CountLaws.{begins-with-table}
+use Rattle.graph.specs.TableLaws.{begins-with-table}
 use Rattle.graph.specs.Counting.{table, Loopless, countRow, Counted, unfit, loop, many, all}
 use Rattle.graph.specs.Lent.{Kept, WorkKept, work-untouched}
 use Rattle.count.specs.Walk.{mark, isMet, isDone, Walk, AllDone, LoopFound, ReachesIs, zeroed}

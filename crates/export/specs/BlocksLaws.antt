@@ -13,35 +13,9 @@ use lib.ListN.{length, drop, length-append}
 use lib.Seq.{drop-append-add}
 use Rattle.laws.specs.Cases.{split}
 use Rattle.laws.specs.Lists.{kept, member, joinAll}
-use Rattle.laws.specs.Members.{member-mem, mem-member, kept-length}
+use Rattle.laws.specs.Members.{member-mem, mem-member, kept-length, kept-less}
 use Rattle.laws.specs.Without.{below, length-below, in-below}
 use Rattle.export.specs.Blocks.{each, met, blockAt, total}
-
--- ---- a weaker test keeps more
-module _ {A : Type 0} (f h : A → Bool) (weaker : (x : A) → f x ≡ true → h x ≡ true) where
-  pub kept-le : (l : List A) → length (kept f l) ≤ length (kept h l)
-  kept-le [] = zero-le
-  kept-le (a ∷ l) =
-      let r = kept-le l in
-      split (f a)
-      (λ t. rw (t, weaker a t, kept) (omega arith))
-      (λ t. split (h a) (λ u. rw (t, u, kept) (omega arith)) (λ u. rw (t, u, kept) (omega arith)))
-
-  pub kept-less : (l : List A) (x : A) → List·Memᴰ x l → f x ≡ false → h x ≡ true → length (kept f l) < length (kept h l)
-  kept-less [] x m n y = absurd (List·Memᴰ·not-nil m)
-  kept-less (a ∷ l) x m n y =
-      let r = kept-le l in
-      ⊎-elim
-      (λ i.
-      let no : f a ≡ false = ap f (sym i) ∙ n in
-      let yes : h a ≡ true = ap h (sym i) ∙ y in
-      rw (no, yes, kept) (omega arith))
-      (λ k.
-      let s = kept-less l x k n y in
-      split (f a)
-      (λ t. rw (t, weaker a t, kept) (omega arith))
-      (λ t. split (h a) (λ u. rw (t, u, kept) (omega arith)) (λ u. rw (t, u, kept) (omega arith))))
-      (List·Memᴰ·cases-cons m)
 
 -- ---- what holds of the blocks seen, and still holds with one more that was not seen, holds of all that are met
 module _ (children : ℕ → List ℕ) (S : ℕ → Type 0) (stays : (p q : ℕ) → S p → List·Memᴰ q (children p) → S q)

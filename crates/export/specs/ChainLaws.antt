@@ -12,34 +12,15 @@ use borrow.Author.Tests.{not-true}
 use lib.ListN.{length, drop}
 use Rattle.laws.specs.Cases.{split, and-left, and-right}
 use Rattle.laws.specs.Lists.{kept}
-use Rattle.laws.specs.Members.{in-map, map-in, in-kept, kept-in, some-of, none-of, in-drop, kept-length}
+use Rattle.laws.specs.Members.{in-map, map-in, in-kept, kept-in, some-of, none-of, kept-length, kept-le, kept-less}
 use Rattle.laws.specs.Without.{below, length-below, in-below}
 use Rattle.node.specs.Nodes.{KBWG, arc, isEnd}
 use Rattle.graph.specs.Runs.{Graph, node, run}
 use Rattle.graph.specs.Words.{Word, inOrder, spelled, wordsWithin, words}
 use Rattle.graph.specs.ChecksLaws.{Closed}
+use Rattle.graph.specs.RunLaws.{in-graph}
 use Rattle.export.specs.Starts.{runOf, hasArc, deeper}
-use Rattle.export.specs.BlocksLaws.{kept-le, kept-less, Low}
-
--- ---- the nodes of a run are nodes of the graph
-pub run-last : (v : ℕ) (l : Graph) → isEnd KBWG v ≡ true → run KBWG (v ∷ l) ≡ v ∷ []
-unfolding run
-run-last v l e = rw (e, run)
-
-pub run-next : (v : ℕ) (l : Graph) → isEnd KBWG v ≡ false → run KBWG (v ∷ l) ≡ v ∷ run KBWG l
-unfolding run
-run-next v l e = rw (e, run)
-
-in-run : (l : Graph) (v : ℕ) → List·Memᴰ v (run KBWG l) → List·Memᴰ v l
-unfolding run
-in-run [] v m = m
-in-run (x ∷ l) v m =
-    split (isEnd KBWG x)
-    (λ e. List·Memᴰ·head (List·Memᴰ·eq-of-singleton (rw (run-last x l e) at m)))
-    (λ e. ⊎-elim (λ i. List·Memᴰ·head i) (λ k. List·Memᴰ·tail (in-run l v k)) (List·Memᴰ·cases-cons (rw (run-next x l e) at m)))
-
-pub in-graph : (g : Graph) (p v : ℕ) → List·Memᴰ v (runOf g p) → List·Memᴰ v g
-in-graph g p v m = in-drop v p g (in-run (drop p g) v m)
+use Rattle.export.specs.BlocksLaws.{Low}
 
 node-of : (g : Graph) (v : ℕ) → List·Memᴰ v g → (i : ℕ) × (i < length g) × (node g i ≡ v)
 node-of [] v m = absurd (List·Memᴰ·not-nil m)
@@ -66,7 +47,7 @@ module _ (g : Graph) where
   pub arcs-inside : Closed g → (p q : ℕ) → List·Memᴰ q (arcsFrom p) → q < length g
   arcs-inside c p q m =
       let r = from-arc p q m in
-      let n = node-of g (r .0) (in-graph g p (r .0) (r .1)) in
+      let n = node-of g (r .0) (in-graph KBWG g p (r .0) (r .1)) in
       let h = c .arcs (n .0) (n .1) in
       subst (λ k. k < length g) (ap (arc KBWG) (n .2) ∙ sym (r .3)) h
 

@@ -99,11 +99,3 @@ module _ (y : Places) where
 
     pub sum-capped : min (sumAt g held p) limit ≡ min (sumAt g from p) limit
     sum-capped = let a = arc-capped in let r = run-capped in omega arith
-
--- a list whose first numbers are those of a table
-pub begins-with-table : (n : ℕ) (f : ℕ → ℕ) (l : List ℕ) → n ≤ length l → ((p : ℕ) → p < n → getD l p 0 ≡ f p) → l ≡ table n f ++ drop n l
-unfolding table
-begins-with-table zero f l h e = refl
-begins-with-table (suc n) f [] h e = absurd (omega arith)
-begins-with-table (suc n) f (x ∷ l) h e =
-    ap₂ _∷_ (e 0 (omega arith)) (begins-with-table n (λ k. f (suc k)) l (omega arith) (λ p b. e (suc p) (omega arith)))

@@ -1,4 +1,5 @@
 pub mod Runs
+pub mod RunLaws
 pub mod Words
 pub mod Order
 pub mod Loops
@@ -6,6 +7,7 @@ pub mod Lent
 pub mod Checks
 pub mod ChecksLaws
 pub mod Counting
+pub mod TableLaws
 pub mod WordsAscend
 pub mod WordsEquation
 pub mod UpwardLaws

@@ -116,3 +116,29 @@ module _ {A : Type 0} (f : A → Bool) (l : List A) (z : A) (i : ℕ) where
 
   pub some-past : length l ≤ i → someOf f (drop i l) ≡ false
   some-past h = rw (drop-of-length-le l h)
+
+-- a weaker test keeps more
+module _ {A : Type 0} (f h : A → Bool) (weaker : (x : A) → f x ≡ true → h x ≡ true) where
+  pub kept-le : (l : List A) → length (kept f l) ≤ length (kept h l)
+  kept-le [] = zero-le
+  kept-le (a ∷ l) =
+      let r = kept-le l in
+      split (f a)
+      (λ t. rw (t, weaker a t, kept) (omega arith))
+      (λ t. split (h a) (λ u. rw (t, u, kept) (omega arith)) (λ u. rw (t, u, kept) (omega arith)))
+
+  pub kept-less : (l : List A) (x : A) → List·Memᴰ x l → f x ≡ false → h x ≡ true → length (kept f l) < length (kept h l)
+  kept-less [] x m n y = absurd (List·Memᴰ·not-nil m)
+  kept-less (a ∷ l) x m n y =
+      let r = kept-le l in
+      ⊎-elim
+      (λ i.
+      let no : f a ≡ false = ap f (sym i) ∙ n in
+      let yes : h a ≡ true = ap h (sym i) ∙ y in
+      rw (no, yes, kept) (omega arith))
+      (λ k.
+      let s = kept-less l x k n y in
+      split (f a)
+      (λ t. rw (t, weaker a t, kept) (omega arith))
+      (λ t. split (h a) (λ u. rw (t, u, kept) (omega arith)) (λ u. rw (t, u, kept) (omega arith))))
+      (List·Memᴰ·cases-cons m)

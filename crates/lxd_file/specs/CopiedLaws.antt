@@ -3,7 +3,7 @@
 use mathlib.Core.Path.{_≡_, refl, sym, ap, ap₂, _∙_}
 use mathlib.Core.Bool.{true, false, true≢false}
 use mathlib.Core.Logic.{_≢_}
-use mathlib.Core.List.{List, [], _∷_, _++_, map, List·Memᴰ, List·Memᴰ·head, List·Memᴰ·tail}
+use mathlib.Core.List.{List, [], _∷_, _++_, map, map-append, List·Memᴰ, List·Memᴰ·head, List·Memᴰ·tail}
 use Prim.Native.Nat.{ℕ, zero, suc}
 use lib.Dec.{eqb}
 use borrow.Author.Tests.{eqb-true, eqb-false, eq-eqb, ne-eqb}
@@ -12,17 +12,9 @@ use Rattle.laws.specs.Cases.{split}
 use Rattle.laws.specs.Lists.{joinAll}
 use Rattle.laws.specs.Members.{join-in}
 use Rattle.node.specs.Nodes.{Places, tile, arc, accepts, isEnd}
+use Rattle.graph.specs.RunLaws.{run-last, run-next, first-in-run}
 use Rattle.graph.specs.Runs.{Graph, run, lastEnds}
 use Rattle.graph.specs.Words.{Word, inOrder, spelled, wordsWithin}
-
-pub map-append : {A B : Type 0} (f : A → B) (a b : List A) → map f (a ++ b) ≡ map f a ++ map f b
-map-append f [] b = refl
-map-append f (x ∷ a) b = ap (f x ∷_) (map-append f a b)
-
-pub drop-map : (f : ℕ → ℕ) (n : ℕ) (l : List ℕ) → drop n (map f l) ≡ map f (drop n l)
-drop-map f zero l = refl
-drop-map f (suc n) [] = refl
-drop-map f (suc n) (x ∷ l) = drop-map f n l
 
 -- renaming goes under a tile
 map-under : (label : ℕ → ℕ) (t : ℕ) (ws : List Word) → map (label t ∷_) (map (map label) ws) ≡ map (map label) (map (t ∷_) ws)
@@ -38,33 +30,19 @@ inOrder-copied h rename to from (v ∷ l) e =
     ap₂ _++_ (e v (List·Memᴰ·head refl)) (inOrder-copied h rename to from l (λ w m. e w (List·Memᴰ·tail m)))
     ∙ sym (map-append rename (from v) (inOrder from l))
 
--- ---- the run of a list, by its first node
-module _ (y : Places) (v : ℕ) (l : Graph) where
-  run-end : isEnd y v ≡ true → run y (v ∷ l) ≡ v ∷ []
-  unfolding run
-  run-end e = rw (e, run)
-
-  run-on : isEnd y v ≡ false → run y (v ∷ l) ≡ v ∷ run y l
-  unfolding run
-  run-on e = rw (e, run)
-
-  first-in-run : List·Memᴰ v (run y (v ∷ l))
-  unfolding run
-  first-in-run = List·Memᴰ·head refl
-
 module _ (y z : Places) where
   -- ---- a run copied, whatever follows it
   pub run-copied : (h : ℕ → ℕ) (l rest : Graph) → lastEnds y l ≡ true → ((v : ℕ) → List·Memᴰ v (run y l) → isEnd z (h v) ≡ isEnd y v)
       → run z (map h (run y l) ++ rest) ≡ map h (run y l)
   unfolding lastEnds
   run-copied h [] rest e same = absurd (true≢false (sym e))
-  run-copied h (v ∷ []) rest e same = rw (run-end y v [] e) (run-end z (h v) rest (same v (first-in-run y v []) ∙ e))
+  run-copied h (v ∷ []) rest e same = rw (run-last y v [] e) (run-last z (h v) rest (same v (first-in-run y v []) ∙ e))
   run-copied h (v ∷ w ∷ l) rest e same =
       let here = same v (first-in-run y v (w ∷ l)) in
       split (isEnd y v)
-      (λ t. rw (run-end y v (w ∷ l) t) (run-end z (h v) rest (here ∙ t)))
-      (λ t. let r = run-on y v (w ∷ l) t in
-      rw r (run-on z (h v) (map h (run y (w ∷ l)) ++ rest) (here ∙ t)
+      (λ t. rw (run-last y v (w ∷ l) t) (run-last z (h v) rest (here ∙ t)))
+      (λ t. let r = run-next y v (w ∷ l) t in
+      rw r (run-next z (h v) (map h (run y (w ∷ l)) ++ rest) (here ∙ t)
       ∙ ap (h v ∷_) (run-copied h (w ∷ l) rest e (λ u m. same u (rw r (List·Memᴰ·tail m))))))
 
   -- ---- the words spelled at a node copied

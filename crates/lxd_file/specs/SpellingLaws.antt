@@ -1,10 +1,11 @@
 -- Every file that the writer accepts spells the words from the start, each tile renamed to its label. The idea: the runs stand in the
 -- file as copies, and no chain of runs is longer than the file.
 use mathlib.Core.Path.{_≡_, refl, sym, ap, _∙_}
-use mathlib.Core.List.{List, [], _∷_, _++_, map, List·Memᴰ}
+use mathlib.Core.List.{List, [], _∷_, _++_, map, map-append, List·Memᴰ}
 use Prim.Native.Nat.{ℕ, suc, _+_}
 use native.Mathlib.Omega.{arith}
 use lib.ListN.{length, getD, drop, length-map}
+use Rattle.laws.specs.Lists.{drop-map}
 use Rattle.laws.specs.Members.{join-in}
 use Rattle.node.specs.Nodes.{KBWG, arc}
 use Rattle.graph.specs.Runs.{Graph, run}
@@ -17,7 +18,7 @@ use Rattle.lxd_file.specs.Reading.{lxdWords}
 use Rattle.lxd_file.specs.Row.{reached}
 use Rattle.lxd_file.specs.RowLaws.{Accepted, accepted}
 use Rattle.lxd_file.specs.Spelling.{spelt, renamed, LxdSpells}
-use Rattle.lxd_file.specs.CopiedLaws.{map-append, drop-map, run-copied, Copied, words-copied}
+use Rattle.lxd_file.specs.CopiedLaws.{run-copied, Copied, words-copied}
 use Rattle.lxd_file.specs.FileLaws.{file-nodes, file-node-count, file-word-count}
 use Rattle.lxd_file.specs.RunsLaws.{size, place, no-child, child-place, start-place, runs-inside, runs-within, place-within, start-in-runs, arc-in-runs, runs-end, ends-from, start-inside}
 use Rattle.lxd_file.specs.NodesLaws.{words-or-none, nodes-none, nodes-some, node-fields, nodes-below, nodes-few}

@@ -10,7 +10,7 @@ use Rattle.laws.specs.Firsts.{place-le}
 use Rattle.laws.specs.Sorting.{sorted-length}
 use Rattle.graph.specs.Counting.{table}
 use Rattle.macondo_file.specs.Alphabet.{precedes, letters, letterOf}
-use Rattle.macondo_file.specs.TableLaws.{table-length}
+use Rattle.graph.specs.TableLaws.{table-length}
 
 module _ (labels : List ℕ) where
   pub letters-length : length (letters labels) ≡ length labels - 1

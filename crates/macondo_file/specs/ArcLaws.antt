@@ -14,7 +14,8 @@ use Rattle.node.specs.Nodes.{KBWG, tile, arc, isEnd}
 use Rattle.graph.specs.Runs.{Graph, run, ascends}
 use Rattle.graph.specs.WordsAscend.{ascends-head, ascends-tail, ascends-drop}
 use Rattle.export.specs.Starts.{runOf, hasArc}
-use Rattle.export.specs.ChainLaws.{in-graph, arcsFrom, arc-from, from-arc}
+use Rattle.graph.specs.RunLaws.{in-graph}
+use Rattle.export.specs.ChainLaws.{arcsFrom, arc-from, from-arc}
 use Rattle.macondo_file.specs.Alphabet.{precedes}
 use Rattle.macondo_file.specs.File.{arcsOf}
 use Rattle.macondo_file.specs.RowLaws.{Checked}
@@ -78,7 +79,7 @@ module _ (n : ℕ) where
 module _ {g : Graph} {labels name : List ℕ} {lentWork : ℕ} (c : Checked g labels name lentWork) where
   pub run-few : (p : ℕ) → length (runOf g p) ≤ 50
   run-few p =
-      let a = run-most (length labels) (drop p g) (ascends-drop KBWG p g (c .ascending)) (λ v m. c .labelled v (in-graph g p v m)) in
+      let a = run-most (length labels) (drop p g) (ascends-drop KBWG p g (c .ascending)) (λ v m. c .labelled v (in-graph KBWG g p v m)) in
       let b = c .fifty in
       omega arith
 

@@ -1,5 +1,4 @@
 pub mod Alphabet
-pub mod TableLaws
 pub mod AlphabetLaws
 pub mod File
 pub mod Reading

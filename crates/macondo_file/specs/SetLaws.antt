@@ -5,13 +5,11 @@ use mathlib.Core.Logic.{_≢_, ⊎-elim}
 use mathlib.Core.List.{List, [], _∷_, map, List·Memᴰ, List·Memᴰ·head, List·Memᴰ·tail, List·Memᴰ·not-nil, List·Memᴰ·append-cases, List·Memᴰ·eq-of-singleton, Memᴰ·append-left, Memᴰ·append-right}
 use Prim.Native.Nat.{ℕ, zero, suc, _^_, _≤_, _<_}
 use native.Mathlib.Omega.{arith}
-use lib.Bits.{or-lt}
 use lib.Dec.{eqb}
 use lib.ListN.{length}
-use lib.Pow.{pow-pos, pow-lt}
 use borrow.Author.Tests.{eqb-true, eqb-false}
 use Rattle.laws.specs.Bits.{hasBit}
-use Rattle.laws.specs.BitSets.{bitSet, bit-set-bit}
+use Rattle.laws.specs.BitSets.{bitSet, bit-set-bit, bit-set-below}
 use Rattle.laws.specs.Cases.{split}
 use Rattle.laws.specs.Lists.{kept}
 use Rattle.laws.specs.Members.{member-mem, mem-member, in-map, map-in, in-kept, kept-in}
@@ -23,13 +21,6 @@ use Rattle.macondo_file.specs.Alphabet.{letterOf}
 use Rattle.macondo_file.specs.AlphabetLaws.{letter-most}
 use Rattle.macondo_file.specs.File.{endsInLetter, setOf}
 use Rattle.macondo_file.specs.Reading.{setWords}
-
--- a set of numbers below n is below 2 ^ n
-pub bit-set-below : (n : ℕ) (ts : List ℕ) → ((t : ℕ) → List·Memᴰ t ts → t < n) → bitSet ts < 2 ^ n
-unfolding bitSet
-bit-set-below n [] h = pow-pos n
-bit-set-below n (t ∷ ts) h =
-    or-lt n (bitSet ts) (2 ^ t) (bit-set-below n ts (λ u m. h u (List·Memᴰ·tail m))) (pow-lt (h t (List·Memᴰ·head refl)))
 
 module _ (g : Graph) (labels : List ℕ) where
   abbrev enders : ℕ → List ℕ

@@ -21,7 +21,7 @@ use Rattle.graph.specs.WordsEquation.{words-equation}
 use Rattle.lookup.specs.Steps.{lentPart, lent, on}
 use Rattle.lookup.specs.Walks.{wordIndex, wordByIndex}
 use Rattle.lookup.specs.WalkLaws.{lent-on}
-use Rattle.numbers.specs.RunWords.{table-length, table-at}
+use Rattle.graph.specs.TableLaws.{table-length, table-at}
 use Rattle.numbers.specs.ByNumber.{named, other-numbers}
 use Rattle.numbers.specs.ByWord.{IndexIs, number, no-word, index}
 use Rattle.numbers.specs.Walkable.{Walkable}

@@ -20,17 +20,6 @@ use Rattle.graph.specs.LoopLaws.{clear-where-loopless}
 use Rattle.graph.specs.CountLaws.{words-end as words-at-end, words-on as words-before-end}
 use Rattle.graph.specs.ChecksLaws.{Closed}
 
-pub table-length : (n : ℕ) (f : ℕ → ℕ) → length (table n f) ≡ n
-unfolding table
-table-length zero f = refl
-table-length (suc n) f = ap suc (table-length n (λ k. f (suc k)))
-
-pub table-at : (n : ℕ) (f : ℕ → ℕ) (i : ℕ) → i < n → getD (table n f) i 0 ≡ f i
-unfolding table
-table-at zero f i h = absurd (omega arith)
-table-at (suc n) f zero h = refl
-table-at (suc n) f (suc i) h = table-at n (λ k. f (suc k)) i (omega arith)
-
 pub getD-map-in : (f : Word → Word) (l : List Word) (n : ℕ) (d e : Word) → n < length l → getD (map f l) n e ≡ f (getD l n d)
 getD-map-in f [] n d e h = absurd (omega arith)
 getD-map-in f (x ∷ l) zero d e h = refl
