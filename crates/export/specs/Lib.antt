@@ -2,7 +2,12 @@ pub mod Starts
 pub mod Blocks
 pub mod BlocksLaws
 pub mod ChainLaws
+pub mod Cleared
 pub mod Latin1
+pub mod Encoded
 pub mod Written
 pub mod Places
 pub mod PlacesLaws
+pub mod Survey
+pub mod SurveyLaws
+pub mod ReachLaws

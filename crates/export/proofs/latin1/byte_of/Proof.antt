@@ -1,0 +1,26 @@
+-- `byte_of` meets its contract, by what `encode` answers.
+use Rattle.export.specs.Encoded.{told-none, told-byte}
+use borrow.Author.Needs.{needs}
+use Rattle.export.proofs.latin1.byte_of.Statement.{statement}
+use Rattle.export.proofs.latin1.byte_of.Tie as tie
+use Rattle.export.proofs.latin1.byte_of.Reads as reads
+use Rattle.export.proofs.latin1.byte_of.Lts as lts
+use Rattle.export.proofs.latin1.encode.Reads as encode-reads
+
+encode-requires : tie.Need-encode-requires
+encode-requires c κs = search needs
+
+enum-known-byte : tie.Need-enum-known-byte
+enum-known-byte c = search needs
+
+enum-told : tie.Need-enum-told
+enum-told c = search needs
+
+returns : tie.Need-returns
+returns c = told-none _ _ (c .before .before .encode .ensures) (c .enum-told .given .1) .1
+
+returns-2 : tie.Need-returns-2
+returns-2 c = told-byte _ _ (c .before .before .before .encode .ensures) _ (c .before .byte .given .1) .1
+
+pub byte-of-spec : {M : Type 1} → statement M
+byte-of-spec = tie.close (tie.spec encode-requires enum-known-byte enum-told returns returns-2)

@@ -1,0 +1,23 @@
+-- `any_wide` meets its contract: the first of its three tests that holds decides.
+use mathlib.Core.Path.{sym}
+use borrow.Author.Needs.{needs}
+use Rattle.export.proofs.survey.any_wide.Statement.{statement}
+use Rattle.export.proofs.survey.any_wide.Tie as tie
+use Rattle.export.proofs.survey.any_wide.Reads as reads
+use Rattle.export.proofs.survey.any_wide.Lts as lts
+use Rattle.export.proofs.latin1.no_byte.Reads as no-byte-reads
+
+no-byte-requires : tie.Need-no-byte-requires
+no-byte-requires c κs = search needs
+
+returns : tie.Need-returns
+returns c = rw (sym (c .before .no-byte .ensures)) (rw (c .if1 .taken))
+
+returns-2 : tie.Need-returns-2
+returns-2 c = rw (sym (c .before .before .no-byte .ensures)) (rw (c .before .if1 .left, c .if2 .taken))
+
+returns-3 : tie.Need-returns-3
+returns-3 c = rw (sym (c .before .before .no-byte .ensures)) (rw (c .before .if1 .left, c .if2 .left))
+
+pub any-wide-spec : {M : Type 1} → statement M
+any-wide-spec = tie.close (tie.spec no-byte-requires returns returns-2 returns-3)
