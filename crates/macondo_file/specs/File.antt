@@ -27,15 +27,24 @@ abbrev pub marks : Format → Marks
 marks dawg = record { magic = 0x63 ∷ 0x64 ∷ 0x77 ∷ 0x67 ∷ []; root = 0 }
 marks gaddag = record { magic = 0x63 ∷ 0x67 ∷ 0x64 ∷ 0x67 ∷ []; root = 1 }
 
+-- a node that ends a word in a letter: "tile 0's bit dropped"
+abbrev pub endsInLetter : ℕ → Bool
+endsInLetter v = accepts KBWG v && not (eqb (tile KBWG v) 0)
+
+-- "the code points stand in rank order"
+abbrev pub codePoints : List ℕ → List ℕ
+codePoints labels = map (λ t. getD labels t 0) (letters labels)
+
+-- "letter count (4), code points (4 each)", and so for the sets (8 each) and the nodes
+abbrev pub section : ℕ → List ℕ → List ℕ
+section width numbers = bigEndian 4 (length numbers) ++ bigEndians width numbers
+
 module _ (g : Graph) (labels : List ℕ) where
   -- "then its arcs by that order": the nodes of a run that have arcs
   unfoldable pub arcsOf : ℕ → List ℕ
   arcsOf p = sorted (λ v w. precedes labels (tile KBWG v) (tile KBWG w)) (kept hasArc (runOf g p))
 
-  -- "a set has bit r for the letter of rank r"; "tile 0's bit dropped"
-  abbrev pub endsInLetter : ℕ → Bool
-  endsInLetter v = accepts KBWG v && not (eqb (tile KBWG v) 0)
-
+  -- "a set has bit r for the letter of rank r"
   unfoldable pub setOf : ℕ → ℕ
   setOf p = bitSet (map (λ v. letterOf labels (tile KBWG v)) (kept endsInLetter (runOf g p)))
 
@@ -61,14 +70,6 @@ module _ (g : Graph) (labels : List ℕ) where
     unfoldable pub macondoNodes : List ℕ
     macondoNodes = joinAll (map blockOf blocks)
 
-    -- "letter count (4), code points (4 each)", and so for the sets (8 each) and the nodes
-    abbrev section : ℕ → List ℕ → List ℕ
-    section width numbers = bigEndian 4 (length numbers) ++ bigEndians width numbers
-
-    -- "the code points stand in rank order"
-    abbrev pub codePoints : List ℕ
-    codePoints = map (λ t. getD labels t 0) (letters labels)
-
     unfoldable pub macondoFile : List ℕ → List ℕ
     macondoFile name =
-        marks f .magic ++ (length name ∷ name) ++ (section 4 codePoints ++ (section 8 sets ++ section 4 macondoNodes))
+        marks f .magic ++ (length name ∷ name) ++ (section 4 (codePoints labels) ++ (section 8 sets ++ section 4 macondoNodes))

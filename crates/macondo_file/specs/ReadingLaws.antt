@@ -61,7 +61,7 @@ module _ (g : Graph) (labels : List ℕ) (f : Format) (name : List ℕ) where
   setPart = written 8 (sets g labels f) ++ nodePart
 
   abbrev letterPart : List ℕ
-  letterPart = written 4 (codePoints g labels f) ++ setPart
+  letterPart = written 4 (codePoints labels) ++ setPart
 
   abbrev front : List ℕ
   front = marks f .magic ++ (length name ∷ name)
@@ -73,7 +73,7 @@ module _ (g : Graph) (labels : List ℕ) (f : Format) (name : List ℕ) where
   front-length : length front ≡ 5 + length name
   front-length = let a = magic-length f in length-append (marks f .magic) (length name ∷ name) ∙ omega arith
 
-  pub code-points-length : length (codePoints g labels f) ≡ length labels - 1
+  pub code-points-length : length (codePoints labels) ≡ length labels - 1
   code-points-length = length-map (letters labels) (λ t. getD labels t 0) ∙ letters-length labels
 
   pub file-length : length (macondoFile g labels f name)
@@ -81,11 +81,11 @@ module _ (g : Graph) (labels : List ℕ) (f : Format) (name : List ℕ) where
   file-length =
       let a = front-length in
       let b = code-points-length in
-      let c = section-length 4 (codePoints g labels f) in
+      let c = section-length 4 (codePoints labels) in
       let d = section-length 8 (sets g labels f) in
       let e = section-length 4 (macondoNodes g labels f) in
       let h = length-append front letterPart in
-      let i = length-append (written 4 (codePoints g labels f)) setPart in
+      let i = length-append (written 4 (codePoints labels)) setPart in
       let j = length-append (written 8 (sets g labels f)) nodePart in
       ap length file-is ∙ omega arith
 
@@ -108,7 +108,7 @@ module _ {g : Graph} {labels name : List ℕ} {lentWork : ℕ} (c : Checked g la
   sets-read =
       let a = code-points-length g labels f name in
       let b = c .fifty in
-      ap (after 4) (letters-read g labels f name) ∙ section-after 4 (codePoints g labels f) (setPart g labels f name) (omega arith)
+      ap (after 4) (letters-read g labels f name) ∙ section-after 4 (codePoints labels) (setPart g labels f name) (omega arith)
 
   sets-counted : length (sets g labels f) < 256 ^ 4
   sets-counted =

@@ -24,25 +24,25 @@ use Rattle.macondo_file.specs.Reading.{setWords}
 
 module _ (g : Graph) (labels : List ℕ) where
   abbrev enders : ℕ → List ℕ
-  enders p = kept (endsInLetter g labels) (runOf g p)
+  enders p = kept (endsInLetter) (runOf g p)
 
   abbrev letterAt : ℕ → ℕ
   letterAt v = letterOf labels (tile KBWG v)
 
   pub in-set : (p r : ℕ) → hasBit (setOf g labels p) r ≡ true
-      → (v : ℕ) × List·Memᴰ v (runOf g p) × (endsInLetter g labels v ≡ true) × (r ≡ letterOf labels (tile KBWG v))
+      → (v : ℕ) × List·Memᴰ v (runOf g p) × (endsInLetter v ≡ true) × (r ≡ letterOf labels (tile KBWG v))
   unfolding setOf
   in-set p r e =
       let m = in-map letterAt (enders p) r (member-mem r (map letterAt (enders p)) (sym (bit-set-bit (map letterAt (enders p)) r) ∙ e)) in
-      let k = in-kept (endsInLetter g labels) (runOf g p) (m .0) (m .1) in
+      let k = in-kept (endsInLetter) (runOf g p) (m .0) (m .1) in
       (m .0, k .0, k .1, m .2)
 
-  pub set-in : (p v : ℕ) → List·Memᴰ v (runOf g p) → endsInLetter g labels v ≡ true
+  pub set-in : (p v : ℕ) → List·Memᴰ v (runOf g p) → endsInLetter v ≡ true
       → hasBit (setOf g labels p) (letterOf labels (tile KBWG v)) ≡ true
   unfolding setOf
   set-in p v m e =
       bit-set-bit (map letterAt (enders p)) (letterAt v)
-      ∙ mem-member (letterAt v) (map letterAt (enders p)) (map-in letterAt (enders p) v (kept-in (endsInLetter g labels) (runOf g p) v m e))
+      ∙ mem-member (letterAt v) (map letterAt (enders p)) (map-in letterAt (enders p) v (kept-in (endsInLetter) (runOf g p) v m e))
 
   pub set-below : length labels ≤ 50 → (p : ℕ) → setOf g labels p < 2 ^ 64
   unfolding setOf

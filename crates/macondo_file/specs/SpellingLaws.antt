@@ -63,7 +63,7 @@ module _ (g : Graph) (labels : List ℕ) where
   letterAt v = letterOf labels (tile KBWG v)
 
   data Made (from : ℕ → Word → Type 0) (p : ℕ) (w : Word) : Type 0 where
-    ends : (v : ℕ) → List·Memᴰ v (runOf g p) → endsInLetter g labels v ≡ true → w ≡ letterAt v ∷ [] → Made from p w
+    ends : (v : ℕ) → List·Memᴰ v (runOf g p) → endsInLetter v ≡ true → w ≡ letterAt v ∷ [] → Made from p w
     goes : (v : ℕ) (u : Word) → List·Memᴰ v (runOf g p) → hasArc v ≡ true → from (arc KBWG v) u → w ≡ letterAt v ∷ u → Made from p w
 
   made-of : (from to : ℕ → Word → Type 0) (p : ℕ) → ((q : ℕ) (u : Word) → List·Memᴰ q (arcsFrom g p) → from q u → to q u)

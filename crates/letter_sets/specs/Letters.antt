@@ -1,0 +1,23 @@
+-- The letter set of a run by a table of ranks, and what makes a table that of the labels.
+use mathlib.Core.Path.{_≡_}
+use mathlib.Core.List.{List, map}
+use Prim.Native.Nat.{ℕ, _≤_, _<_}
+use lib.ListN.{length, getD}
+use Rattle.laws.specs.BitSets.{bitSet}
+use Rattle.laws.specs.Lists.{kept}
+use Rattle.node.specs.Nodes.{KBWG, tile}
+use Rattle.graph.specs.Runs.{Graph}
+use Rattle.export.specs.Starts.{runOf}
+use Rattle.macondo_file.specs.Alphabet.{letterOf}
+use Rattle.macondo_file.specs.File.{endsInLetter}
+
+-- the table gives each tile that has a label the letter written for it
+abbrev pub Ranks : List ℕ → List ℕ → Type 0
+Ranks labels ranks = (t : ℕ) → t < length labels → getD ranks t 0 ≡ letterOf labels t
+
+-- each has a bit among 64: no letter is above 50, which tile 0 is written as
+abbrev pub Small : List ℕ → Type 0
+Small ranks = (t : ℕ) → getD ranks t 0 ≤ 50
+
+unfoldable pub setBy : List ℕ → Graph → ℕ → ℕ
+setBy ranks g p = bitSet (map (λ v. getD ranks (tile KBWG v) 0) (kept endsInLetter (runOf g p)))

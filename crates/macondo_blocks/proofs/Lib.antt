@@ -1,0 +1,7 @@
+-- What the proofs of several functions use.
+mod Insertion
+mod Order
+mod RankTable
+mod LetterOrder
+mod Runs
+mod Numbering

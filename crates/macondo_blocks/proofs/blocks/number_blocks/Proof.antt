@@ -1,0 +1,37 @@
+-- `number_blocks` meets its contract: a cleared list holds the record of no block.
+use mathlib.Core.Path.{refl}
+use Rattle.macondo_blocks.proofs.Numbering.{clear-at, clear-recorded, clear-numbered}
+use borrow.Author.Needs.{needs}
+use Rattle.macondo_blocks.proofs.blocks.number_blocks.Statement.{statement}
+use Rattle.macondo_blocks.proofs.blocks.number_blocks.Tie as tie
+use Rattle.macondo_blocks.proofs.blocks.number_blocks.Reads as reads
+use Rattle.macondo_blocks.proofs.blocks.number_blocks.Lts as lts
+use Rattle.export.proofs.clear.clear.Reads as clear-reads
+use Rattle.macondo_blocks.proofs.blocks.number_run.Reads as number-run-reads
+
+clear-requires : tie.Need-clear-requires
+clear-requires c κs = search needs
+
+number-run-requires : tie.Need-number-run-requires
+number-run-requires c κs = let s = c .before .before .before .before .before .before .before .before in
+    let a = s .args in
+    let w = c .before .before .before .clear in (
+      clear-recorded (a .nodes .now) (a .labels .now) (a .work .now) (w .last .0) (s .pre .1 .1) (w .ensures) (s .pre .0) _ refl refl,
+      (
+        s .pre .1 .0,
+        clear-at (a .nodes .now) (a .labels .now) (a .work .now) (w .last .0) (s .pre .1 .1) (w .ensures) (a .s) (s .pre .1 .0),
+      ),
+    )
+
+same-length : tie.Need-same-length
+same-length c = search needs
+
+returns : tie.Need-returns
+returns c = let s = c .before .before .before .before .before .before .before .before .before .before .before in
+    let a = s .args in
+    let w = c .before .before .before .before .before .before .clear in
+    let r = c .before .before .number-run in
+    clear-numbered (a .nodes .now) (a .labels .now) (a .work .now) (w .last .0) (s .pre .1 .1) (w .ensures) (r .last .1 .1 .0) (r .result) _ (r .ensures)
+
+pub number-blocks-spec : {M : Type 1} → statement M
+number-blocks-spec = tie.close (tie.spec clear-requires number-run-requires same-length returns)

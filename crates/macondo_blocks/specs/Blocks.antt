@@ -1,0 +1,75 @@
+-- What the Macondo writer computes before it writes, named for the contracts of this crate.
+use mathlib.Core.Path.{_≡_}
+use mathlib.Core.Bool.{Bool, true, false}
+use mathlib.Core.List.{List, [], _∷_, _++_, map}
+use Prim.Native.Nat.{ℕ, suc, _+_, _≤_, _<_}
+use lib.Dec.{eqb}
+use lib.ListN.{length, take}
+use lib.Seq.{slice}
+use Rattle.laws.specs.Firsts.{placeIn}
+use Rattle.laws.specs.Lists.{All, kept}
+use Rattle.laws.specs.Sorting.{inserted, insertedAll}
+use Rattle.node.specs.Nodes.{KBWG, tile, arc}
+use Rattle.graph.specs.Runs.{Graph, ascends}
+use Rattle.graph.specs.ChecksLaws.{Fit}
+use Rattle.graph.specs.Lent.{Kept}
+use Rattle.export.specs.Starts.{hasArc, unlabelled}
+use Rattle.export.specs.Blocks.{met}
+use Rattle.export.specs.Places.{orderIn, Holds}
+use Rattle.export.specs.declared.places.Tally.{Tally}
+use Rattle.macondo_file.specs.Alphabet.{precedes}
+use Rattle.macondo_file.specs.File.{arcsOf}
+
+-- the arc order, of nodes by their tiles; a tile as a node without arc and flags is its own tile
+abbrev pub byTile : List ℕ → ℕ → ℕ → Bool
+byTile labels v w = precedes labels (tile KBWG v) (tile KBWG w)
+
+-- every node's tile has a label
+abbrev pub Labelled : List ℕ → List ℕ → Type 0
+Labelled labels vs = All (λ v. tile KBWG v < length labels) vs
+
+-- where an entry goes among the first `count` of the list: the place of the first that it precedes, or `count`
+pub record Slot (labels list : List ℕ) (count v r : ℕ) : Type 0 where
+  pub within : r ≤ count
+  pub here : inserted (byTile labels) v (take count list) ≡ take r list ++ v ∷ slice r count list
+
+-- a node put among the arcs in order, if it has an arc
+abbrev pub withArc : List ℕ → List ℕ → ℕ → List ℕ
+withArc labels arcs v = insertedAll (byTile labels) arcs (kept hasArc (v ∷ []))
+
+-- the letter written for a tile, where the letters stand in the list in rank order
+abbrev pub letterIn : List ℕ → ℕ → ℕ
+letterIn letters t = elim (eqb t 0) [ true ↦ 50 | false ↦ placeIn letters t ]
+
+-- what the checks before the walk tell of graph and labels
+pub record Ready (g : Graph) (labels : List ℕ) : Type 0 where
+  pub fit : Fit g
+  pub up : ascends KBWG g ≡ true
+  pub labelled : unlabelled g labels ≡ false
+  pub few : length labels ≤ 50
+
+-- the blocks that a block's arcs lead to, and its nodes: the head and the arcs
+abbrev pub childrenOf : Graph → List ℕ → ℕ → List ℕ
+childrenOf g labels p = map (arc KBWG) (arcsOf g labels p)
+
+abbrev pub sizeOf : Graph → List ℕ → ℕ → ℕ
+sizeOf g labels p = suc (length (arcsOf g labels p))
+
+-- the blocks of a file whose start is node s
+abbrev pub blocksFrom : Graph → List ℕ → ℕ → List ℕ
+blocksFrom g labels s = met (childrenOf g labels) 64 [] s
+
+-- the work list has room for the record, which holds the blocks numbered so far
+pub record Recorded (g : Graph) (labels : List ℕ) (w : List ℕ) (t : Tally) : Type 0 where
+  pub ready : Ready g labels
+  pub room : length g + length g ≤ length w
+  pub holds : Holds (length g) (sizeOf g labels) 0 w t (orderIn (length g) w t)
+
+-- what numbering leaves: the record of the blocks in the list, and the numbers past it as before
+pub record Numbered (g : Graph) (labels : List ℕ) (w w′ : List ℕ) (t : Tally) (blocks : List ℕ) : Type 0 where
+  pub holds : Holds (length g) (sizeOf g labels) 0 w′ t blocks
+  pub past : Kept (length g + length g) w w′
+
+-- the same of a block and what its arcs lead to, where a record stands and a chain of c runs is left
+abbrev pub NumberedFrom : Graph → List ℕ → List ℕ → Tally → ℕ → ℕ → List ℕ → Tally → Type 0
+NumberedFrom g labels w t c p w′ t′ = Numbered g labels w w′ t′ (met (childrenOf g labels) c (orderIn (length g) w t) p)

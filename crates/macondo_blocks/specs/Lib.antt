@@ -1,0 +1,5 @@
+pub mod Blocks
+pub mod EntriesLaws
+pub mod ArcsLaws
+pub mod LettersLaws
+pub mod NumbersLaws
