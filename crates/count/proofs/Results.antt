@@ -14,11 +14,12 @@ use Rattle.node.specs.Nodes.{KBWG}
 use Rattle.graph.specs.Runs.{Graph}
 use Rattle.graph.specs.Words.{count}
 use Rattle.graph.specs.LoopLaws.{reach-inside}
+use Rattle.laws.specs.Cleared.{cleared}
 use Rattle.graph.specs.TableLaws.{begins-with-table}
 use Rattle.graph.specs.Counting.{table, Loopless, countRow, Counted, unfit, loop, many, all}
 use Rattle.graph.specs.Lent.{Kept, WorkKept, work-untouched}
-use Rattle.count.specs.Walk.{mark, isMet, isDone, Walk, AllDone, LoopFound, ReachesIs, zeroed}
-use Rattle.count.proofs.Lists.{kept-all, zeroed-of-kept}
+use Rattle.count.specs.Walk.{mark, isMet, isDone, Walk, AllDone, LoopFound, ReachesIs}
+use Rattle.count.proofs.Lists.{kept-all, cleared-of-kept}
 use Rattle.count.proofs.Rows.{counts-room}
 use Rattle.count.proofs.Tally.{tally-zero}
 
@@ -43,18 +44,18 @@ walk-start limit g c w r s z =
     }
 
 module _ (limit : ℕ) (g : Graph) (c : List ℕ) (work : ℕ) (w c′ w′ : List ℕ) (fit : firstOf (countRow g (length c) work) ≡ none) where
-  pub loop-answer : (q : ℕ) → LoopFound g c w c′ w′ q → Counted limit g c work (refused 12 (q ∷ [])) (zeroed (length g) c′)
-  loop-answer q L = rw (zeroed-of-kept (length g) c c′ (L .counts-kept)) (loop fit (L .loops))
+  pub loop-answer : (q : ℕ) → LoopFound g c w c′ w′ q → Counted limit g c work (refused 12 (q ∷ [])) (cleared (length g) c′)
+  loop-answer q L = rw (cleared-of-kept (length g) c c′ (L .counts-kept)) (loop fit (L .loops))
 
   module _ (A : AllDone limit g c w c′ w′) where
     loopless : Loopless g
     loopless q l = A .clear q (reach-inside KBWG l) .itself l
 
-    pub many-answer : ReachesIs limit c′ (length g) true → Counted limit g c work (refused 13 []) (zeroed (length g) c′)
+    pub many-answer : ReachesIs limit c′ (length g) true → Counted limit g c work (refused 13 []) (cleared (length g) c′)
     many-answer m =
         let e = A .counted (m .0) (m .1) in
         let h = m .2 in
-        rw (zeroed-of-kept (length g) c c′ (A .counts-kept)) (many fit loopless (m .1) (omega arith))
+        rw (cleared-of-kept (length g) c c′ (A .counts-kept)) (many fit loopless (m .1) (omega arith))
 
     module _ (small : ReachesIs limit c′ (length g) false) where
       few : (p : ℕ) → p < length g → count KBWG g p < limit

@@ -116,7 +116,3 @@ WalkedIs limit g c w c′ w′ (At q) = LoopFound g c w c′ w′ q
 abbrev pub ReachesIs : ℕ → List ℕ → ℕ → Bool → Type 0
 ReachesIs limit c n true = (p : ℕ) × (p < n) × (limit ≤ getD c p 0)
 ReachesIs limit c n false = (p : ℕ) → p < n → getD c p 0 < limit
-
--- a list with its first n numbers 0
-abbrev pub zeroed : ℕ → List ℕ → List ℕ
-zeroed n l = replicate n 0 ++ drop n l

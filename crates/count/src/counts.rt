@@ -1,22 +1,10 @@
-// Lists of marks or counts, from their first entry on.
+// The counts, from the first on.
 ghost use mathlib.Core.Path.{_≡_};
 ghost use Prim.Native.Nat.{_≤_};
 ghost use lib.ListN.{length};
 ghost use Rattle.count.specs.Said.{limit};
-ghost use Rattle.count.specs.Walk.{zeroed, ReachesIs};
+ghost use Rattle.count.specs.Walk.{ReachesIs};
 use crate::sums::LIMIT;
-
-// Sets the first n numbers to 0.
-pub(crate) fn clear(list: &mut [u32], n: usize)
-    requires { ⌜ n ≤ length (now list) ⌝ }
-    ensures { λ _. ⌜ now (list .exit) ≡ zeroed n (now (list .entry)) ⌝ }
-{
-    let mut i: usize = 0;
-    while i < n {
-        list[i] = 0;
-        i += 1;
-    }
-}
 
 // Whether one of the first n counts is too many.
 pub(crate) fn reaches_limit(counts: &[u32], n: usize) -> bool

@@ -11,9 +11,9 @@ ghost use Rattle.node.specs.Answers.{firstOf};
 ghost use Rattle.graph.specs.Counting.{Counted as IsCounted, countRow};
 ghost use Rattle.graph.specs.Lent.{Kept, WorkKept};
 ghost use Rattle.count.specs.Said.{limit, said};
-use counts::clear;
 use counts::reaches_limit;
 use graph::GraphCheck;
+use lists::clear;
 use walk::Found;
 use walk::walk;
 

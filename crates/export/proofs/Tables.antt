@@ -14,7 +14,7 @@ use Rattle.node.specs.Nodes.{KBWG, tile, arc, isEnd, flag}
 use Rattle.graph.specs.Runs.{Graph, node}
 use Rattle.graph.specs.ChecksLaws.{Fit}
 use Rattle.export.specs.Starts.{hasArc, unlabelled}
-use Rattle.export.specs.Cleared.{cleared, cleared-length, cleared-at}
+use Rattle.laws.specs.Cleared.{cleared, cleared-length, cleared-at}
 use Rattle.export.specs.Survey.{nothing, Right, within, Answers, entryOf, entered, afterOf, Tables}
 use Rattle.export.specs.SurveyLaws.{right-nothing, answers-within}
 use Rattle.export.specs.declared.survey.Findings.{Findings}

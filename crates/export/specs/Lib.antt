@@ -2,7 +2,6 @@ pub mod Starts
 pub mod Blocks
 pub mod BlocksLaws
 pub mod ChainLaws
-pub mod Cleared
 pub mod Latin1
 pub mod Encoded
 pub mod Written

@@ -1,5 +1,4 @@
 // What both writers of files for other programs share.
-pub mod clear;
 mod labels;
 mod latin1;
 mod places;

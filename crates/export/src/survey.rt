@@ -13,7 +13,7 @@ ghost use Rattle.graph.specs.ChecksLaws.{Fit};
 ghost use Rattle.export.specs.Latin1.{noByte};
 ghost use Rattle.export.specs.Starts.{hasArc, unlabelled};
 ghost use Rattle.export.specs.Survey.{most, nothing, joined, entryOf, entered, afterOf, within, LastIs, Tables, Answers, SurveyIs};
-use crate::clear::clear;
+use lists::clear;
 use crate::latin1::no_byte;
 use node::Node24;
 

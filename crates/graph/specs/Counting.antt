@@ -5,7 +5,8 @@ use mathlib.Core.List.{List, [], _∷_, _++_}
 use mathlib.Core.Option.{none, some}
 use Prim.Native.Nat.{ℕ, zero, suc, _*_, _≤_, _<_}
 use lib.Dec.{ltb}
-use lib.ListN.{length, drop, replicate}
+use lib.ListN.{length, drop}
+use Rattle.laws.specs.Cleared.{cleared}
 use Rattle.node.specs.Answers.{Answer, gives, refused, Row, firstOf}
 use Rattle.node.specs.Nodes.{KBWG}
 use Rattle.graph.specs.Runs.{Graph}
@@ -29,18 +30,14 @@ Loopless g = (q : ℕ) → Loops KBWG g q → ⊥
 abbrev pub countRow : Graph → ℕ → ℕ → Row
 countRow g lentCounts lentWork = graphRow g ++ (ltb lentCounts (length g) || ltb lentWork (2 * length g), refused 11 []) ∷ []
 
--- "First N counts are 0 after 12 or 13"
-abbrev pub cleared : Graph → List ℕ → List ℕ
-cleared g lent = replicate (length g) 0 ++ drop (length g) lent
-
 -- What counting may answer, and the counts then, for the counts lent before; limit is the lowest count that is too many. The node
--- in refusal 12 is the program's choice: "Refusal 12 carries some node that can be reached from itself".
+-- in refusal 12 is the program's choice: "Refusal 12 carries some node that can be reached from itself". "First N counts are 0 after 12 or 13".
 pub data Counted (limit : ℕ) (g : Graph) (lent : List ℕ) (lentWork : ℕ) : Answer → List ℕ → Type 0 where
   unfit : {r : Answer} → firstOf (countRow g (length lent) lentWork) ≡ some r → Counted limit g lent lentWork r lent
   loop : {q : ℕ} → firstOf (countRow g (length lent) lentWork) ≡ none → Loops KBWG g q
-      → Counted limit g lent lentWork (refused 12 (q ∷ [])) (cleared g lent)
+      → Counted limit g lent lentWork (refused 12 (q ∷ [])) (cleared (length g) lent)
   many : {p : ℕ} → firstOf (countRow g (length lent) lentWork) ≡ none → Loopless g → p < length g → limit ≤ count KBWG g p
-      → Counted limit g lent lentWork (refused 13 []) (cleared g lent)
+      → Counted limit g lent lentWork (refused 13 []) (cleared (length g) lent)
   all : firstOf (countRow g (length lent) lentWork) ≡ none → Loopless g → ((p : ℕ) → p < length g → count KBWG g p < limit)
       → Counted limit g lent lentWork (gives []) (counts g ++ drop (length g) lent)
 

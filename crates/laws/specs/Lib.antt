@@ -1,6 +1,7 @@
 pub mod Bits
 pub mod BitSets
 pub mod Cases
+pub mod Cleared
 pub mod Firsts
 pub mod Lists
 pub mod Members

@@ -13,7 +13,8 @@ use Rattle.graph.specs.Counting.{table}
 use Rattle.letter_sets.specs.declared.tree.Named.{Named}
 use Rattle.letter_sets.specs.Sets.{setAt, setsIn, orderIn, Numbered}
 use Rattle.letter_sets.specs.Tree.{Tree, Names}
-use Rattle.letter_sets.proofs.TableLaws.{table-length, table-same, place-in-table, firsts-step}
+use Rattle.graph.specs.TableLaws.{table-length}
+use Rattle.letter_sets.proofs.TableLaws.{table-same, place-in-table, firsts-step}
 use Rattle.letter_sets.proofs.SearchLaws.{set-same, tree-same}
 
 module _ (f : ℕ → ℕ) (n blocks : ℕ) (w₀ : List ℕ) where

@@ -7,16 +7,10 @@ use Prim.Native.Nat.{ℕ, zero, suc, _<_}
 use native.Mathlib.Omega.{arith}
 use borrow.Author.Tests.{eq-eqb, ne-eqb}
 use lib.Dec.{eqb}
-use lib.ListN.{length}
 use Rattle.laws.specs.Cases.{split}
 use Rattle.laws.specs.Firsts.{placeIn, firsts}
 use Rattle.laws.specs.Lists.{member}
 use Rattle.graph.specs.Counting.{table}
-
-pub table-length : (k : ℕ) (f : ℕ → ℕ) → length (table k f) ≡ k
-unfolding table
-table-length zero f = refl
-table-length (suc k) f = ap suc (table-length k (λ i. f (suc i)))
 
 pub table-same : (k : ℕ) (f h : ℕ → ℕ) → ((i : ℕ) → i < k → f i ≡ h i) → table k f ≡ table k h
 unfolding table

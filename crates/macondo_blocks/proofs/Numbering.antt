@@ -13,7 +13,7 @@ use Rattle.node.specs.Nodes.{KBWG, arc}
 use Rattle.graph.specs.Runs.{Graph}
 use Rattle.graph.specs.Lent.{Kept}
 use Rattle.export.specs.Blocks.{each, met}
-use Rattle.export.specs.Cleared.{cleared, cleared-length, cleared-at}
+use Rattle.laws.specs.Cleared.{cleared, cleared-length, cleared-at}
 use Rattle.export.specs.Places.{orderIn, Holds}
 use Rattle.export.specs.PlacesLaws.{used-lt, met-none, met-old, met-new, push-holds, fresh-of, stale-of, self, holds-at, holds-none}
 use Rattle.export.specs.declared.places.Tally.{Tally}

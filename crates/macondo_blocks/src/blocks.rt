@@ -6,7 +6,7 @@ ghost use Rattle.macondo_blocks.specs.Blocks.{blocksFrom, Ready, Recorde
 use crate::arcs::arcs_of;
 use export::Place;
 use export::Tally;
-use export::clear::clear;
+use lists::clear;
 use export::place_of;
 use export::push_block;
 use node::Node24;

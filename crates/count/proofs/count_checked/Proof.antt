@@ -15,7 +15,8 @@ use Rattle.count.specs.declared.walk.Found.the-variants.{Nothing, At}
 use Rattle.count.specs.Said.{limit}
 use Rattle.graph.specs.Lent.{Kept}
 use Rattle.count.specs.Walk.{WalkedIs, ReachesIs}
-use Rattle.count.proofs.Lists.{zeroed-at, zeroed-kept, kept-then, kept-further}
+use Rattle.laws.specs.Cleared.{cleared-at}
+use Rattle.count.proofs.Lists.{cleared-kept, kept-then, kept-further}
 use Rattle.count.proofs.Rows.{counts-room, work-room, passed}
 use Rattle.count.proofs.Results.{walk-start, loop-answer, many-answer, all-answer}
 use borrow.Author.Needs.{needs}
@@ -23,7 +24,7 @@ use Rattle.count.proofs.count_checked.Statement.{statement}
 use Rattle.count.proofs.count_checked.Tie as tie
 use Rattle.count.proofs.count_checked.Reads as reads
 use Rattle.count.proofs.count_checked.Lts as lts
-use Rattle.count.proofs.counts.clear.Reads as clear-reads
+use Rattle.lists.proofs.clear.Reads as clear-reads
 use Rattle.count.proofs.counts.reaches_limit.Reads as reaches-limit-reads
 use Rattle.count.proofs.walk.walk.Reads as walk-reads
 
@@ -46,7 +47,7 @@ cleared-work c =
     let s = c .before .before .before .before .before in
     let r = work-fits s in
     subst (λ (w : List ℕ). Kept (2 * length (nodes s)) (s .args .work .now) w) (sym (c .clear .ensures))
-    (kept-further _ (length (nodes s)) _ _ (omega arith) (zeroed-kept _ _ (omega arith)))
+    (kept-further _ (length (nodes s)) _ _ (omega arith) (cleared-kept _ _ (omega arith)))
 
 -- what the walk answers, and leaves of the counts
 abbrev after : tie.After-walk → List ℕ
@@ -69,7 +70,7 @@ walk-requires c κs = let s = c .before .before .before .before .before .before 
     let k = c .before .before .before .before in
     let r = work-fits s in
     let e = cleared-work k .size in
-    (sound s, walk-start limit _ _ _ (omega arith) (counts-fit s) (λ i h. ap (λ (w : List ℕ). getD w i 0) (k .clear .ensures) ∙ zeroed-at _ _ (omega arith) i h))
+    (sound s, walk-start limit _ _ _ (omega arith) (counts-fit s) (λ i h. ap (λ (w : List ℕ). getD w i 0) (k .clear .ensures) ∙ cleared-at _ _ i h))
 
 enum-known-q : tie.Need-enum-known-q
 enum-known-q c = search needs

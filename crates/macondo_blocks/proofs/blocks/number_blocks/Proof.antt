@@ -6,7 +6,7 @@ use Rattle.macondo_blocks.proofs.blocks.number_blocks.Statement.{statem
 use Rattle.macondo_blocks.proofs.blocks.number_blocks.Tie as tie
 use Rattle.macondo_blocks.proofs.blocks.number_blocks.Reads as reads
 use Rattle.macondo_blocks.proofs.blocks.number_blocks.Lts as lts
-use Rattle.export.proofs.clear.clear.Reads as clear-reads
+use Rattle.lists.proofs.clear.Reads as clear-reads
 use Rattle.macondo_blocks.proofs.blocks.number_run.Reads as number-run-reads
 
 clear-requires : tie.Need-clear-requires

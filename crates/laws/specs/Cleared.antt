@@ -1,4 +1,4 @@
--- A work list whose first numbers are set to 0.
+-- A list whose first numbers are set to 0.
 use mathlib.Core.Path.{_≡_, sym, ap, ap₂, _∙_}
 use mathlib.Core.List.{List, _++_}
 use Prim.Native.Nat.{ℕ, suc, _+_, _≤_, _<_}

@@ -1,8 +1,8 @@
-// Work lists, emptied.
+// Lists of numbers, emptied.
 ghost use mathlib.Core.Path.{_≡_};
 ghost use Prim.Native.Nat.{_≤_};
 ghost use lib.ListN.{length};
-ghost use Rattle.export.specs.Cleared.{cleared};
+ghost use Rattle.laws.specs.Cleared.{cleared};
 
 // Sets the first n numbers, which the list must have, to 0.
 pub fn clear(work: &mut [u32], n: usize)
