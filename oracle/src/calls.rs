@@ -1,8 +1,12 @@
 // The families of calls. A new family is a module and a line in FAMILIES.
 
+mod graphs;
+mod labels;
 mod layout;
 mod letters;
 mod loading;
+mod lxd;
+mod macondo;
 mod nodes;
 mod numbers;
 mod outcome;
@@ -30,6 +34,8 @@ const FAMILIES: &[Family] = &[
     loading::FAMILY,
     numbers::FAMILY,
     letters::FAMILY,
+    macondo::FAMILY,
+    lxd::FAMILY,
 ];
 
 pub fn find_list(name: &str) -> Option<&'static Family> {

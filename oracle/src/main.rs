@@ -28,9 +28,6 @@ mod random;
 mod requests;
 mod worker;
 
-#[cfg(test)]
-mod lexport_test;
-
 use std::process::ExitCode;
 
 const USAGE: &str = "usage: oracle requests LIST... | oracle answers";

@@ -138,6 +138,87 @@ fn the_runs_of_the_sample_graph_have_tiles() {
     assert_eq!(answers(&requests).0, expected);
 }
 
+// Numbers of four bytes each, the highest byte first.
+fn big_endian(words: &[u32]) -> String {
+    let swapped: Vec<u32> = words.iter().map(|word| word.swap_bytes()).collect();
+    bytes(&swapped)
+}
+
+#[test]
+fn the_sample_graph_is_written_as_a_file_of_macondo() {
+    // The tiles are ?, A and B; the name is G. Node 1's arc is 0, so that a
+    // gaddag starts at node 0, whose tile 0 leads to the same run.
+    let graph = "5 576 64 1153 1090 194";
+    let letters = big_endian(&[2, 0x41, 0x42]);
+    let dawg = [2, 0, 1, 0, 2, 4, 0x02000000, 3, 0x01000003, 1];
+    let gaddag = [
+        3, 0, 0, 0, 1, 0, 2, 6, 0x01000000, 0x32000002, 0x02000001, 5, 0x01000005, 2,
+    ];
+    let files = [
+        format!("0 58 99 100 119 103 1 71 {letters} {}", big_endian(&dawg)),
+        format!("0 74 99 103 100 103 1 71 {letters} {}", big_endian(&gaddag)),
+    ];
+    for (format, file) in files.iter().enumerate() {
+        let request = format!("14 {graph} {format} 3 63 65 66 1 71");
+        let expected = format!("{request} {file}\n");
+        assert_eq!(answers(&(request + "\n")).0, expected);
+    }
+}
+
+#[test]
+fn the_sample_graph_is_written_as_an_lxd_file() {
+    let graph = "5 576 64 1153 1090 194 3 63 65 66 1 71 0";
+    let nodes = [0x8a800000, 0x8a800002, 0x50400004, 0x90800004, 0xd0800000];
+    let expected = format!(
+        "15 {graph} 0 84 {} 71{} {} {}\n",
+        bytes(&[64, 5]),
+        " 0".repeat(51),
+        bytes(&[3]),
+        bytes(&nodes)
+    );
+    assert_eq!(answers(&format!("15 {graph}\n")).0, expected);
+}
+
+#[test]
+fn a_refused_file_says_why() {
+    let graph = "5 576 64 1153 1090 194";
+    let many = |len: usize| format!("{len}{}", " 65".repeat(len));
+    let cases = [
+        // No labels, and one too many; a name too long; B is two letters.
+        (14, "0 0 0".into(), 18),
+        (14, format!("1 {} 0", many(51)), 18),
+        (14, format!("0 3 63 65 66 {}", many(256)), 19),
+        (14, "1 3 63 65 1114112 0".into(), 23),
+        // A title and a date of other letters, and too long; B is another.
+        (15, "3 63 65 66 1 256 0".into(), 20),
+        (15, format!("3 63 65 66 {} 0", many(32)), 19),
+        (15, "3 63 65 66 0 1 256".into(), 20),
+        (15, format!("3 63 65 66 0 {}", many(20)), 19),
+        (15, "3 63 65 256 0 0".into(), 23),
+    ];
+    for (call, inputs, refusal) in cases {
+        let request = format!("{call} {graph} {inputs}");
+        let expected = format!("{request} {refusal}\n");
+        assert_eq!(answers(&(request + "\n")).0, expected);
+    }
+}
+
+#[test]
+fn what_an_alphabet_or_a_text_cannot_hold_is_not_asked() {
+    let graph = "5 576 64 1153 1090 194";
+    for request in [
+        // A label of white space, a name that is not UTF-8, a title of a number
+        // that is no code point, and an alphabet of none.
+        format!("14 {graph} 0 3 63 32 66 0"),
+        format!("14 {graph} 0 3 63 65 66 1 255"),
+        format!("15 {graph} 3 63 65 66 1 55296 0"),
+        format!("15 {graph} 0 0 0"),
+    ] {
+        let output = oracle(&["answers"], &(request + "\n"));
+        assert!(!output.status.success());
+    }
+}
+
 #[test]
 fn a_refusal_names_the_node_and_keeps_what_was_done() {
     // The second node has tile 64 and arc 3, and half a node comes after.
@@ -169,7 +250,9 @@ fn an_unreadable_request_stops_the_run() {
 
 #[test]
 fn the_lists_are_the_same_each_time_and_fully_answered() {
-    let asked = ["requests", "nodes", "loading", "numbers", "letters"];
+    let asked = [
+        "requests", "nodes", "loading", "numbers", "letters", "macondo", "lxd",
+    ];
     let requests = text(oracle(&asked, "").stdout);
     assert_eq!(requests, text(oracle(&asked, "").stdout));
 

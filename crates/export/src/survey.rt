@@ -13,8 +13,8 @@ ghost use Rattle.graph.specs.ChecksLaws.{Fit};
 ghost use Rattle.export.specs.Latin1.{noByte};
 ghost use Rattle.export.specs.Starts.{hasArc, unlabelled};
 ghost use Rattle.export.specs.Survey.{most, nothing, joined, entryOf, entered, afterOf, within, LastIs, Tables, Answers, SurveyIs};
-use lists::clear;
 use crate::latin1::no_byte;
+use lists::clear;
 use node::Node24;
 
 // What is known of a run: the runs in the longest chain from it, itself included, its words (at most 4,294,967,295), and whether a label

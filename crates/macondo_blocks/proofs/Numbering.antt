@@ -8,7 +8,6 @@ use native.Mathlib.Numerals.{add-one}
 use native.Mathlib.Omega.{arith}
 use lib.ListN.{length, getD, set, take, drop, replicate, length-set, length-replicate}
 use lib.Seq.{slice, slice-cons, slice-empty, drop-set-lt, drop-append-add, drop-drop, length-take-le}
-use Rattle.laws.specs.Lists.{All}
 use Rattle.node.specs.Nodes.{KBWG, arc}
 use Rattle.graph.specs.Runs.{Graph}
 use Rattle.graph.specs.Lent.{Kept}
@@ -19,8 +18,6 @@ use Rattle.export.specs.PlacesLaws.{used-lt, met-none, met-old, met-new, push-h
 use Rattle.export.specs.declared.places.Tally.{Tally}
 use Rattle.macondo_file.specs.File.{arcsOf}
 use Rattle.macondo_blocks.specs.Blocks.{childrenOf, sizeOf, Ready, Recorded, Numbered}
-use Rattle.macondo_blocks.specs.EntriesLaws.{all-taken}
-use Rattle.macondo_blocks.specs.ArcsLaws.{arcs-inside}
 use Rattle.macondo_blocks.specs.NumbersLaws.{size-few, nodes-few}
 
 kept-then : {n : ℕ} {l m r : List ℕ} → Kept n l m → Kept n m r → Kept n l r
@@ -119,13 +116,8 @@ module _ {g : Graph} {labels : List ℕ} {c : ℕ} {arcs : List ℕ} {count : �
     pub walk-done : Numbered g labels v w t (met (childrenOf g labels) c (orderIn (length g) v u) p)
     walk-done = record { holds = holds-at all-met (k .holds); past = kept-then (n .past) (k .past) }
 
-pub child-inside : (g : Graph) (labels : List ℕ) → Ready g labels → (p count : ℕ) (arcs : List ℕ) (i : ℕ) → take count arcs ≡ arcsOf g labels p
-    → i < count → count ≤ length arcs → arc KBWG (getD arcs i 0) < length g
-child-inside g labels ready p count arcs i e h fits =
-    all-taken (λ v. arc KBWG v < length g) count arcs i (subst (All (λ v. arc KBWG v < length g)) (sym e) (arcs-inside g labels ready p)) h fits
-
 -- ---- from a cleared list on
-module _ (g : Graph) (labels : List ℕ) (w w′ : List ℕ) (room : length g + length g ≤ length w) (e : w′ ≡ cleared (length g) w) where
+module _ (w w′ : List ℕ) {g : Graph} {labels : List ℕ} (ready : Ready g labels) (room : length g + length g ≤ length w) (e : w′ ≡ cleared (length g) w) where
   pub clear-at : (p : ℕ) → p < length g → getD w′ p 0 ≡ 0
   clear-at p h = ap (λ l. getD l p 0) e ∙ cleared-at (length g) w p h
 
@@ -137,13 +129,13 @@ module _ (g : Graph) (labels : List ℕ) (w w′ : List ℕ) (room : length g + 
             ∙ drop-append-add (replicate (length g) 0) (drop (length g) w) (length g) ∙ drop-drop (length g) (length g) w;
       })
 
-  pub clear-recorded : Ready g labels → (t : Tally) → t .blocks ≡ 0 → t .nodes ≡ 0 → Recorded g labels w′ t
-  clear-recorded ready t b n =
+  pub clear-recorded : (t : Tally) → t .blocks ≡ 0 → t .nodes ≡ 0 → Recorded g labels w′ t
+  clear-recorded t b n =
       record {
         ready = ready;
         room = omega (arith, clear-past .size);
         holds = self (holds-none (length g) (sizeOf g labels) 0 w′ t clear-at b n);
       }
 
-  pub clear-numbered : (v : List ℕ) (t : Tally) (o : List ℕ) → Numbered g labels w′ v t o → Numbered g labels w v t o
-  clear-numbered v t o n = record { holds = n .holds; past = kept-then clear-past (n .past) }
+  pub clear-numbered : {v : List ℕ} {t : Tally} {o : List ℕ} → Numbered g labels w′ v t o → Numbered g labels w v t o
+  clear-numbered n = record { holds = n .holds; past = kept-then clear-past (n .past) }

@@ -1,12 +1,12 @@
 -- The arcs of a run have what all nodes of the graph have, and they are at most 50: the tiles of a run ascend, so it has no more nodes
 -- than there are labels.
-use mathlib.Core.Path.{_≡_}
+use mathlib.Core.Path.{_≡_, sym, subst}
 use mathlib.Core.Bool.{true, false}
 use mathlib.Core.List.{List, [], _∷_}
 use Prim.Native.Nat.{ℕ, zero-le, _+_, _≤_, _<_}
 use native.Mathlib.Omega.{arith}
 use lib.Dec.{leb}
-use lib.ListN.{length, getD, drop}
+use lib.ListN.{length, getD, take, drop}
 use borrow.Author.Tests.{leb-false}
 use Rattle.laws.specs.Cases.{split}
 use Rattle.laws.specs.Lists.{All, all-weaken, kept}
@@ -18,7 +18,7 @@ use Rattle.graph.specs.WordsAscend.{ascends-tail, ascends-head, ascends-drop}
 use Rattle.export.specs.Starts.{runOf, hasArc}
 use Rattle.macondo_file.specs.File.{arcsOf}
 use Rattle.macondo_blocks.specs.Blocks.{byTile, Labelled, Ready}
-use Rattle.macondo_blocks.specs.EntriesLaws.{all-at, at-all, all-drop, all-kept, all-inserted, none-pass}
+use Rattle.macondo_blocks.specs.EntriesLaws.{all-at, at-all, all-taken, all-drop, all-kept, all-inserted, none-pass}
 
 all-run : (P : ℕ → Type 0) (l : Graph) → All P l → All P (run KBWG l)
 unfolding run
@@ -63,3 +63,9 @@ module _ (g : Graph) (labels : List ℕ) (ready : Ready g labels) where
       let r = run-few (drop p g) (length labels) (ascends-drop KBWG p g (ready .up)) (all-drop (λ v. tile KBWG v < length labels) p g nodes-labelled) in
       let f = ready .few in
       omega arith
+
+  -- where a list holds a run's arcs
+  pub child-inside : (p count : ℕ) (arcs : List ℕ) (i : ℕ) → take count arcs ≡ arcsOf g labels p → i < count → count ≤ length arcs
+      → arc KBWG (getD arcs i 0) < length g
+  child-inside p count arcs i e h fits =
+      all-taken (λ v. arc KBWG v < length g) count arcs i (subst (All (λ v. arc KBWG v < length g)) (sym e) (arcs-inside p)) h fits

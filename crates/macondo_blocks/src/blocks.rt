@@ -6,9 +6,9 @@ ghost use Rattle.macondo_blocks.specs.Blocks.{blocksFrom, Ready, Recorde
 use crate::arcs::arcs_of;
 use export::Place;
 use export::Tally;
-use lists::clear;
 use export::place_of;
 use export::push_block;
+use lists::clear;
 use node::Node24;
 
 // Numbers the block of node `child`, and what can be reached from it, unless it is numbered already. The work list must hold the

@@ -1,23 +1,7 @@
 // The call that loads a file. The Rust's one call is our three, begin, feed and finish. Their answers
 // are held to the stored one, and the file cut into pieces has to come to the same as the whole.
-use crate::cases::ARC_PAST_END;
-use crate::cases::BYTE;
-use crate::cases::Bytes;
-use crate::cases::DOES_NOT_FIT;
-use crate::cases::DONE;
-use crate::cases::LayoutInput;
-use crate::cases::NO_END;
-use crate::cases::NOT_WHOLE_NODES;
-use crate::cases::Verdict;
-use crate::cases::WORD;
-use crate::cases::answer_is;
-use crate::cases::are_same;
-use crate::cases::bytes_at;
-use crate::cases::layout_at;
-use crate::cases::put;
-use crate::cases::put_bytes;
-use crate::cases::put_words;
-use crate::lines::ROOM;
+use crate::nodes::LayoutInput;
+use crate::nodes::layout_at;
 use crate::nodes::put_misfit;
 use crate::nodes::put_repacked;
 use load::BeginAnswer;
@@ -27,11 +11,32 @@ use load::FeedAnswer;
 use load::Finished;
 use load::Loader;
 use node::Layout;
+use stored::ARC_PAST_END;
+use stored::BYTE;
+use stored::Count;
+use stored::DOES_NOT_FIT;
+use stored::DONE;
+use stored::NO_END;
+use stored::NOT_WHOLE_NODES;
+use stored::ROOM;
+use stored::Verdict;
+use stored::WORD;
+use stored::answer_is;
+use stored::are_same;
+use stored::bytes_at;
+use stored::clear;
+use stored::has_at;
+use stored::kind_of;
+use stored::put;
+use stored::put_two;
+use stored::put_words;
+use stored::second_of;
+use stored::verdict_of;
+use stored::wide;
+use stored::words_untouched_from;
 ghost use mathlib.Core.Path.{_≡_};
 ghost use Prim.Native.Nat.{_+_, _/_, _≤_, max};
 ghost use lib.ListN.{length};
-ghost use Rattle.rust_answers.specs.Cases.{Decides};
-ghost use Rattle.rust_answers.specs.Loading.{Untouched, HasAt};
 
 // The refusals of our own, which no list stores.
 const OVER_LIMIT: u64 = 2;
@@ -47,9 +52,6 @@ const MISSING: u64 = 7;
 // The most nodes that are lent.
 const NODES: usize = 8193;
 
-// What a lent node is until a call writes it.
-const UNTOUCHED: u32 = 2779096485;
-
 // LAYOUT N and N bytes, then 0 COUNT and COUNT words, or 1, or 6 NODE TILE ARC, or 8 ARC, or 9.
 pub(crate) fn load(case: &[u64]) -> Verdict {
     let mut bytes = [0u8; ROOM];
@@ -60,7 +62,7 @@ fn load_case(case: &[u64], bytes: &mut [u8]) -> Verdict {
     let LayoutInput::Is(layout) = layout_at(case, 0) else {
         return Verdict::Malformed;
     };
-    let Bytes::Are(count) = bytes_at(case, 1, bytes) else {
+    let Count::Are(count) = bytes_at(case, 1, bytes) else {
         return Verdict::Malformed;
     };
     let stored = 2 + count;
@@ -80,11 +82,7 @@ fn load_nodes(stored: &[u64], layout: Layout, bytes: &[u8], nodes: &mut [u32]) -
     if nodes.len() < lent {
         return Verdict::Malformed;
     }
-    if loads_as_stored(stored, layout, bytes, &mut nodes[..lent]) {
-        Verdict::Same
-    } else {
-        Verdict::Different
-    }
+    verdict_of(loads_as_stored(stored, layout, bytes, &mut nodes[..lent]))
 }
 
 // One node more than begin asks for.
@@ -112,22 +110,6 @@ fn is_nodes(stored: &[u64]) -> bool {
     answer_is(stored, 0, DONE, &[u64::MAX], count, WORD)
 }
 
-fn kind_of(stored: &[u64]) -> u64 {
-    if stored.len() == 0 {
-        u64::MAX
-    } else {
-        stored[0]
-    }
-}
-
-pub(crate) fn second_of(stored: &[u64]) -> usize {
-    if stored.len() < 2 {
-        0
-    } else {
-        stored[1] as usize
-    }
-}
-
 // The whole file at once is held to the stored answer, and the file in pieces to the whole.
 fn loads_as_stored(stored: &[u64], layout: Layout, bytes: &[u8], nodes: &mut [u32]) -> bool {
     let mut first = [0u64; ROOM];
@@ -141,7 +123,7 @@ fn loads_as_stored(stored: &[u64], layout: Layout, bytes: &[u8], nodes: &mut [u3
 
 // Of a file of so many nodes.
 fn is_as_stored(account: &[u64], nodes: &[u32], stored: &[u64], count: usize) -> bool {
-    starts_as_stored(account, stored) && untouched_from(nodes, written(stored, count))
+    starts_as_stored(account, stored) && words_untouched_from(nodes, written(stored, count))
 }
 
 // Whether begin, feed and finish have answered what the Rust's one answer asks of them. A file that
@@ -157,19 +139,6 @@ fn starts_as_stored(account: &[u64], stored: &[u64]) -> bool {
     }
 }
 
-pub(crate) fn has_at(account: &[u64], at: usize, numbers: &[u64]) -> bool
-    ensures { λ r. ⌜ Decides r (HasAt (now (account .entry)) at (now (numbers .entry))) ⌝ }
-{
-    if account.len() < at {
-        return false;
-    }
-    if account.len() - at < numbers.len() {
-        return false;
-    }
-    let end = at + numbers.len();
-    are_same(&account[at..end], numbers)
-}
-
 // How many nodes a load writes by the stored answer, of a file of so many.
 fn written(stored: &[u64], count: usize) -> usize {
     match kind_of(stored) {
@@ -177,29 +146,6 @@ fn written(stored: &[u64], count: usize) -> usize {
         NOT_WHOLE_NODES => 0,
         DOES_NOT_FIT => second_of(stored),
         _ => count,
-    }
-}
-
-fn untouched_from(nodes: &[u32], from: usize) -> bool
-    ensures { λ r. ⌜ Decides r (Untouched (now (nodes .entry)) from) ⌝ }
-{
-    let mut i = from;
-    while i < nodes.len() {
-        if nodes[i] != UNTOUCHED {
-            return false;
-        }
-        i += 1;
-    }
-    true
-}
-
-fn clear(nodes: &mut [u32])
-    ensures { λ _. ⌜ Untouched (now (nodes .exit)) 0 ⌝ }
-{
-    let mut i = 0;
-    while i < nodes.len() {
-        nodes[i] = UNTOUCHED;
-        i += 1;
     }
 }
 
@@ -346,13 +292,6 @@ fn put_finished(finished: Finished, at: usize, account: &mut [u64]) -> usize
     }
 }
 
-pub(crate) fn put_two(kind: u64, number: u64, at: usize, account: &mut [u64]) -> usize
-    ensures { λ r. ⌜ r ≤ length (now (account .exit)) ⌝ }
-{
-    let after_kind = put(kind, at, account);
-    put(number, after_kind, account)
-}
-
 fn put_state(loader: Loader, at: usize, account: &mut [u64]) -> usize
     ensures { λ r. ⌜ r ≤ length (now (account .exit)) ⌝ }
 {
@@ -372,7 +311,8 @@ fn put_state(loader: Loader, at: usize, account: &mut [u64]) -> usize
         after_announced,
         account,
     );
-    put_bytes(&held, after_count, account)
+    let after_two = put_two(wide(held[0]), wide(held[1]), after_count, account);
+    put(wide(held[2]), after_two, account)
 }
 
 fn layout_number(layout: Layout) -> u64 {

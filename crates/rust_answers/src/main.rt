@@ -1,18 +1,19 @@
 // Replays the stored answers of a Rust program, which stand on standard input a case to a line, and
 // says which lines our calls answer otherwise.
-mod cases;
-mod lines;
+mod files;
+mod graphs;
 mod loading;
 mod nodes;
 mod numbers;
-mod tally;
 mod tiles;
 
-use cases::Verdict;
-use lines::Ended;
-use lines::Line;
-use lines::ROOM;
-use tally::Tally;
+use stored::CALLS;
+use stored::Ended;
+use stored::Line;
+use stored::ROOM;
+use stored::Tally;
+use stored::Verdict;
+use stored::print_cases;
 ghost use Prim.Native.Nat.{_≤_};
 ghost use lib.ListN.{length};
 
@@ -28,10 +29,10 @@ fn main() {
     let line = read.line;
     let tally = read.tally;
     // The last line may lack its end.
-    if lines::is_empty(line) {
-        tally.print();
+    if stored::is_empty(line) {
+        print(tally);
     } else {
-        end_line(line, tally, &mut numbers).print();
+        print(end_line(line, tally, &mut numbers));
     }
 }
 
@@ -39,7 +40,7 @@ fn main() {
 // number that no run uses up.
 fn read_all(numbers: &mut [u64]) -> Progress {
     let mut progress = Progress {
-        line: lines::empty(),
+        line: stored::empty(),
         tally: Tally::new(),
         goes_on: true,
     };
@@ -78,9 +79,9 @@ fn add_bytes(progress: Progress, bytes: &[u8], numbers: &mut [u64]) -> Progress 
         let byte = bytes[i];
         if byte == b'\n' {
             tally = end_line(line, tally, numbers);
-            line = lines::empty();
+            line = stored::empty();
         } else {
-            line = lines::add_byte(line, byte, numbers);
+            line = stored::add_byte(line, byte, numbers);
         }
         i += 1;
     }
@@ -92,7 +93,7 @@ fn add_bytes(progress: Progress, bytes: &[u8], numbers: &mut [u64]) -> Progress 
 }
 
 fn end_line(line: Line, tally: Tally, numbers: &mut [u64]) -> Tally {
-    match lines::end(line, numbers) {
+    match stored::end(line, numbers) {
         Ended::Comment => tally.next_line(),
         Ended::Malformed => tally.malformed().next_line(),
         Ended::Case(count) => judged(tally, numbers, count).next_line(),
@@ -114,14 +115,30 @@ fn verdict(call: u64, case: &[u64]) -> Verdict {
         3 => nodes::repack_node(case),
         4 => nodes::repack_in_place(case),
         5 => loading::load(case),
-        6 => numbers::count_words(case),
-        7 => numbers::word_to_number(case),
-        8 => numbers::number_to_word(case),
-        9 => tiles::run_lookup(case),
-        10 => tiles::run_cursor(case),
-        11 => tiles::letter_bits(case),
-        12 => tiles::accepts_alpha(case),
-        13 => tiles::alpha_cross_set(case),
-        _ => Verdict::Malformed,
+        _ => graphs::judge(call, case),
     }
+}
+
+fn print(tally: Tally) {
+    let cases = tally.cases;
+    print_calls(cases);
+    tally.print_findings();
+}
+
+fn print_calls(cases: [u64; CALLS]) {
+    print_cases(b"node fields: ", cases[1]);
+    print_cases(b"pack: ", cases[2]);
+    print_cases(b"repack_node: ", cases[3]);
+    print_cases(b"repack_in_place: ", cases[4]);
+    print_cases(b"loading: ", cases[5]);
+    print_cases(b"counting: ", cases[6]);
+    print_cases(b"word to number: ", cases[7]);
+    print_cases(b"number to word: ", cases[8]);
+    print_cases(b"run lookup: ", cases[9]);
+    print_cases(b"run cursor: ", cases[10]);
+    print_cases(b"letter bits: ", cases[11]);
+    print_cases(b"accepts_alpha: ", cases[12]);
+    print_cases(b"alpha cross set: ", cases[13]);
+    print_cases(b"Macondo: ", cases[14]);
+    print_cases(b"LXD: ", cases[15]);
 }

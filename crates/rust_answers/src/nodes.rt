@@ -1,33 +1,38 @@
 // The calls on single nodes, and on the bytes of nodes.
-use crate::cases::BYTE;
-use crate::cases::Byte;
-use crate::cases::Bytes;
-use crate::cases::DOES_NOT_FIT;
-use crate::cases::DONE;
-use crate::cases::FLAG;
-use crate::cases::Flag;
-use crate::cases::LayoutInput;
-use crate::cases::Verdict;
-use crate::cases::WORD;
-use crate::cases::Word;
-use crate::cases::answer_is;
-use crate::cases::byte_at;
-use crate::cases::bytes_at;
-use crate::cases::compare;
-use crate::cases::flag_at;
-use crate::cases::layout_at;
-use crate::cases::put;
-use crate::cases::put_bytes;
-use crate::cases::rest_is;
-use crate::cases::word_at;
-use crate::lines::ROOM;
 use load::Repacked;
 use node::Layout;
 use node::Node22;
 use node::Node24;
 use node::Packed;
+use stored::BYTE;
+use stored::Byte;
+use stored::Count;
+use stored::DOES_NOT_FIT;
+use stored::DONE;
+use stored::FLAG;
+use stored::Flag;
+use stored::ROOM;
+use stored::Verdict;
+use stored::WORD;
+use stored::Word;
+use stored::answer_is;
+use stored::are_bytes;
+use stored::byte_at;
+use stored::bytes_at;
+use stored::compare;
+use stored::flag_at;
+use stored::has_at;
+use stored::put;
+use stored::rest_is;
+use stored::verdict_of;
+use stored::word_at;
 ghost use Prim.Native.Nat.{_≤_};
 ghost use lib.ListN.{length};
+
+pub(crate) enum LayoutInput {
+    Is(Layout),
+    Malformed,
+}
 
 struct Fields {
     tile: u8,
@@ -116,7 +121,7 @@ fn repack_case(case: &[u64], bytes: &mut [u8]) -> Verdict {
     let LayoutsInput::Are(from, to) = from_and_to(case) else {
         return Verdict::Malformed;
     };
-    let Bytes::Are(count) = bytes_at(case, 2, bytes) else {
+    let Count::Are(count) = bytes_at(case, 2, bytes) else {
         return Verdict::Malformed;
     };
     let stored = 3 + count;
@@ -127,20 +132,34 @@ fn repack_bytes(stored: &[u64], from: Layout, to: Layout, bytes: &mut [u8]) -> V
     if !fits_or_not(stored, 0, &[], &[u64::MAX, BYTE, WORD], bytes.len()) {
         return Verdict::Malformed;
     }
-    let mut answer = [0u64; ROOM];
     let repacked = load::repack_in_place(bytes, from, to);
-    compare_repacked(stored, repacked, bytes, &mut answer)
+    compare_repacked(stored, repacked, bytes)
 }
 
-fn compare_repacked(
-    stored: &[u64],
-    repacked: Repacked,
-    bytes: &[u8],
-    answer: &mut [u64],
-) -> Verdict {
-    let head = put_repacked(repacked, 0, answer);
-    let end = put_bytes(bytes, head, answer);
-    compare(stored, 0, &answer[..end])
+// The answer but for its bytes has 4 numbers at most.
+fn compare_repacked(stored: &[u64], repacked: Repacked, bytes: &[u8]) -> Verdict {
+    let mut head = [0u64; 4];
+    let end = put_repacked(repacked, 0, &mut head);
+    if stored.len() < end {
+        return Verdict::Different;
+    }
+    if !has_at(stored, 0, &head[..end]) {
+        return Verdict::Different;
+    }
+    verdict_of(are_bytes(&stored[end..], bytes))
+}
+
+pub(crate) fn layout_at(case: &[u64], at: usize) -> LayoutInput {
+    match flag_at(case, at) {
+        Flag::Is(is_kbwg) => {
+            if is_kbwg {
+                LayoutInput::Is(Layout::Kbwg)
+            } else {
+                LayoutInput::Is(Layout::Kwg)
+            }
+        }
+        Flag::Malformed => LayoutInput::Malformed,
+    }
 }
 
 // FROM TO, with which a case starts.

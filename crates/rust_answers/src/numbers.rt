@@ -1,40 +1,34 @@
 // The calls that count a graph's words, and that look them up by their numbers.
-use crate::cases::BYTE;
-use crate::cases::Bytes;
-use crate::cases::DONE;
-use crate::cases::NONE;
-use crate::cases::Verdict;
-use crate::cases::WORD;
-use crate::cases::Word;
-use crate::cases::answer_is;
-use crate::cases::bytes_at;
-use crate::cases::compare;
-use crate::cases::put;
-use crate::cases::put_bytes;
-use crate::cases::put_words;
-use crate::cases::word_at;
-use crate::cases::words_at;
-use crate::lines::ROOM;
-use crate::loading::put_two;
-use crate::loading::second_of;
 use count::Counted;
 use lookup::WordByIndex;
 use lookup::WordIndex;
+use stored::BYTE;
+use stored::Count;
+use stored::DONE;
+use stored::NONE;
+use stored::ROOM;
+use stored::UNTOUCHED_BYTE;
+use stored::UNTOUCHED_WORD;
+use stored::Verdict;
+use stored::WORD;
+use stored::Word;
+use stored::answer_is;
+use stored::are_words;
+use stored::bytes_at;
+use stored::bytes_untouched_from;
+use stored::compare;
+use stored::compare_list;
+use stored::copy_words;
+use stored::second_of;
+use stored::verdict_of;
+use stored::word_at;
 
-// The most nodes that a graph may have here, the counts lent for them, and the work.
-const NODES: usize = 256;
+// The counts and the work lent for the nodes of a graph, and the most tiles that are lent.
+const COUNTS: usize = 513;
 
-const COUNTS: usize = 257;
+const WORK: usize = 1024;
 
-const WORK: usize = 512;
-
-// The most tiles that are lent.
-const TILES: usize = 258;
-
-// What a lent count or tile is until a call writes it.
-const UNTOUCHED: u32 = 2779096485;
-
-const UNTOUCHED_TILE: u8 = 165;
+const TILES: usize = 514;
 
 // Which of the two lookups a case is of.
 enum LookUp {
@@ -42,43 +36,26 @@ enum LookUp {
     Number,
 }
 
-// N and N words, then 0 and N counts.
-pub(crate) fn count_words(case: &[u64]) -> Verdict {
-    let mut words = [0u32; NODES];
-    count_case(case, &mut words)
-}
-
-// N, N words and N counts, P, L and L tiles; then 0 INDEX, or 1.
-pub(crate) fn word_to_number(case: &[u64]) -> Verdict {
-    let mut lists = [0u32; WORK];
-    look_up_case(case, LookUp::Word, &mut lists)
-}
-
-// N, N words and N counts, P, INDEX; then 0 L and L tiles, or 1.
-pub(crate) fn number_to_word(case: &[u64]) -> Verdict {
-    let mut lists = [0u32; WORK];
-    look_up_case(case, LookUp::Number, &mut lists)
-}
-
-fn count_case(case: &[u64], words: &mut [u32]) -> Verdict {
-    let Word::Is(nodes) = word_at(case, 0) else {
-        return Verdict::Malformed;
-    };
-    let count = nodes as usize;
-    if !words_at(case, 1, count, words) {
-        return Verdict::Malformed;
-    }
-    let stored = 1 + count;
-    count_graph(&case[stored..], &words[..count])
-}
-
-fn count_graph(stored: &[u64], nodes: &[u32]) -> Verdict {
+// 0 and N counts, for a graph of N nodes.
+pub(crate) fn count_words(stored: &[u64], nodes: &[u32]) -> Verdict {
     if !answer_is(stored, 0, DONE, &[], nodes.len(), WORD) {
         return Verdict::Malformed;
     }
-    let mut counts = [UNTOUCHED; COUNTS];
+    let mut counts = [UNTOUCHED_WORD; COUNTS];
     let mut work = [0u32; WORK];
     count_lent(stored, nodes, &mut counts, &mut work)
+}
+
+// N counts, P, L and L tiles; then 0 INDEX, or 1.
+pub(crate) fn word_to_number(case: &[u64], nodes: &[u32]) -> Verdict {
+    let mut counts = [0u32; COUNTS];
+    look_up_case(case, LookUp::Word, nodes, &mut counts)
+}
+
+// N counts, P, INDEX; then 0 L and L tiles, or 1.
+pub(crate) fn number_to_word(case: &[u64], nodes: &[u32]) -> Verdict {
+    let mut counts = [0u32; COUNTS];
+    look_up_case(case, LookUp::Number, nodes, &mut counts)
 }
 
 // One count more than the call asks for is lent.
@@ -93,7 +70,7 @@ fn count_lent(stored: &[u64], nodes: &[u32], counts: &mut [u32], work: &mut [u32
     let lent = count + 1;
     let twice = 2 * count;
     let counted = count::count_words(nodes, &mut counts[..lent], &mut work[..twice]);
-    if counts[count] != UNTOUCHED {
+    if counts[count] != UNTOUCHED_WORD {
         return Verdict::Different;
     }
     compare_counted(stored, counted, &counts[..count])
@@ -112,29 +89,27 @@ fn compare_counted(stored: &[u64], counted: Counted, counts: &[u32]) -> Verdict 
 }
 
 fn compare_counts(stored: &[u64], counts: &[u32]) -> Verdict {
-    let mut answer = [0u64; WORK];
-    let head = put(DONE, 0, &mut answer);
-    let end = put_words(counts, head, &mut answer);
-    compare(stored, 0, &answer[..end])
+    if stored.len() < 1 {
+        return Verdict::Different;
+    }
+    if stored[0] != DONE {
+        return Verdict::Different;
+    }
+    verdict_of(are_words(&stored[1..], counts))
 }
 
-fn look_up_case(case: &[u64], look_up: LookUp, lists: &mut [u32]) -> Verdict {
-    let Word::Is(nodes) = word_at(case, 0) else {
-        return Verdict::Malformed;
-    };
-    let count = nodes as usize;
-    let both = 2 * count;
-    if !words_at(case, 1, both, lists) {
+fn look_up_case(case: &[u64], look_up: LookUp, nodes: &[u32], counts: &mut [u32]) -> Verdict {
+    let count = nodes.len();
+    if case.len() < count {
         return Verdict::Malformed;
     }
-    let rest = 1 + both;
-    look_up_by(&case[rest..], look_up, &lists[..both])
-}
-
-// The lists are the nodes and, as many, their counts.
-fn look_up_by(case: &[u64], look_up: LookUp, lists: &[u32]) -> Verdict {
-    let count = lists.len() / 2;
-    look_up_in(case, look_up, &lists[..count], &lists[count..])
+    if counts.len() < count {
+        return Verdict::Malformed;
+    }
+    if !copy_words(&case[..count], counts) {
+        return Verdict::Malformed;
+    }
+    look_up_in(&case[count..], look_up, nodes, &counts[..count])
 }
 
 fn look_up_in(case: &[u64], look_up: LookUp, nodes: &[u32], counts: &[u32]) -> Verdict {
@@ -144,7 +119,7 @@ fn look_up_in(case: &[u64], look_up: LookUp, nodes: &[u32], counts: &[u32]) -> V
             look_word_up(case, nodes, counts, &mut word)
         }
         LookUp::Number => {
-            let mut word = [UNTOUCHED_TILE; TILES];
+            let mut word = [UNTOUCHED_BYTE; TILES];
             look_number_up(case, nodes, counts, &mut word)
         }
     }
@@ -154,7 +129,7 @@ fn look_word_up(case: &[u64], nodes: &[u32], counts: &[u32], word: &mut [u8]) ->
     let Word::Is(start) = word_at(case, 0) else {
         return Verdict::Malformed;
     };
-    let Bytes::Are(tiles) = bytes_at(case, 1, word) else {
+    let Count::Are(tiles) = bytes_at(case, 1, word) else {
         return Verdict::Malformed;
     };
     let stored = 2 + tiles;
@@ -225,10 +200,7 @@ fn find_word(
     }
     let lent = needed + 2;
     let found = lookup::get_word_by_index(nodes, counts, start, number, &mut word[..lent]);
-    if word[needed] != UNTOUCHED_TILE {
-        return Verdict::Different;
-    }
-    if word[needed + 1] != UNTOUCHED_TILE {
+    if !bytes_untouched_from(word, needed) {
         return Verdict::Different;
     }
     compare_word(stored, found, word)
@@ -248,8 +220,5 @@ fn compare_tiles(stored: &[u64], count: usize, word: &[u8]) -> Verdict {
     if word.len() < count {
         return Verdict::Different;
     }
-    let mut answer = [0u64; WORK];
-    let head = put_two(DONE, count as u64, 0, &mut answer);
-    let end = put_bytes(&word[..count], head, &mut answer);
-    compare(stored, 0, &answer[..end])
+    compare_list(stored, &word[..count])
 }

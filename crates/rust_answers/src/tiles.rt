@@ -1,32 +1,30 @@
 // The calls on the tiles of a run, and on the letters of a tally.
-use crate::cases::BYTE;
-use crate::cases::Byte;
-use crate::cases::Bytes;
-use crate::cases::DONE;
-use crate::cases::FLAG;
-use crate::cases::NONE;
-use crate::cases::Verdict;
-use crate::cases::WORD;
-use crate::cases::Word;
-use crate::cases::answer_is;
-use crate::cases::byte_at;
-use crate::cases::bytes_at;
-use crate::cases::compare;
-use crate::cases::rest_is;
-use crate::cases::word_at;
-use crate::cases::words_at;
-use crate::loading::has_at;
-use crate::loading::second_of;
 use cursor::Stepped;
 use letters::Alpha;
 use letters::CrossSet;
 use letters::LetterBits;
 use lookup::Sought;
+use stored::BYTE;
+use stored::Byte;
+use stored::Count;
+use stored::DONE;
+use stored::FLAG;
+use stored::NONE;
+use stored::Verdict;
+use stored::WORD;
+use stored::Word;
+use stored::answer_is;
+use stored::byte_at;
+use stored::bytes_at;
+use stored::compare;
+use stored::has_at;
+use stored::rest_is;
+use stored::second_of;
+use stored::verdict_of;
+use stored::word_at;
 
-// The most nodes that a graph may have here, and the sets lent for them.
-const NODES: usize = 256;
-
-const SETS: usize = 257;
+// One set more than a graph has nodes at most.
+const SETS: usize = 513;
 
 // More entries than a tally may have.
 const ENTRIES: usize = 128;
@@ -34,74 +32,14 @@ const ENTRIES: usize = 128;
 // What a lent set is until a call writes it.
 const UNTOUCHED: u64 = 11936128518282651045;
 
-// What is asked of a graph, and of a graph and a tally.
+// What is asked of a graph and a tally.
 enum Asked {
-    Tile,
-    Run,
-    LetterBits,
-    OfTally(OfTally),
-}
-
-enum OfTally {
     Accepts,
     CrossSet,
 }
 
-// N and N words, NODE TILE, then 0 FOUND, or 1.
-pub(crate) fn run_lookup(case: &[u64]) -> Verdict {
-    judge(case, Asked::Tile)
-}
-
-// N and N words, NODE, then L and L nodes.
-pub(crate) fn run_cursor(case: &[u64]) -> Verdict {
-    judge(case, Asked::Run)
-}
-
-// N and N words, then N sets and N sets.
-pub(crate) fn letter_bits(case: &[u64]) -> Verdict {
-    judge(case, Asked::LetterBits)
-}
-
-// N and N words, L and L bytes, then FLAG.
-pub(crate) fn accepts_alpha(case: &[u64]) -> Verdict {
-    judge(case, Asked::OfTally(OfTally::Accepts))
-}
-
-// N and N words, L and L bytes, then SET.
-pub(crate) fn alpha_cross_set(case: &[u64]) -> Verdict {
-    judge(case, Asked::OfTally(OfTally::CrossSet))
-}
-
-fn judge(case: &[u64], asked: Asked) -> Verdict {
-    let mut words = [0u32; NODES];
-    graph_case(case, asked, &mut words)
-}
-
-fn graph_case(case: &[u64], asked: Asked, words: &mut [u32]) -> Verdict {
-    let Word::Is(nodes) = word_at(case, 0) else {
-        return Verdict::Malformed;
-    };
-    let count = nodes as usize;
-    if !words_at(case, 1, count, words) {
-        return Verdict::Malformed;
-    }
-    let rest = 1 + count;
-    ask(&case[rest..], asked, &words[..count])
-}
-
-fn ask(case: &[u64], asked: Asked, nodes: &[u32]) -> Verdict {
-    match asked {
-        Asked::Tile => seek(case, nodes),
-        Asked::Run => run(case, nodes),
-        Asked::LetterBits => bits(case, nodes),
-        Asked::OfTally(of) => {
-            let mut tally = [0u8; ENTRIES];
-            tally_case(case, of, nodes, &mut tally)
-        }
-    }
-}
-
-fn seek(case: &[u64], nodes: &[u32]) -> Verdict {
+// NODE TILE, then 0 FOUND, or 1.
+pub(crate) fn seek(case: &[u64], nodes: &[u32]) -> Verdict {
     let Word::Is(node) = word_at(case, 0) else {
         return Verdict::Malformed;
     };
@@ -122,7 +60,8 @@ fn is_found_or_none(case: &[u64]) -> bool {
     answer_is(case, 2, DONE, &[WORD], 0, BYTE) || answer_is(case, 2, NONE, &[], 0, BYTE)
 }
 
-fn run(case: &[u64], nodes: &[u32]) -> Verdict {
+// NODE, then L and L nodes.
+pub(crate) fn run(case: &[u64], nodes: &[u32]) -> Verdict {
     let Word::Is(node) = word_at(case, 0) else {
         return Verdict::Malformed;
     };
@@ -132,11 +71,7 @@ fn run(case: &[u64], nodes: &[u32]) -> Verdict {
     if case.len() < 2 {
         return Verdict::Malformed;
     }
-    if steps_along(nodes, node, &case[2..]) {
-        Verdict::Same
-    } else {
-        Verdict::Different
-    }
+    verdict_of(steps_along(nodes, node, &case[2..]))
 }
 
 // Whether a cursor at the node steps to each node of the rest of its run, and is then done.
@@ -186,7 +121,8 @@ fn is_done(nodes: &[u32], at: u32) -> bool {
     }
 }
 
-fn bits(stored: &[u64], nodes: &[u32]) -> Verdict {
+// N sets and N sets, for a graph of N nodes.
+pub(crate) fn letter_bits(stored: &[u64], nodes: &[u32]) -> Verdict {
     if stored.len() < nodes.len() {
         return Verdict::Malformed;
     }
@@ -222,25 +158,33 @@ fn compare_bits(stored: &[u64], written: LetterBits, all: &[u64], accepting: &[u
     let LetterBits::Written = written else {
         return Verdict::Different;
     };
-    if has_at(stored, 0, all) && has_at(stored, all.len(), accepting) {
-        Verdict::Same
-    } else {
-        Verdict::Different
-    }
+    verdict_of(has_at(stored, 0, all) && has_at(stored, all.len(), accepting))
 }
 
-fn tally_case(case: &[u64], of: OfTally, nodes: &[u32], tally: &mut [u8]) -> Verdict {
-    let Bytes::Are(count) = bytes_at(case, 0, tally) else {
+// L and L bytes, then FLAG.
+pub(crate) fn accepts_alpha(case: &[u64], nodes: &[u32]) -> Verdict {
+    let mut tally = [0u8; ENTRIES];
+    tally_case(case, Asked::Accepts, nodes, &mut tally)
+}
+
+// L and L bytes, then SET.
+pub(crate) fn alpha_cross_set(case: &[u64], nodes: &[u32]) -> Verdict {
+    let mut tally = [0u8; ENTRIES];
+    tally_case(case, Asked::CrossSet, nodes, &mut tally)
+}
+
+fn tally_case(case: &[u64], asked: Asked, nodes: &[u32], tally: &mut [u8]) -> Verdict {
+    let Count::Are(count) = bytes_at(case, 0, tally) else {
         return Verdict::Malformed;
     };
     let stored = 1 + count;
-    ask_tally(&case[stored..], of, nodes, &tally[..count])
+    ask_tally(&case[stored..], asked, nodes, &tally[..count])
 }
 
-fn ask_tally(stored: &[u64], of: OfTally, nodes: &[u32], tally: &[u8]) -> Verdict {
-    match of {
-        OfTally::Accepts => accepts(stored, nodes, tally),
-        OfTally::CrossSet => cross_set(stored, nodes, tally),
+fn ask_tally(stored: &[u64], asked: Asked, nodes: &[u32], tally: &[u8]) -> Verdict {
+    match asked {
+        Asked::Accepts => accepts(stored, nodes, tally),
+        Asked::CrossSet => cross_set(stored, nodes, tally),
     }
 }
 

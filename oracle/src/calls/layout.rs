@@ -17,6 +17,7 @@ pub const LAYOUTS: [Layout; 2] = [Kwg, Kbwg];
 // From and to, also a layout to itself.
 pub const PAIRS: [(Layout, Layout); 4] = [(Kwg, Kwg), (Kwg, Kbwg), (Kbwg, Kwg), (Kbwg, Kbwg)];
 
+#[derive(Clone, Copy)]
 pub struct Fields {
     pub tile: u8,
     pub accepts: bool,

@@ -4,6 +4,7 @@
 mod requests;
 
 use super::Family;
+use super::graphs::kwg_of;
 use super::outcome::{DONE, NONE};
 use crate::kwg::{Kwg, Node, Node24};
 use crate::numbers::{Inputs, Unreadable};
@@ -22,8 +23,7 @@ pub const FAMILY: Family = Family {
 };
 
 fn answer(call: u64, inputs: &mut Inputs) -> Result<Vec<u64>, Unreadable> {
-    let words = inputs.words()?;
-    let graph = Kwg(words.iter().map(|&word| Node24::new(word)).collect());
+    let graph = kwg_of(&inputs.words()?);
     match call {
         SEEK => seek(&graph, inputs),
         RUN => run(&graph, inputs),

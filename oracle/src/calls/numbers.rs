@@ -4,8 +4,8 @@ mod in_range;
 mod requests;
 
 use super::Family;
+use super::graphs::kwg_of;
 use super::outcome::{DONE, NONE, unknown};
-use crate::kwg::{Kwg, Node, Node24};
 use crate::numbers::{Inputs, Unreadable};
 
 const COUNT: u64 = 6;
@@ -28,13 +28,9 @@ fn answer(call: u64, inputs: &mut Inputs) -> Result<Vec<u64>, Unreadable> {
     }
 }
 
-fn graph_of(words: &[u32]) -> Kwg<Node24> {
-    Kwg(words.iter().map(|&word| Node24::new(word)).collect())
-}
-
 fn count(words: &[u32], inputs: &mut Inputs) -> Result<Vec<u64>, Unreadable> {
     inputs.end()?;
-    let counts = graph_of(words)
+    let counts = kwg_of(words)
         .count_words_alloc()
         .map_err(|refusal| unknown(&refusal))?;
     let mut answer = vec![DONE];
@@ -47,12 +43,10 @@ fn number_of_word(words: &[u32], inputs: &mut Inputs) -> Result<Vec<u64>, Unread
     let start = inputs.index()?;
     let word = inputs.bytes()?;
     inputs.end()?;
-    Ok(
-        match graph_of(words).get_word_index(&counts, start, &word) {
-            u32::MAX => vec![NONE],
-            number => vec![DONE, number.into()],
-        },
-    )
+    Ok(match kwg_of(words).get_word_index(&counts, start, &word) {
+        u32::MAX => vec![NONE],
+        number => vec![DONE, number.into()],
+    })
 }
 
 fn word_of_number(words: &[u32], inputs: &mut Inputs) -> Result<Vec<u64>, Unreadable> {
@@ -62,7 +56,7 @@ fn word_of_number(words: &[u32], inputs: &mut Inputs) -> Result<Vec<u64>, Unread
     inputs.end()?;
     let mut word: Vec<u64> = Vec::new();
     let found =
-        graph_of(words).get_word_by_index(&counts, start, number, |tile| word.push(tile.into()));
+        kwg_of(words).get_word_by_index(&counts, start, number, |tile| word.push(tile.into()));
     match found {
         Ok(()) => {
             let mut answer = vec![DONE, word.len() as u64];

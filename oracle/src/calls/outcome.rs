@@ -10,6 +10,20 @@ pub const NONE: u64 = 1;
 pub const DOES_NOT_FIT: u64 = 6;
 pub const ARC_PAST_END: u64 = 8;
 pub const NO_END: u64 = 9;
+// Of a writer: the labels are none or too many; a name, a title or a date is
+// too long; a title or a date has a code point over FF hexadecimal; a label is
+// not one code point, or for LXD over FF.
+pub const LABEL_COUNT: u64 = 18;
+pub const TOO_LONG: u64 = 19;
+pub const NOT_LATIN_1: u64 = 20;
+pub const NOT_ONE_CODE_POINT: u64 = 23;
+
+// A written file: its length, and its bytes.
+pub fn file(bytes: &[u8]) -> Vec<u64> {
+    let mut answer = vec![DONE, bytes.len() as u64];
+    answer.extend(bytes.iter().map(|&byte| u64::from(byte)));
+    answer
+}
 
 // The numbers of a refusal are read out of the Rust's message, the only place
 // that names them.

@@ -1,5 +1,6 @@
 // The list `letters`.
 
+use super::super::graphs::{ascend, nodes_of, pack_all, run_from};
 use super::super::layout::{Fields, Layout};
 use super::super::samples::{empty_graph, graph, words_of};
 use super::{ACCEPTS_ALPHA, ALPHA_CROSS_SET, LETTER_BITS, RUN, SEEK};
@@ -38,15 +39,12 @@ struct Graph {
 
 impl Graph {
     fn of_words(words: Vec<u32>) -> Self {
-        let nodes = words.iter().map(|&w| Layout::Kbwg.fields(w)).collect();
+        let nodes = nodes_of(&words);
         Self { words, nodes }
     }
 
     fn of_nodes(nodes: Vec<Fields>) -> Self {
-        let words = nodes
-            .iter()
-            .map(|node| Layout::Kbwg.pack(node).expect("the node fits"))
-            .collect();
+        let words = pack_all(&nodes);
         Self { words, nodes }
     }
 
@@ -55,9 +53,7 @@ impl Graph {
         if node.arc_index == 0 {
             return &[];
         }
-        let rest = &self.nodes[node.arc_index as usize..];
-        let end = rest.iter().position(|node| node.is_end);
-        &rest[..=end.expect("the last node ends its run")]
+        run_from(&self.nodes, node.arc_index as usize)
     }
 }
 
@@ -175,15 +171,6 @@ fn random_graph(random: &mut Random, len: usize, kind: &Kind) -> Graph {
         ascend(&mut nodes);
     }
     Graph::of_nodes(nodes)
-}
-
-// As the graphs built by the Rust have them.
-fn ascend(nodes: &mut [Fields]) {
-    for place in 1..nodes.len() {
-        if !nodes[place - 1].is_end {
-            nodes[place].tile = nodes[place - 1].tile + 1;
-        }
-    }
 }
 
 // From every node two tiles that are there, and one that is perhaps not.

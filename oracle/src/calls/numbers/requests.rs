@@ -1,8 +1,9 @@
 // The list `numbers`.
 
+use super::super::graphs::{ascend, kwg_of, nodes_of, pack_all, random_nodes};
 use super::super::layout::{Fields, Layout};
 use super::super::samples::{empty_graph, graph, words_of};
-use super::{COUNT, NUMBER_TO_WORD, WORD_TO_NUMBER, graph_of, in_range};
+use super::{COUNT, NUMBER_TO_WORD, WORD_TO_NUMBER, in_range};
 use crate::random::Random;
 use crate::requests::Requests;
 
@@ -21,8 +22,8 @@ struct Graph {
 
 impl Graph {
     fn new(words: Vec<u32>) -> Self {
-        let nodes = words.iter().map(|&w| Layout::Kbwg.fields(w)).collect();
-        let counts = graph_of(&words)
+        let nodes = nodes_of(&words);
+        let counts = kwg_of(&words)
             .count_words_alloc()
             .expect("the graph has no loop");
         Self {
@@ -33,12 +34,7 @@ impl Graph {
     }
 
     fn of_nodes(nodes: &[Fields]) -> Self {
-        Self::new(
-            nodes
-                .iter()
-                .map(|node| Layout::Kbwg.pack(node).expect("the node fits"))
-                .collect(),
-        )
+        Self::new(pack_all(nodes))
     }
 
     // The node with the most words, but for node 0.
@@ -153,37 +149,6 @@ fn sample_graphs(requests: &mut Requests) {
         ask_count(requests, &graph);
         for start in 0..graph.words.len() {
             ask_from(requests, &graph, &graph.counts, start);
-        }
-    }
-}
-
-// Nodes in no order of their own: a node leads only to nodes that come later in
-// an order drawn for the graph, and node 0 may stand anywhere in it.
-fn random_nodes(random: &mut Random, len: usize, tiles: u64) -> Vec<Fields> {
-    let order: Vec<u64> = (0..len).map(|_| random.next()).collect();
-    (0..len)
-        .map(|place| {
-            let later: Vec<usize> = (1..len).filter(|&to| order[to] > order[place]).collect();
-            let arc_index = match later.len() as u64 {
-                0 => 0,
-                _ if random.within(0, 5) == 0 => 0,
-                many => later[random.within(0, many) as usize],
-            };
-            Fields {
-                tile: random.within(0, tiles) as u8,
-                accepts: random.flag(),
-                is_end: !later.contains(&(place + 1)) || random.within(0, 3) == 0,
-                arc_index: arc_index as i32,
-            }
-        })
-        .collect()
-}
-
-// Each run's tiles made to ascend, as the graphs built by the Rust have them.
-fn ascend(nodes: &mut [Fields]) {
-    for place in 1..nodes.len() {
-        if !nodes[place - 1].is_end {
-            nodes[place].tile = nodes[place - 1].tile + 1;
         }
     }
 }

@@ -11,7 +11,8 @@ use Rattle.export.specs.Blocks.{met}
 use Rattle.export.specs.Places.{orderIn}
 use Rattle.export.specs.PlacesLaws.{place-none, place-some}
 use Rattle.macondo_blocks.specs.Blocks.{Numbered}
-use Rattle.macondo_blocks.proofs.Numbering.{numbered-none, numbered-old, push-fits, push-numbered, size-is, Walk, walk-start, walk-recorded, walk-next, walk-done, child-inside}
+use Rattle.macondo_blocks.specs.ArcsLaws.{child-inside}
+use Rattle.macondo_blocks.proofs.Numbering.{numbered-none, numbered-old, push-fits, push-numbered, size-is, Walk, walk-start, walk-recorded, walk-next, walk-done}
 use Prim.Native.Nat.{ℕ, _<_}
 use borrow.Fn.Kinds.{In}
 use borrow.Fn.PlainCycle.{Measures, is, falls, and}

@@ -14,13 +14,9 @@ clear-requires c κs = search needs
 
 number-run-requires : tie.Need-number-run-requires
 number-run-requires c κs = let s = c .before .before .before .before .before .before .before .before in
-    let a = s .args in
     let w = c .before .before .before .clear in (
-      clear-recorded (a .nodes .now) (a .labels .now) (a .work .now) (w .last .0) (s .pre .1 .1) (w .ensures) (s .pre .0) _ refl refl,
-      (
-        s .pre .1 .0,
-        clear-at (a .nodes .now) (a .labels .now) (a .work .now) (w .last .0) (s .pre .1 .1) (w .ensures) (a .s) (s .pre .1 .0),
-      ),
+      clear-recorded (s .args .work .now) (w .last .0) (s .pre .0) (s .pre .1 .1) (w .ensures) (record { blocks = 0; nodes = 0 }) refl refl,
+      (s .pre .1 .0, clear-at (s .args .work .now) (w .last .0) (s .pre .0) (s .pre .1 .1) (w .ensures) (s .args .s) (s .pre .1 .0)),
     )
 
 same-length : tie.Need-same-length
@@ -28,10 +24,8 @@ same-length c = search needs
 
 returns : tie.Need-returns
 returns c = let s = c .before .before .before .before .before .before .before .before .before .before .before in
-    let a = s .args in
     let w = c .before .before .before .before .before .before .clear in
-    let r = c .before .before .number-run in
-    clear-numbered (a .nodes .now) (a .labels .now) (a .work .now) (w .last .0) (s .pre .1 .1) (w .ensures) (r .last .1 .1 .0) (r .result) _ (r .ensures)
+    clear-numbered (s .args .work .now) (w .last .0) (s .pre .0) (s .pre .1 .1) (w .ensures) (c .before .before .number-run .ensures)
 
 pub number-blocks-spec : {M : Type 1} → statement M
 number-blocks-spec = tie.close (tie.spec clear-requires number-run-requires same-length returns)

@@ -20,17 +20,14 @@ slice-aggregate-loads-as-stored c = sym (length-take-le _ _ (slice-relend-prefix
 loads-as-stored-requires : tie.Need-loads-as-stored-requires
 loads-as-stored-requires c κs = search needs
 
+verdict-of-requires : tie.Need-verdict-of-requires
+verdict-of-requires c κs = search needs
+
 same-length : tie.Need-same-length
 same-length c = search needs
 
 returns-2 : tie.Need-returns-2
 returns-2 c = search needs
-
-same-length-2 : tie.Need-same-length-2
-same-length-2 c = search needs
-
-returns-3 : tie.Need-returns-3
-returns-3 c = search needs
 
 pub load-nodes-spec : {M : Type 1} → statement M
 load-nodes-spec =
@@ -41,7 +38,6 @@ load-nodes-spec =
     slice-relend-prefix-loads-as-stored
     slice-aggregate-loads-as-stored
     loads-as-stored-requires
+    verdict-of-requires
     same-length
-    returns-2
-    same-length-2
-    returns-3)
+    returns-2)

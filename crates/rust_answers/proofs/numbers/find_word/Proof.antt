@@ -32,8 +32,8 @@ slice-aggregate-get-word-by-index c = sym (length-take-le _ _ (slice-relend-pref
 get-word-by-index-requires : tie.Need-get-word-by-index-requires
 get-word-by-index-requires c κs = search needs
 
-slice-read-if4 : tie.Need-slice-read-if4
-slice-read-if4 c = search needs
+bytes-untouched-from-requires : tie.Need-bytes-untouched-from-requires
+bytes-untouched-from-requires c κs = search needs
 
 same-length : tie.Need-same-length
 same-length c = search needs
@@ -41,26 +41,14 @@ same-length c = search needs
 returns-3 : tie.Need-returns-3
 returns-3 c = search needs
 
-add-if5 : tie.Need-add-if5
-add-if5 c = search needs
-
-slice-read-if5 : tie.Need-slice-read-if5
-slice-read-if5 c = search needs
+compare-word-requires : tie.Need-compare-word-requires
+compare-word-requires c κs = search needs
 
 same-length-2 : tie.Need-same-length-2
 same-length-2 c = search needs
 
 returns-4 : tie.Need-returns-4
 returns-4 c = search needs
-
-compare-word-requires : tie.Need-compare-word-requires
-compare-word-requires c κs = search needs
-
-same-length-3 : tie.Need-same-length-3
-same-length-3 c = search needs
-
-returns-5 : tie.Need-returns-5
-returns-5 c = search needs
 
 pub find-word-spec : {M : Type 1} → statement M
 find-word-spec =
@@ -75,13 +63,9 @@ find-word-spec =
     slice-relend-prefix-get-word-by-index
     slice-aggregate-get-word-by-index
     get-word-by-index-requires
-    slice-read-if4
+    bytes-untouched-from-requires
     same-length
     returns-3
-    add-if5
-    slice-read-if5
-    same-length-2
-    returns-4
     compare-word-requires
-    same-length-3
-    returns-5)
+    same-length-2
+    returns-4)

@@ -1,0 +1,64 @@
+-- The header as it is written, field by field, and a field byte by byte.
+use mathlib.Core.Path.{_≡_, refl, sym, ap, _∙_}
+use mathlib.Core.List.{List, [], _∷_, _++_, map, append-assoc}
+use Prim.Native.Nat.{ℕ, zero, suc, _+_, _≤_, _<_}
+use native.Mathlib.Omega.{arith}
+use lib.ListN.{length, getD, replicate, length-append, length-map, List·getD-map, List·getD-eq-default}
+use lib.Seq.{sets, getD-take}
+use Rattle.laws.specs.Sets.{sets-append}
+use Rattle.endian.specs.Bytes.{toBytes}
+use Rattle.export.specs.Latin1.{byteOf, byteWritten}
+use Rattle.lxd_file.specs.File.{field}
+use Rattle.lxd_file.specs.FileLaws.{length-field}
+use Rattle.lxd.specs.Header.{header}
+
+-- ---- a text, byte by byte
+pub text-inside : (text : List ℕ) (i : ℕ) → byteWritten (getD text i 0) ≡ getD (map byteWritten text) i 0
+unfolding byteOf
+text-inside text i = sym (List·getD-map byteWritten text i 0)
+
+pub text-past : (text : List ℕ) (i : ℕ) → length text ≤ i → 0 ≡ getD (map byteWritten text) i 0
+text-past text i h = sym (List·getD-eq-default (map byteWritten text) 0 {n = i} (simp length-map h))
+
+zeros : (n i : ℕ) → getD {A = ℕ} (replicate n 0) i 0 ≡ 0
+zeros zero i = refl
+zeros (suc n) zero = refl
+zeros (suc n) (suc i) = zeros n i
+
+zeros-after : (l : List ℕ) (n i : ℕ) → getD (l ++ replicate n 0) i 0 ≡ getD l i 0
+zeros-after [] n i = zeros n i
+zeros-after (x ∷ l) n zero = refl
+zeros-after (x ∷ l) n (suc i) = zeros-after l n i
+
+pub field-at : (size : ℕ) (text : List ℕ) (i : ℕ) → i < size → getD (field size text) i 0 ≡ getD (map byteWritten text) i 0
+field-at size text i h = getD-take size (map byteWritten text ++ replicate size 0) i 0 h ∙ zeros-after (map byteWritten text) size i
+
+-- ---- field after field
+pub written-after : (l a b : List ℕ) (i j : ℕ) → i + length a ≡ j → sets (sets l i a) j b ≡ sets l i (a ++ b)
+written-after l a b i j e = ap (λ k. sets (sets l i a) k b) (sym e) ∙ sym (sets-append l i a b)
+
+module _ (l : List ℕ) (nodes : ℕ) (title date : List ℕ) (words : ℕ) where
+  abbrev counted : List ℕ
+  counted = sets (sets l 0 (toBytes 64)) 4 (toBytes nodes)
+
+  fields-written : sets (sets (sets counted 8 (field 32 title)) 40 (field 20 date)) 60 (toBytes words) ≡ sets l 0 (header nodes title date words)
+  fields-written =
+      written-after (sets counted 8 (field 32 title)) (field 20 date) (toBytes words) 40 60 (ap (40 +_) (length-field 20 date))
+      ∙ written-after counted (field 32 title) (field 20 date ++ toBytes words) 8 40 (ap (8 +_) (length-field 32 title))
+
+  pub header-written : {a b c d e : List ℕ} → a ≡ sets l 0 (toBytes 64) → b ≡ sets a 4 (toBytes nodes) → c ≡ sets b 8 (field 32 title)
+      → d ≡ sets c 40 (field 20 date) → e ≡ sets d 60 (toBytes words) → e ≡ sets l 0 (header nodes title date words)
+  header-written h i j k m =
+      let texts = k ∙ ap (λ x. sets x 40 (field 20 date)) (j ∙ ap (λ x. sets x 8 (field 32 title)) (i ∙ ap (λ x. sets x 4 (toBytes nodes)) h)) in
+      m ∙ ap (λ x. sets x 60 (toBytes words)) texts ∙ fields-written
+
+pub length-header : (nodes : ℕ) (title date : List ℕ) (words : ℕ) → 0 + length (header nodes title date words) ≡ 64
+length-header nodes title date words =
+    let a = length-field 32 title in
+    let b = length-field 20 date in
+    simp length-append (omega arith)
+
+-- a header with what follows it, for any texts
+pub header-before : (title date rest : List ℕ) (nodes words : ℕ)
+    → (toBytes 64 ++ (toBytes nodes ++ (title ++ (date ++ toBytes words)))) ++ rest ≡ toBytes 64 ++ (toBytes nodes ++ (title ++ (date ++ (toBytes words ++ rest))))
+header-before title date rest nodes words = simp append-assoc

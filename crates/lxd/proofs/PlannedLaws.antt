@@ -1,0 +1,146 @@
+-- The record of runs tells the definition's nodes: each arc's entry is the place of its run, and the order is that in which runs are met.
+use mathlib.Core.Path.{_≡_, refl, sym, ap, ap₂, _∙_, subst}
+use mathlib.Core.Logic.{_≢_}
+use mathlib.Core.Bool.{true, false}
+use mathlib.Core.List.{List, [], _∷_, map, List·Memᴰ, List·Memᴰ·head, List·Memᴰ·tail}
+use Prim.Native.Nat.{ℕ, _+_, _-_, _*_, _^_, _≤_, _<_}
+use native.Mathlib.Omega.{arith}
+use lib.Dec.{eqb}
+use lib.ListN.{length, getD, take, drop, length-map}
+use lib.Seq.{sets}
+use borrow.Author.Tests.{eqb-true, eqb-false, eq-eqb, ne-eqb}
+use Rattle.laws.specs.Cases.{split}
+use Rattle.laws.specs.Lists.{member}
+use Rattle.laws.specs.Members.{member-mem, mem-member}
+use Rattle.endian.specs.Bytes.{toBytes, nodeBytes}
+use Rattle.node.specs.Nodes.{KBWG, arc}
+use Rattle.graph.specs.Runs.{Graph}
+use Rattle.graph.specs.Words.{count}
+use Rattle.export.specs.Starts.{start}
+use Rattle.export.specs.PlacesLaws.{used-le}
+use Rattle.export.specs.declared.places.Tally.{Tally}
+use Rattle.lxd_file.specs.File.{runs, child, lxdNode, lxdNodes}
+use Rattle.lxd_file.specs.Row.{reached}
+use Rattle.lxd_file.specs.RowLaws.{labels-written, Accepted}
+use Rattle.lxd_file.specs.RunsLaws.{place, no-child, child-place, reached-size, runs-inside, arc-in-runs, place-within}
+use Rattle.lxd_file.specs.NodesLaws.{nodes-none, nodes-some, length-none, length-some, words-or-none}
+use Rattle.lxd_file.specs.NumbersLaws.{length-numbers}
+use Rattle.lxd.specs.Placed.{childIn, nodeIn, orderBytes, Ready}
+use Rattle.lxd.specs.Planned.{Found, Planned, nodeCount}
+
+module _ (g : Graph) (labels w : List ℕ) (words : ℕ) (t : Tally) (h : Planned g labels w words t) where
+  -- ---- how many nodes
+  pub total-nodes : t .nodes ≡ 2 + length (reached g)
+  total-nodes = h .held .runs .sum ∙ ap (2 +_) (sym (reached-size g))
+
+  pub count-nodes : nodeCount words (t .nodes) ≡ length (lxdNodes g labels)
+  unfolding nodeCount
+  count-nodes =
+      let e = h .found .counted in
+      words-or-none g
+      (λ z. rw (eq-eqb words 0 (e ∙ z), nodeCount) (sym (length-none g labels z)))
+      (λ n. rw (ne-eqb words 0 (λ z. n (sym e ∙ z)), nodeCount) (total-nodes ∙ sym (length-some g labels n)))
+
+  -- ---- where an arc leads
+  recorded : (p : ℕ) → List·Memᴰ p (runs g) → getD w p 0 ≡ place g p + 1
+  recorded p m = h .held .runs .old p (runs-inside g (h .found .sound) p m) (mem-member p (runs g) m)
+
+  child-by-record : (p : ℕ) → p ≢ 0 → childIn w p ≡ getD w p 0 - 1
+  unfolding childIn
+  child-by-record p n = rw (ne-eqb p 0 n, childIn)
+
+  no-child-by-record : childIn w 0 ≡ 0
+  unfolding childIn
+  no-child-by-record = refl
+
+  child-is : (v : ℕ) → List·Memᴰ v (reached g) → childIn w (arc KBWG v) ≡ child g (arc KBWG v)
+  child-is v m =
+      split (eqb (arc KBWG v) 0)
+      (λ e. let z = eqb-true _ _ e in ap (childIn w) z ∙ no-child-by-record ∙ sym (ap (child g) z ∙ no-child g))
+      (λ e.
+      let n = eqb-false _ _ e in
+      let a = child-by-record (arc KBWG v) n in
+      let b = recorded (arc KBWG v) (arc-in-runs g (h .found .sound) (h .found .ended) v m n) in
+      let c = child-place g (arc KBWG v) n in
+      omega arith)
+
+  -- ---- what writing reads
+  places : (p : ℕ) → p < length g → childIn w p < 2 ^ 22
+  places p l =
+      split (eqb p 0)
+      (λ e. let z = ap (childIn w) (eqb-true p 0 e) ∙ no-child-by-record in omega arith)
+      (λ e.
+      let a = child-by-record p (eqb-false p 0 e) in
+      split (member p (runs g))
+      (λ m.
+      let i = member-mem p (runs g) m in
+      let b = recorded p i in
+      let c = place-within g (h .found .sound) p i .1 in
+      let d = total-nodes in
+      let k = h .held .within in
+      omega arith)
+      (λ m. let b = h .held .runs .new p l m in omega arith))
+
+  pub ready : Ready g labels w
+  ready = record { fit = h .found .sound; labelled = h .found .labelled; room = let r = h .room in omega arith; places = places }
+
+  -- ---- the record's order
+  pub blocks-room : length g + t .blocks ≤ length w
+  blocks-room = let a = used-le (length g) w in let b = h .held .runs .many in let r = h .room in omega arith
+
+  pub order-inside : (p : ℕ) → List·Memᴰ p (take (t .blocks) (drop (length g) w)) → p < length g
+  order-inside p m = runs-inside g (h .found .sound) p (subst (List·Memᴰ p) (h .held .runs .order) m)
+
+  map-same : (f k : ℕ → ℕ) (l : List ℕ) → ((v : ℕ) → List·Memᴰ v l → f v ≡ k v) → map f l ≡ map k l
+  map-same f k [] e = refl
+  map-same f k (v ∷ l) e = ap₂ _∷_ (e v (List·Memᴰ·head refl)) (map-same f k l (λ u m. e u (List·Memᴰ·tail m)))
+
+  node-is : (v : ℕ) → List·Memᴰ v (reached g) → nodeIn labels w v ≡ lxdNode g labels v
+  unfolding nodeIn lxdNode
+  node-is v m = rw (child-is v m)
+
+  pub order-bytes : orderBytes g labels w (take (t .blocks) (drop (length g) w)) ≡ nodeBytes (map (lxdNode g labels) (reached g))
+  order-bytes = ap (orderBytes g labels w) (h .held .runs .order) ∙ ap nodeBytes (map-same (nodeIn labels w) (lxdNode g labels) (reached g) node-is)
+
+  -- ---- the nodes after the header
+  pub two-nodes : 2 ≤ length (lxdNodes g labels)
+  two-nodes =
+      words-or-none g
+      (λ z. let e = length-none g labels z in omega arith)
+      (λ n. let e = length-some g labels n in omega arith)
+
+  module _ (none : words ≡ 0) where
+    no-words : count KBWG g (start g 0) ≡ 0
+    no-words = sym (h .found .counted) ∙ none
+
+    pub three-nodes : length (lxdNodes g labels) ≡ 3
+    three-nodes = length-none g labels no-words
+
+    pub none-written : {a b c : List ℕ} (l : List ℕ) → a ≡ sets l 64 (toBytes 0x8A800000) → b ≡ sets a 68 (toBytes 0x8A800002)
+        → c ≡ sets b 72 (toBytes 0x8A800000) → c ≡ sets l 64 (nodeBytes (lxdNodes g labels))
+    unfolding nodeBytes
+    none-written l i j k =
+        k ∙ ap (λ x. sets x 72 (toBytes 0x8A800000)) (j ∙ ap (λ x. sets x 68 (toBytes 0x8A800002)) i)
+        ∙ ap (λ x. sets l 64 (nodeBytes x)) (sym (nodes-none g labels no-words))
+
+  module _ (some : words ≢ 0) where
+    some-words : count KBWG g (start g 0) ≢ 0
+    some-words z = some (h .found .counted ∙ z)
+
+    abbrev order : List ℕ
+    order = take (t .blocks) (drop (length g) w)
+
+    pub order-room : 72 + length (orderBytes g labels w order) ≡ 64 + 4 * length (lxdNodes g labels)
+    order-room =
+        let a = ap length order-bytes ∙ length-numbers (map (lxdNode g labels) (reached g)) in
+        let b = length-map (reached g) (lxdNode g labels) in
+        let c = length-some g labels some-words in
+        omega arith
+
+    pub some-written : {a b c : List ℕ} (l : List ℕ) → a ≡ sets l 64 (toBytes 0x8A800000) → b ≡ sets a 68 (toBytes 0x8A800002)
+        → c ≡ sets b 72 (orderBytes g labels w order) → c ≡ sets l 64 (nodeBytes (lxdNodes g labels))
+    unfolding nodeBytes
+    some-written l i j k =
+        k ∙ ap (λ x. sets x 72 (orderBytes g labels w order)) (j ∙ ap (λ x. sets x 68 (toBytes 0x8A800002)) i)
+        ∙ ap (sets (sets (sets l 64 (toBytes 0x8A800000)) 68 (toBytes 0x8A800002)) 72) order-bytes
+        ∙ ap (λ x. sets l 64 (nodeBytes x)) (sym (nodes-some g labels some-words))

@@ -1,0 +1,64 @@
+use borrow.Author.Needs.{needs}
+use native.Mathlib.Omega.{arith}
+use mathlib.Core.Path.{_≡_, refl, sym, ap, _∙_}
+use Prim.Native.Nat.{_≤_, _-_}
+use lib.ListN.{length, drop}
+use Rattle.laws.specs.Lists.{someOf}
+use Rattle.export.specs.Latin1.{noByte}
+use Rattle.laws.specs.Members.{some-here, some-next, some-past}
+use Rattle.lxd.proofs.checks.lacks_byte.Statement.{statement}
+use Rattle.lxd.proofs.checks.lacks_byte.Tie as tie
+use Rattle.lxd.proofs.checks.lacks_byte.Reads as reads
+use Rattle.lxd.proofs.checks.lacks_byte.Lts as lts
+use Rattle.export.proofs.no_byte.Reads as no-byte-reads
+
+abbrev Inv-loop : tie.InvT-loop
+Inv-loop text i₀ i = (i ≤ length text) × (someOf noByte (drop i text) ≡ someOf noByte text)
+
+abbrev μ-loop : tie.MeasureT-loop
+μ-loop text i₀ i = length text - i
+
+loop-holds : tie.Need-loop-holds Inv-loop μ-loop
+loop-holds c = (omega arith, refl)
+
+mul-no-byte : tie.Need-mul-no-byte Inv-loop μ-loop
+mul-no-byte c = search needs
+
+shared-slice-read-no-byte : tie.Need-shared-slice-read-no-byte Inv-loop μ-loop
+shared-slice-read-no-byte c = search needs
+
+no-byte-requires : tie.Need-no-byte-requires Inv-loop μ-loop
+no-byte-requires c κs = search needs
+
+returns : tie.Need-returns Inv-loop μ-loop
+returns c = let w = c .before .before .before .before .loop in
+    sym (some-here noByte (c .before .before .before .before .before .before .args .text .now) 0 (w .i) (c .before .before .before .loop-test .taken) (sym (c .before .no-byte .ensures) ∙ c .if1 .taken)) ∙ w .inv .1
+
+add-i : tie.Need-add-i Inv-loop μ-loop
+add-i c = search needs
+
+loop-less : tie.Need-loop-less Inv-loop μ-loop
+loop-less c = search needs
+
+loop-again : tie.Need-loop-again Inv-loop μ-loop
+loop-again c = let w = c .before .before .before .before .loop in
+    (omega arith, sym (some-next noByte (c .before .before .before .before .before .before .args .text .now) 0 (w .i) (c .before .before .before .loop-test .taken) (sym (c .before .no-byte .ensures) ∙ c .if1 .left)) ∙ w .inv .1)
+
+returns-2 : tie.Need-returns-2 Inv-loop μ-loop
+returns-2 c = sym (some-past noByte (c .before .before .before .args .text .now) 0 (c .before .loop .i) (c .loop-test .left)) ∙ c .before .loop .inv .1
+
+pub lacks-byte-spec : {M : Type 1} → statement M
+lacks-byte-spec =
+    tie.close
+    (tie.spec
+    Inv-loop
+    μ-loop
+    loop-holds
+    mul-no-byte
+    shared-slice-read-no-byte
+    no-byte-requires
+    returns
+    add-i
+    loop-less
+    loop-again
+    returns-2)

@@ -1,0 +1,19 @@
+use borrow.Author.Needs.{needs}
+use native.Mathlib.Omega.{arith}
+use borrow.Author.Tests.{eq-eqb, ne-eqb}
+use Rattle.lxd.specs.Planned.{nodeCount}
+use Rattle.lxd.proofs.file.node_count.Statement.{statement}
+use Rattle.lxd.proofs.file.node_count.Tie as tie
+use Rattle.lxd.proofs.file.node_count.Reads as reads
+use Rattle.lxd.proofs.file.node_count.Lts as lts
+
+returns : tie.Need-returns
+unfolding nodeCount
+returns c = rw (eq-eqb _ _ (c .if1 .taken), nodeCount)
+
+returns-2 : tie.Need-returns-2
+unfolding nodeCount
+returns-2 c = rw (ne-eqb _ _ (c .if1 .left), nodeCount)
+
+pub node-count-spec : {M : Type 1} → statement M
+node-count-spec = tie.close (tie.spec returns returns-2)

@@ -1,0 +1,63 @@
+use native.Mathlib.Omega.{arith}
+use mathlib.Core.Path.{_≡_, sym, _∙_}
+use Prim.Native.Nat.{_+_, _*_, _≤_, _<_}
+use lib.ListN.{length}
+use Rattle.lxd.proofs.PlannedLaws.{count-nodes}
+use Rattle.lxd.proofs.CallLaws.{walk-refuses, file-short, file-written}
+use borrow.Author.Needs.{needs}
+use Rattle.lxd.proofs.file.write_file.Statement.{statement}
+use Rattle.lxd.proofs.file.write_file.Tie as tie
+use Rattle.lxd.proofs.file.write_file.Reads as reads
+use Rattle.lxd.proofs.file.write_file.Lts as lts
+use Rattle.lxd.proofs.file.node_count.Reads as node-count-reads
+use Rattle.lxd.proofs.file.write_nodes.Reads as write-nodes-reads
+use Rattle.lxd.proofs.header.write_header.Reads as write-header-reads
+
+node-count-requires : tie.Need-node-count-requires
+node-count-requires c κs = search needs
+
+cast-long : tie.Need-cast-long
+cast-long c = search needs
+
+mul-long : tie.Need-mul-long
+mul-long c = search needs
+
+add-long : tie.Need-add-long
+add-long c = search needs
+
+returns : tie.Need-returns
+returns c = let a = c .before .before .before .before .before .before .before .before .args in
+    let n = c .before .node-count in
+    walk-refuses (a .nodes .now) (a .labels .now) (a .title .now) (a .date .now) (a .file .now) 4
+    (file-short (a .nodes .now) (a .labels .now) (a .title .now) (a .date .now) (a .file .now) (a .work .now) (a .words) (a .t) (c .before .before .before .before .before .before .before .before .pre) (n .result) (n .ensures) (c .if1 .taken))
+
+write-header-requires : tie.Need-write-header-requires
+write-header-requires c κs = search needs
+
+write-nodes-requires : tie.Need-write-nodes-requires
+write-nodes-requires c κs = let s = c .before .before .before .before .before .before .before .before .before .before .before .before .before in
+    let e = count-nodes (s .args .nodes .now) (s .args .labels .now) (s .args .work .now) (s .args .words) (s .args .t) (s .pre) in
+    (s .pre, omega (arith, c .before .before .before .before .before .before .node-count .ensures, c .before .before .before .before .before .if1 .left, c .before .before .before .write-header .kept .0))
+
+same-length : tie.Need-same-length
+same-length c = search needs
+
+returns-2 : tie.Need-returns-2
+returns-2 c = let a = c .before .before .before .before .before .before .before .before .before .before .before .before .before .before .before .before .args in
+    let n = c .before .before .before .before .before .before .before .before .before .node-count in
+    file-written (a .nodes .now) (a .labels .now) (a .title .now) (a .date .now) (a .file .now) (a .work .now) (a .words) (a .t) (c .before .before .before .before .before .before .before .before .before .before .before .before .before .before .before .before .pre) (n .result) (n .ensures) (c .before .before .before .before .before .before .before .before .if1 .left)
+    (c .before .before .before .before .before .before .write-header .ensures) (c .before .before .write-nodes .ensures)
+
+pub write-file-spec : {M : Type 1} → statement M
+write-file-spec =
+    tie.close
+    (tie.spec
+    node-count-requires
+    cast-long
+    mul-long
+    add-long
+    returns
+    write-header-requires
+    write-nodes-requires
+    same-length
+    returns-2)

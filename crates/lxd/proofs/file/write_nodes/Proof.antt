@@ -1,0 +1,76 @@
+use native.Mathlib.Omega.{arith}
+use mathlib.Core.Path.{_≡_}
+use Prim.Native.Nat.{_≤_}
+use lib.ListN.{length}
+use Rattle.lxd_file.specs.File.{lxdNodes}
+use Rattle.lxd.proofs.PlannedLaws.{ready, blocks-room, order-inside, order-room, two-nodes, three-nodes, none-written, some-written}
+use borrow.Author.Needs.{needs}
+use Rattle.lxd.proofs.file.write_nodes.Statement.{statement}
+use Rattle.lxd.proofs.file.write_nodes.Tie as tie
+use Rattle.lxd.proofs.file.write_nodes.Reads as reads
+use Rattle.lxd.proofs.file.write_nodes.Lts as lts
+use Rattle.endian.proofs.write_le_u32.Reads as write-le-u32-reads
+use Rattle.lxd.proofs.nodes.write_runs.Reads as write-runs-reads
+
+two : (s : tie.Start) → 2 ≤ length (lxdNodes (s .args .nodes .now) (s .args .labels .now))
+two s = two-nodes (s .args .nodes .now) (s .args .labels .now) (s .args .work .now) (s .args .words) (s .args .t) (s .pre .0)
+
+write-le-u32-requires : tie.Need-write-le-u32-requires
+write-le-u32-requires c κs = let n = two (c .before .before .before .before .before) in omega (arith, c .before .before .before .before .before .pre .1)
+
+write-le-u32-requires-2 : tie.Need-write-le-u32-requires-2
+write-le-u32-requires-2 c κs = let n = two (c .before .before .before .before .before .before .before .before .before) in omega (arith, c .before .before .before .before .before .before .before .before .before .pre .1, c .before .before .before .write-le-u32 .kept .0)
+
+write-le-u32-requires-3 : tie.Need-write-le-u32-requires-3
+write-le-u32-requires-3 c κs = let s = c .before .before .before .before .before .before .before .before .before .before .before .before .before .before in
+    let n = three-nodes (s .args .nodes .now) (s .args .labels .now) (s .args .work .now) (s .args .words) (s .args .t) (s .pre .0) (c .before .if1 .taken) in
+    omega (arith, s .pre .1, c .before .before .before .before .write-le-u322 .kept .0, c .before .before .before .before .before .before .before .before .write-le-u32 .kept .0)
+
+same-length : tie.Need-same-length
+same-length c = search needs
+
+returns : tie.Need-returns
+returns c = let s = c .before .before .before .before .before .before .before .before .before .before .before .before .before .before .before .before .before in
+    none-written (s .args .nodes .now) (s .args .labels .now) (s .args .work .now) (s .args .words) (s .args .t) (s .pre .0) (c .before .before .before .before .if1 .taken) (s .args .file .now)
+    (c .before .before .before .before .before .before .before .before .before .before .before .write-le-u32 .ensures) (c .before .before .before .before .before .before .before .write-le-u322 .ensures) (c .before .before .write-le-u323 .ensures)
+
+cast-blocks : tie.Need-cast-blocks
+cast-blocks c = search needs
+
+write-runs-requires : tie.Need-write-runs-requires
+write-runs-requires c κs = let s = c .before .before .before .before .before .before .before .before .before .before .before .before .before .before .before in
+    let g = s .args .nodes .now in
+    let labels = s .args .labels .now in
+    let work = s .args .work .now in
+    let room = order-room g labels work (s .args .words) (s .args .t) (s .pre .0) (c .before .before .if1 .left) in (
+      ready g labels work (s .args .words) (s .args .t) (s .pre .0),
+      (
+        blocks-room g labels work (s .args .words) (s .args .t) (s .pre .0),
+        (
+          order-inside g labels work (s .args .words) (s .args .t) (s .pre .0),
+          omega (arith, s .pre .1, c .before .before .before .before .before .write-le-u322 .kept .0, c .before .before .before .before .before .before .before .before .before .write-le-u32 .kept .0),
+        ),
+      ),
+    )
+
+same-length-2 : tie.Need-same-length-2
+same-length-2 c = search needs
+
+returns-2 : tie.Need-returns-2
+returns-2 c = let s = c .before .before .before .before .before .before .before .before .before .before .before .before .before .before .before .before .before .before in
+    some-written (s .args .nodes .now) (s .args .labels .now) (s .args .work .now) (s .args .words) (s .args .t) (s .pre .0) (c .before .before .before .before .before .if1 .left) (s .args .file .now)
+    (c .before .before .before .before .before .before .before .before .before .before .before .before .write-le-u32 .ensures) (c .before .before .before .before .before .before .before .before .write-le-u322 .ensures) (c .before .before .write-runs .ensures)
+
+pub write-nodes-spec : {M : Type 1} → statement M
+write-nodes-spec =
+    tie.close
+    (tie.spec
+    write-le-u32-requires
+    write-le-u32-requires-2
+    write-le-u32-requires-3
+    same-length
+    returns
+    cast-blocks
+    write-runs-requires
+    same-length-2
+    returns-2)

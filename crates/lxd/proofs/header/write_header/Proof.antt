@@ -1,0 +1,44 @@
+use native.Mathlib.Omega.{arith}
+use Rattle.lxd.proofs.HeaderLaws.{header-written}
+use borrow.Author.Needs.{needs}
+use Rattle.lxd.proofs.header.write_header.Statement.{statement}
+use Rattle.lxd.proofs.header.write_header.Tie as tie
+use Rattle.lxd.proofs.header.write_header.Reads as reads
+use Rattle.lxd.proofs.header.write_header.Lts as lts
+use Rattle.endian.proofs.write_le_u32.Reads as write-le-u32-reads
+use Rattle.lxd.proofs.header.write_text.Reads as write-text-reads
+
+write-le-u32-requires : tie.Need-write-le-u32-requires
+write-le-u32-requires c κs = search needs
+
+write-le-u32-requires-2 : tie.Need-write-le-u32-requires-2
+write-le-u32-requires-2 c κs = search needs
+
+write-text-requires : tie.Need-write-text-requires
+write-text-requires c κs = search needs
+
+write-text-requires-2 : tie.Need-write-text-requires-2
+write-text-requires-2 c κs = search needs
+
+write-le-u32-requires-3 : tie.Need-write-le-u32-requires-3
+write-le-u32-requires-3 c κs = search needs
+
+same-length : tie.Need-same-length
+same-length c = search needs
+
+returns : tie.Need-returns
+returns c = let a = c .before .before .before .before .before .before .before .before .before .before .before .before .before .before .before .before .before .before .before .before .before .before .before .args in
+    header-written (a .file .now) (a .nodes) (a .title .now) (a .date .now) (a .words)
+    (c .before .before .before .before .before .before .before .before .before .before .before .before .before .before .before .before .before .before .write-le-u32 .ensures) (c .before .before .before .before .before .before .before .before .before .before .before .before .before .before .write-le-u322 .ensures) (c .before .before .before .before .before .before .before .before .before .before .write-text .ensures) (c .before .before .before .before .before .before .write-text2 .ensures) (c .before .before .write-le-u323 .ensures)
+
+pub write-header-spec : {M : Type 1} → statement M
+write-header-spec =
+    tie.close
+    (tie.spec
+    write-le-u32-requires
+    write-le-u32-requires-2
+    write-text-requires
+    write-text-requires-2
+    write-le-u32-requires-3
+    same-length
+    returns)

@@ -1,0 +1,31 @@
+use native.Mathlib.Omega.{arith}
+use mathlib.Core.Path.{sym, _∙_}
+use Rattle.lxd.proofs.PlacedLaws.{child-none, child-numbered, child-unnumbered}
+use borrow.Author.Needs.{needs}
+use Rattle.lxd.proofs.nodes.child.Statement.{statement}
+use Rattle.lxd.proofs.nodes.child.Tie as tie
+use Rattle.lxd.proofs.nodes.child.Reads as reads
+use Rattle.lxd.proofs.nodes.child.Lts as lts
+use Rattle.export.proofs.place_of.Reads as place-of-reads
+
+returns : tie.Need-returns
+returns c = child-none (c .before .before .args .work .now) (c .before .before .args .arc) (c .if1 .taken)
+
+place-of-requires : tie.Need-place-of-requires
+place-of-requires c κs = search needs
+
+enum-known-place : tie.Need-enum-known-place
+enum-known-place c = search needs
+
+enum-told : tie.Need-enum-told
+enum-told c = search needs
+
+returns-2 : tie.Need-returns-2
+returns-2 c = child-unnumbered (c .before .before .before .before .before .args .work .now) (c .before .before .before .before .before .args .arc) (c .before .before .before .if1 .left) (sym (c .before .before .place-of .ensures) ∙ c .enum-told .given .1)
+
+returns-3 : tie.Need-returns-3
+returns-3 c = child-numbered (c .before .before .before .before .before .before .args .work .now) (c .before .before .before .before .before .before .args .arc) (c .before .before .before .before .if1 .left) (c .before .place .given .0 .0) (sym (c .before .before .before .place-of .ensures) ∙ c .before .place .given .1)
+
+pub child-spec : {M : Type 1} → statement M
+child-spec =
+    tie.close (tie.spec returns place-of-requires enum-known-place enum-told returns-2 returns-3)

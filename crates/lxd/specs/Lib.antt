@@ -1,0 +1,5 @@
+pub mod Header
+pub mod Numbered
+pub mod Placed
+pub mod Planned
+pub mod Said

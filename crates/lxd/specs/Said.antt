@@ -1,0 +1,35 @@
+-- What the call's answers say, and what its checks refuse by.
+use mathlib.Core.List.{List, [], _∷_}
+use mathlib.Core.Option.{Option, none, some}
+use Prim.Native.Nat.{ℕ}
+use Rattle.node.specs.Answers.{Answer, gives, refused}
+use Rattle.export.specs.Written.{Written}
+use Rattle.lxd.specs.declared.Lxd.{Lxd}
+use Rattle.lxd.specs.declared.Lxd.the-variants as L
+use Rattle.lxd.specs.declared.checks.Checked.{Checked}
+use Rattle.lxd.specs.declared.checks.Checked.the-variants.{Passed, Refused}
+
+abbrev pub said : Lxd → Answer
+said (L.Written n) = gives (n ∷ [])
+said L.WrongSize = refused 10 []
+said (L.ArcPastEnd r) = refused 8 (r ∷ [])
+said L.NoEnd = refused 9 []
+said L.TitleNotLatin1 = refused 20 []
+said L.TitleTooLong = refused 19 []
+said L.DateNotLatin1 = refused 20 []
+said L.DateTooLong = refused 19 []
+said L.NoLabel = refused 21 []
+said L.WorkTooShort = refused 11 []
+said L.ChainTooLong = refused 22 []
+said L.LetterNotLatin1 = refused 23 []
+said L.TooManyWords = refused 13 []
+said L.TooManyNodes = refused 25 []
+said L.FileTooShort = refused 11 []
+
+-- the call's result in the terms of its definition
+abbrev pub writtenAs : Lxd → List ℕ → Written
+writtenAs r bytes = record { answer = said r; bytes = bytes }
+
+abbrev pub refusal : Checked → Option Answer
+refusal Passed = none
+refusal (Refused r) = some (said r)

@@ -1,0 +1,82 @@
+// The checks before the walk.
+ghost use mathlib.Core.Path.{_≡_};
+ghost use mathlib.Core.Option.{none};
+ghost use Rattle.laws.specs.Lists.{someOf};
+ghost use Rattle.node.specs.Answers.{firstOf};
+ghost use Rattle.graph.specs.Checks.{graphRow};
+ghost use Rattle.export.specs.Latin1.{noByte};
+ghost use Rattle.lxd_file.specs.Row.{checkRow};
+ghost use Rattle.lxd.specs.Said.{refusal};
+use crate::Lxd;
+use export::lacks_label;
+use export::no_byte;
+use graph::GraphCheck;
+
+pub(crate) enum Checked {
+    Passed,
+    Refused(Lxd),
+}
+
+// Whether some code point of a text has no byte.
+fn lacks_byte(text: &[u32]) -> bool
+    ensures { λ r. ⌜ r ≡ someOf noByte (now (text .entry)) ⌝ }
+{
+    let mut i: usize = 0;
+    while i < text.len() {
+        if no_byte(text[i]) {
+            return true;
+        }
+        i += 1;
+    }
+    false
+}
+
+// The checks of the texts, the labels and a work list of so many numbers, for a graph that must have passed its own.
+fn check_lists(
+    nodes: &[u32],
+    labels: &[u32],
+    title: &[u32],
+    date: &[u32],
+    lent_work: usize,
+) -> Checked
+    requires { ⌜ firstOf (graphRow (now nodes)) ≡ none ⌝ }
+    ensures { λ r. ⌜ refusal r ≡ firstOf (checkRow (now (nodes .entry)) (now (labels .entry)) (now (title .entry)) (now (date .entry)) «lent_work») ⌝ }
+{
+    if lacks_byte(title) {
+        return Checked::Refused(Lxd::TitleNotLatin1);
+    }
+    if 31 < title.len() {
+        return Checked::Refused(Lxd::TitleTooLong);
+    }
+    if lacks_byte(date) {
+        return Checked::Refused(Lxd::DateNotLatin1);
+    }
+    if 19 < date.len() {
+        return Checked::Refused(Lxd::DateTooLong);
+    }
+    if lacks_label(nodes, labels) {
+        return Checked::Refused(Lxd::NoLabel);
+    }
+    if lent_work < 8 * nodes.len() {
+        return Checked::Refused(Lxd::WorkTooShort);
+    }
+    Checked::Passed
+}
+
+// The checks of the graph, the texts, the labels and a work list of so many numbers.
+pub(crate) fn check(
+    nodes: &[u32],
+    labels: &[u32],
+    title: &[u32],
+    date: &[u32],
+    lent_work: usize,
+) -> Checked
+    ensures { λ r. ⌜ refusal r ≡ firstOf (checkRow (now (nodes .entry)) (now (labels .entry)) (now (title .entry)) (now (date .entry)) «lent_work») ⌝ }
+{
+    match graph::check_graph(nodes) {
+        GraphCheck::Sound => check_lists(nodes, labels, title, date, lent_work),
+        GraphCheck::WrongSize => Checked::Refused(Lxd::WrongSize),
+        GraphCheck::ArcPastEnd(arc_index) => Checked::Refused(Lxd::ArcPastEnd(arc_index)),
+        GraphCheck::NoEnd => Checked::Refused(Lxd::NoEnd),
+    }
+}

@@ -1,0 +1,112 @@
+// The nodes of the file, run by run in the order of the record, each straight to its place.
+ghost use mathlib.Core.Path.{_≡_};
+ghost use mathlib.Core.List.{List·Memᴰ};
+ghost use Prim.Native.Nat.{ℕ, _+_, _^_, _≤_, _<_};
+ghost use lib.ListN.{length, take, drop};
+ghost use lib.Seq.{sets};
+ghost use Rattle.node.specs.Nodes.{KBWG, tile, arc, flag, values, packed};
+ghost use Rattle.export.specs.Starts.{runOf};
+ghost use Rattle.lxd_file.specs.File.{LXD};
+ghost use Rattle.lxd.specs.Placed.{childIn, nodeIn, runBytes, orderBytes, Ready};
+use endian::write_le_u32;
+use export::Place;
+use export::byte_of;
+use export::place_of;
+use node::Node24;
+
+fn bit(b: bool) -> u32
+    ensures { λ r. ⌜ (r ≡ flag b) × (r ≤ 1) ⌝ }
+{
+    if b { 1 } else { 0 }
+}
+
+// A node of the file; the child must be a place that 22 bits can tell.
+fn pack(letter: u8, accepts: bool, is_end: bool, child: u32) -> u32
+    requires { ⌜ child < 2 ^ 22 ⌝ }
+    ensures { λ r. ⌜ r ≡ packed LXD (values letter accepts «is_end» child) ⌝ }
+{
+    bit(is_end) * 0x80000000 + bit(accepts) * 0x40000000 + letter as u32 * 0x400000 + child
+}
+
+// Where the run that an arc leads to stands, 0 for arc 0; the record must have an entry for the arc.
+fn child(work: &[u32], arc: u32) -> u32
+    requires { ⌜ arc < length (now work) ⌝ }
+    ensures { λ r. ⌜ r ≡ childIn (now (work .entry)) arc ⌝ }
+{
+    if arc == 0 {
+        return 0;
+    }
+    let place = place_of(work, arc as usize);
+    let Place::Numbered(at) = place else {
+        return 0;
+    };
+    at
+}
+
+// A node of the graph as a node of the file. The tile must have a label, and the arc an entry in the record that 22 bits can tell.
+fn file_node(labels: &[u32], work: &[u32], node: u32) -> u32
+    requires { ⌜ tile KBWG node < length (now labels) ⌝ }
+    requires { ⌜ arc KBWG node < length (now work) ⌝ }
+    requires { ⌜ childIn (now work) (arc KBWG node) < 2 ^ 22 ⌝ }
+    ensures { λ r. ⌜ r ≡ nodeIn (now (labels .entry)) (now (work .entry)) node ⌝ }
+{
+    let t = Node24(node).tile() as usize;
+    let child = child(work, Node24(node).arc_index());
+    pack(
+        byte_of(labels[t]),
+        Node24(node).accepts(),
+        Node24(node).is_end(),
+        child,
+    )
+}
+
+// Writes the run from node `first` to the bytes from `from` on, which must be there, and gives the byte after it.
+fn write_run(
+    nodes: &[u32],
+    labels: &[u32],
+    work: &[u32],
+    first: usize,
+    file: &mut [u8],
+    from: usize,
+) -> usize
+    requires { ⌜ Ready (now nodes) (now labels) (now work) ⌝ }
+    requires { ⌜ first < length (now nodes) ⌝ }
+    requires { ⌜ from + length (runBytes (now nodes) (now labels) (now work) first) ≤ length (now file) ⌝ }
+    ensures { λ r. ⌜ (r ≡ from + length (runBytes (now (nodes .entry)) (now (labels .entry)) (now (work .entry)) first)) × (now (file .exit) ≡ sets (now (file .entry)) from (runBytes (now (nodes .entry)) (now (labels .entry)) (now (work .entry)) first)) ⌝ }
+{
+    let mut p = first;
+    let mut at = from;
+    loop {
+        let node = nodes[p];
+        write_le_u32(file, at, file_node(labels, work, node));
+        at += 4;
+        if Node24(node).is_end() {
+            return at;
+        }
+        p += 1;
+    }
+}
+
+// Writes the first `blocks` runs of the record's order to the bytes from 72 on, which must be there.
+pub(crate) fn write_runs(
+    nodes: &[u32],
+    labels: &[u32],
+    work: &[u32],
+    blocks: usize,
+    file: &mut [u8],
+)
+    requires { ⌜ Ready (now nodes) (now labels) (now work) ⌝ }
+    requires { ⌜ length (now nodes) + blocks ≤ length (now work) ⌝ }
+    requires { ⌜ ((p : ℕ) → List·Memᴰ p (take blocks (drop (length (now nodes)) (now work))) → p < length (now nodes)) ⌝ }
+    requires { ⌜ 72 + length (orderBytes (now nodes) (now labels) (now work) (take blocks (drop (length (now nodes)) (now work)))) ≤ length (now file) ⌝ }
+    ensures { λ _. ⌜ now (file .exit) ≡ sets (now (file .entry)) 72 (orderBytes (now (nodes .entry)) (now (labels .entry)) (now (work .entry)) (take blocks (drop (length (now (nodes .entry))) (now (work .entry))))) ⌝ }
+{
+    let n = nodes.len();
+    let mut at: usize = 72;
+    let mut i: usize = 0;
+    while i < blocks {
+        let p = work[n + i] as usize;
+        at = write_run(nodes, labels, work, p, file, at);
+        i += 1;
+    }
+}

@@ -1,0 +1,79 @@
+use native.Mathlib.Omega.{arith}
+use Rattle.macondo.specs.Said.{formatOf}
+use Rattle.macondo.proofs.SectionLaws.{file-stored}
+use borrow.Author.Needs.{needs}
+use Rattle.macondo.proofs.file.write_file.Statement.{statement}
+use Rattle.macondo.proofs.file.write_file.Tie as tie
+use Rattle.macondo.proofs.file.write_file.Reads as reads
+use Rattle.macondo.proofs.file.write_file.Lts as lts
+use Rattle.macondo.proofs.nodes.write_nodes.Reads as write-nodes-reads
+use Rattle.macondo.proofs.sections.write_code_points.Reads as write-code-points-reads
+use Rattle.macondo.proofs.sections.write_opening.Reads as write-opening-reads
+use Rattle.macondo.proofs.sections.write_sets.Reads as write-sets-reads
+
+sub-count : tie.Need-sub-count
+sub-count c = search needs
+
+cast-set-count : tie.Need-cast-set-count
+cast-set-count c = search needs
+
+add-letters-at : tie.Need-add-letters-at
+add-letters-at c = search needs
+
+add-sets-at : tie.Need-add-sets-at
+add-sets-at c = search needs
+
+mul-sets-at : tie.Need-mul-sets-at
+mul-sets-at c = search needs
+
+add-sets-at-2 : tie.Need-add-sets-at-2
+add-sets-at-2 c = search needs
+
+add-nodes-at : tie.Need-add-nodes-at
+add-nodes-at c = search needs
+
+mul-nodes-at : tie.Need-mul-nodes-at
+mul-nodes-at c = search needs
+
+add-nodes-at-2 : tie.Need-add-nodes-at-2
+add-nodes-at-2 c = search needs
+
+write-opening-requires : tie.Need-write-opening-requires
+write-opening-requires c κs = search needs
+
+write-code-points-requires : tie.Need-write-code-points-requires
+write-code-points-requires c κs = search needs
+
+write-sets-requires : tie.Need-write-sets-requires
+write-sets-requires c κs = search needs
+
+write-nodes-requires : tie.Need-write-nodes-requires
+write-nodes-requires c κs = search needs
+
+same-length : tie.Need-same-length
+same-length c = search needs
+
+returns : tie.Need-returns
+returns c = let s = c .before .before .before .before .before .before .before .before .before .before .before .before .before .before .before .before .before .before .before .before .before .before .before in let a = s .args in
+    file-stored (formatOf (a .format)) (a .name .now) (a .nodes .now) (a .labels .now) (a .letters .now) (a .ranks .now) (a .work .now) (a .counts) (a .file .now) (s .pre .1 .0 .1)
+    (c .before .before .before .before .before .before .before .before .before .before .before .before .before .before .write-opening .ensures) (c .before .before .before .before .before .before .before .before .before .before .write-code-points .ensures) (c .before .before .before .before .before .before .write-sets .ensures) (c .before .before .write-nodes .ensures)
+
+pub write-file-spec : {M : Type 1} → statement M
+write-file-spec =
+    tie.close
+    (tie.spec
+    sub-count
+    cast-set-count
+    add-letters-at
+    add-sets-at
+    mul-sets-at
+    add-sets-at-2
+    add-nodes-at
+    mul-nodes-at
+    add-nodes-at-2
+    write-opening-requires
+    write-code-points-requires
+    write-sets-requires
+    write-nodes-requires
+    same-length
+    returns)

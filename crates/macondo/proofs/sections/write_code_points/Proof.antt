@@ -1,0 +1,107 @@
+use borrow.Author.Needs.{needs}
+use native.Mathlib.Omega.{arith}
+use mathlib.Core.Path.{_≡_, refl, sym, ap, _∙_}
+use mathlib.Core.List.{List, map}
+use Prim.Native.Nat.{ℕ, _≤_, _<_, _-_, _+_}
+use lib.ListN.{length, getD, take}
+use Rattle.macondo.proofs.SectionLaws.{Writing, writing-start, writing-room, writing-next, writing-done, section-stored, made-length, made-at}
+use Rattle.macondo.proofs.sections.write_code_points.Statement.{statement}
+use Rattle.macondo.proofs.sections.write_code_points.Tie as tie
+use Rattle.macondo.proofs.sections.write_code_points.Reads as reads
+use Rattle.macondo.proofs.sections.write_code_points.Lts as lts
+use Rattle.endian.proofs.write_be_u32.Reads as write-be-u32-reads
+
+abbrev Inv-loop : tie.InvT-loop
+Inv-loop labels letters count file₀ at w₀ i₀ file w i = Writing 4 (map (λ t. getD labels t 0) (take count letters)) file₀ (at + 4) i file w
+
+abbrev μ-loop : tie.MeasureT-loop
+μ-loop labels letters count file₀ at w₀ i₀ file w i = count - i
+
+module _ (s : tie.Start Inv-loop μ-loop) where
+  abbrev codeOf : ℕ → ℕ
+  codeOf t = getD (s .args .labels .now) t 0
+
+  -- the numbers to write
+  abbrev codes : List ℕ
+  codes = map codeOf (take (s .args .count) (s .args .letters .now))
+
+  many : length codes ≡ s .args .count
+  many = made-length codeOf (s .args .letters .now) (s .args .count) (s .pre .0 .1)
+
+  code : (i : ℕ) → i < s .args .count → getD codes i 0 ≡ codeOf (getD (s .args .letters .now) i 0)
+  code = made-at codeOf (s .args .letters .now) (s .args .count) (s .pre .0 .1)
+
+cast-write-be-u32 : tie.Need-cast-write-be-u32 Inv-loop μ-loop
+cast-write-be-u32 c = search needs
+
+write-be-u32-requires : tie.Need-write-be-u32-requires Inv-loop μ-loop
+write-be-u32-requires c κs = search needs
+
+add-w : tie.Need-add-w Inv-loop μ-loop
+add-w c = search needs
+
+loop-holds : tie.Need-loop-holds Inv-loop μ-loop
+loop-holds c = writing-start 4 (codes (c .before .before .before .before .before .before .before)) _ _
+
+mul-write-be-u32 : tie.Need-mul-write-be-u32 Inv-loop μ-loop
+mul-write-be-u32 c = search needs
+
+shared-slice-read-write-be-u32 : tie.Need-shared-slice-read-write-be-u32 Inv-loop μ-loop
+shared-slice-read-write-be-u32 c = search needs
+
+cast-write-be-u32-2 : tie.Need-cast-write-be-u32-2 Inv-loop μ-loop
+cast-write-be-u32-2 c = let h = c .before .before .before .before .before .before .before .before .before .before .before .pre .1 (c .before .before .before .loop .i) (c .before .before .loop-test .taken) in omega arith
+
+mul-write-be-u32-2 : tie.Need-mul-write-be-u32-2 Inv-loop μ-loop
+mul-write-be-u32-2 c = let h = c .before .before .before .before .before .before .before .before .before .before .before .pre .1 (c .before .before .before .loop .i) (c .before .before .loop-test .taken) in omega arith
+
+shared-slice-read-write-be-u32-2 : tie.Need-shared-slice-read-write-be-u32-2 Inv-loop μ-loop
+shared-slice-read-write-be-u32-2 c = c .before .before .before .before .before .before .before .before .before .before .before .before .pre .1 (c .before .before .before .before .loop .i) (c .before .before .before .loop-test .taken)
+
+write-be-u32-requires-2 : tie.Need-write-be-u32-requires-2 Inv-loop μ-loop
+write-be-u32-requires-2 c κs = let i = c .before .before .before .before .loop in let m = many (c .before .before .before .before .before .before .before .before .before .before .before .before) in
+    let r = writing-room 4 (codes (c .before .before .before .before .before .before .before .before .before .before .before .before)) _ _ (i .i) (i .inv) (omega (arith, c .before .before .before .loop-test .taken)) (omega (arith, c .before .before .before .before .before .before .before .before .before .before .before .before .pre .0 .2, c .before .before .before .before .before .before .before .write-be-u32 .kept .0)) in omega arith
+
+add-w-2 : tie.Need-add-w-2 Inv-loop μ-loop
+add-w-2 c = let i = c .before .before .before .before .before .before .before .loop in let m = many (c .before .before .before .before .before .before .before .before .before .before .before .before .before .before .before) in
+    let r = writing-room 4 (codes (c .before .before .before .before .before .before .before .before .before .before .before .before .before .before .before)) _ _ (i .i) (i .inv) (omega (arith, c .before .before .before .before .before .before .loop-test .taken)) (omega (arith, c .before .before .before .before .before .before .before .before .before .before .before .before .before .before .before .pre .0 .2, c .before .before .before .before .before .before .before .before .before .before .write-be-u32 .kept .0)) in omega arith
+
+add-i : tie.Need-add-i Inv-loop μ-loop
+add-i c = search needs
+
+loop-less : tie.Need-loop-less Inv-loop μ-loop
+loop-less c = search needs
+
+loop-again : tie.Need-loop-again Inv-loop μ-loop
+loop-again c = let i = c .before .before .before .before .before .before .before .loop in let m = many (c .before .before .before .before .before .before .before .before .before .before .before .before .before .before .before) in
+    writing-next 4 (codes (c .before .before .before .before .before .before .before .before .before .before .before .before .before .before .before)) _ _ (i .i) (i .inv) _ (omega (arith, c .before .before .before .before .before .before .loop-test .taken)) (code (c .before .before .before .before .before .before .before .before .before .before .before .before .before .before .before) (i .i) (c .before .before .before .before .before .before .loop-test .taken)) (c .before .before .write-be-u322 .ensures)
+
+same-length : tie.Need-same-length Inv-loop μ-loop
+same-length c = search needs
+
+returns : tie.Need-returns Inv-loop μ-loop
+returns c = let s = c .before .before .before .before .before .before .before .before .before in let i = c .before .loop in let m = many s in
+    section-stored 4 (codes s) (s .args .file .now) (s .args .at) _ (sym m) (c .before .before .before .before .write-be-u32 .ensures) (writing-done 4 (codes s) _ _ (i .i) (i .inv) (omega (arith, c .loop-test .left)))
+
+pub write-code-points-spec : {M : Type 1} → statement M
+write-code-points-spec =
+    tie.close
+    (tie.spec
+    Inv-loop
+    μ-loop
+    cast-write-be-u32
+    write-be-u32-requires
+    add-w
+    loop-holds
+    mul-write-be-u32
+    shared-slice-read-write-be-u32
+    cast-write-be-u32-2
+    mul-write-be-u32-2
+    shared-slice-read-write-be-u32-2
+    write-be-u32-requires-2
+    add-w-2
+    add-i
+    loop-less
+    loop-again
+    same-length
+    returns)

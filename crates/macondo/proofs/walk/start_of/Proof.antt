@@ -1,0 +1,56 @@
+use native.Mathlib.Omega.{arith}
+use mathlib.Core.Path.{sym, ap, _∙_}
+use Rattle.export.specs.Starts.{start}
+use Rattle.macondo_file.specs.File.{marks}
+use Rattle.macondo.specs.Said.{formatOf}
+use borrow.Author.Needs.{needs}
+use Rattle.macondo.proofs.walk.start_of.Statement.{statement}
+use Rattle.macondo.proofs.walk.start_of.Tie as tie
+use Rattle.macondo.proofs.walk.start_of.Reads as reads
+use Rattle.macondo.proofs.walk.start_of.Lts as lts
+use Rattle.node.proofs.Node24.arc_index.Reads as arc-index-reads
+
+enum-told : tie.Need-enum-told
+enum-told c = search needs
+
+shared-slice-read-t6 : tie.Need-shared-slice-read-t6
+shared-slice-read-t6 c = search needs
+
+arc-index-requires : tie.Need-arc-index-requires
+arc-index-requires c κs = search needs
+
+cast-result : tie.Need-cast-result
+cast-result c = search needs
+
+enum-told-2 : tie.Need-enum-told-2
+enum-told-2 c = search needs
+
+shared-slice-read-t10 : tie.Need-shared-slice-read-t10
+shared-slice-read-t10 c = search needs
+
+arc-index-requires-2 : tie.Need-arc-index-requires-2
+arc-index-requires-2 c κs = search needs
+
+cast-result-2 : tie.Need-cast-result-2
+cast-result-2 c = search needs
+
+returns : tie.Need-returns
+returns c = c .arc-index .ensures ∙ ap (λ f. start (c .before .before .before .before .before .args .nodes .now) (marks (formatOf f) .root)) (sym (c .before .before .enum-told .given .1))
+
+returns-2 : tie.Need-returns-2
+returns-2 c = c .arc-index2 .ensures ∙ ap (λ f. start (c .before .before .before .before .before .args .nodes .now) (marks (formatOf f) .root)) (sym (c .before .before .enum-told2 .given .1))
+
+pub start-of-spec : {M : Type 1} → statement M
+start-of-spec =
+    tie.close
+    (tie.spec
+    enum-told
+    shared-slice-read-t6
+    arc-index-requires
+    cast-result
+    enum-told-2
+    shared-slice-read-t10
+    arc-index-requires-2
+    cast-result-2
+    returns
+    returns-2)

@@ -1,0 +1,4 @@
+pub mod Lines
+pub mod Inputs
+pub mod Answers
+pub mod Lent
