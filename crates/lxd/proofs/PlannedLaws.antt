@@ -1,7 +1,6 @@
 -- The record of runs tells the definition's nodes: each arc's entry is the place of its run, and the order is that in which runs are met.
 use mathlib.Core.Path.{_≡_, refl, sym, ap, ap₂, _∙_, subst}
 use mathlib.Core.Logic.{_≢_}
-use mathlib.Core.Bool.{true, false}
 use mathlib.Core.List.{List, [], _∷_, map, List·Memᴰ, List·Memᴰ·head, List·Memᴰ·tail}
 use Prim.Native.Nat.{ℕ, _+_, _-_, _*_, _^_, _≤_, _<_}
 use native.Mathlib.Omega.{arith}
@@ -21,12 +20,11 @@ use Rattle.export.specs.PlacesLaws.{used-le}
 use Rattle.export.specs.declared.places.Tally.{Tally}
 use Rattle.lxd_file.specs.File.{runs, child, lxdNode, lxdNodes}
 use Rattle.lxd_file.specs.Row.{reached}
-use Rattle.lxd_file.specs.RowLaws.{labels-written, Accepted}
 use Rattle.lxd_file.specs.RunsLaws.{place, no-child, child-place, reached-size, runs-inside, arc-in-runs, place-within}
 use Rattle.lxd_file.specs.NodesLaws.{nodes-none, nodes-some, length-none, length-some, words-or-none}
 use Rattle.lxd_file.specs.NumbersLaws.{length-numbers}
-use Rattle.lxd.specs.Placed.{childIn, nodeIn, orderBytes, Ready}
-use Rattle.lxd.specs.Planned.{Found, Planned, nodeCount}
+use Rattle.lxd_blocks.specs.Placed.{childIn, nodeIn, orderBytes, Ready}
+use Rattle.lxd.specs.Planned.{Planned, nodeCount}
 
 module _ (g : Graph) (labels w : List ℕ) (words : ℕ) (t : Tally) (h : Planned g labels w words t) where
   -- ---- how many nodes

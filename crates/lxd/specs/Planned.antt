@@ -15,8 +15,7 @@ use Rattle.export.specs.Latin1.{noByte}
 use Rattle.export.specs.declared.places.Tally.{Tally}
 use Rattle.lxd_file.specs.File.{runs}
 use Rattle.lxd_file.specs.Row.{reached}
-use Rattle.lxd_file.specs.RowLaws.{Accepted}
-use Rattle.lxd.specs.Numbered.{Held}
+use Rattle.lxd_blocks.specs.Numbered.{Held}
 
 -- what the survey found where it refuses nothing: so many words
 pub record Found (g : Graph) (labels : List ℕ) (words : ℕ) : Type 0 where

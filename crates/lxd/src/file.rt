@@ -12,9 +12,9 @@ ghost use Rattle.lxd.specs.Planned.{Planned, nodeCount};
 ghost use Rattle.lxd.specs.Said.{writtenAs};
 use crate::Lxd;
 use crate::header::write_header;
-use crate::nodes::write_runs;
 use endian::write_le_u32;
 use export::Tally;
+use lxd_blocks::write_runs;
 
 // How many nodes the file has: with no words, 3.
 fn node_count(words: u32, nodes: u32) -> u32

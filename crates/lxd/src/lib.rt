@@ -2,8 +2,6 @@
 mod checks;
 mod file;
 mod header;
-mod nodes;
-mod numbering;
 
 ghost use mathlib.Core.Path.{_≡_};
 ghost use mathlib.Core.Bool.{false};
@@ -25,9 +23,9 @@ use export::survey::Surveyed;
 use export::survey::survey;
 use file::write_file;
 use lists::clear;
+use lxd_blocks::Numbering;
+use lxd_blocks::number_run;
 use node::Node24;
-use numbering::Numbering;
-use numbering::number_run;
 
 pub enum Lxd {
     Written(usize),
@@ -56,7 +54,7 @@ fn start(nodes: &[u32]) -> usize
 }
 
 // Numbers the runs and writes the file, for a survey that refused nothing and found so many words. The work list must be 8 × N long.
-fn write_found(
+fn write_surveyed(
     nodes: &[u32],
     labels: &[u32],
     title: &[u32],
@@ -105,7 +103,7 @@ fn write_checked(
     if found.words == 4294967295 {
         return Lxd::TooManyWords;
     }
-    write_found(nodes, labels, title, date, work, found.words, file)
+    write_surveyed(nodes, labels, title, date, work, found.words, file)
 }
 
 // Writes the LXD file of the words from node 0's arc.

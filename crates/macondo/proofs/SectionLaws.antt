@@ -13,10 +13,10 @@ use Rattle.endian.specs.BigLaws.{big-length, bigs-length}
 use Rattle.endian.specs.Putting.{Putting, put-start, put-room, put-next, put-done}
 use Rattle.graph.specs.TableLaws.{table-length, table-at}
 use Rattle.graph.specs.Counting.{table}
-use Rattle.macondo_file.specs.File.{Format, dawg, gaddag, marks}
+use Rattle.macondo_file.specs.File.{section, Format, dawg, gaddag, marks}
 use Rattle.letter_sets.specs.Sets.{setAt, setsIn}
 use Rattle.macondo.specs.declared.tables.Counts.{Counts}
-use Rattle.macondo.specs.Tables.{section, nodesFrom, fileIn}
+use Rattle.macondo.specs.Tables.{nodesFrom, fileIn}
 
 module _ (width : ℕ) (l before : List ℕ) (at : ℕ) where
   -- over the bytes now, the numbers from place i on go to w

@@ -20,7 +20,7 @@ use Rattle.graph.specs.RunLaws.{in-graph}
 use Rattle.export.specs.ChainLaws.{arc-from, arcs-inside}
 use Rattle.export.specs.PlacesLaws.{used-le}
 use Rattle.macondo_file.specs.Alphabet.{letters}
-use Rattle.macondo_file.specs.File.{Format, marks, arcsOf, setOf, blocks, sets, blockNumber, blockOf, macondoNodes, macondoFile}
+use Rattle.macondo_file.specs.File.{section, Format, marks, arcsOf, setOf, blocks, sets, blockNumber, blockOf, macondoNodes, macondoFile}
 use Rattle.macondo_file.specs.ReadingLaws.{file-length}
 use Rattle.macondo_file.specs.RowLaws.{Checked}
 use Rattle.macondo_file.specs.ArcLaws.{in-arcs}
@@ -29,7 +29,7 @@ use Rattle.macondo_blocks.specs.Blocks.{sizeOf}
 use Rattle.letter_sets.specs.Letters.{Ranks, Small}
 use Rattle.letter_sets.specs.Sets.{setsIn}
 use Rattle.macondo.specs.declared.tables.Counts.{Counts}
-use Rattle.macondo.specs.Tables.{section, arcIn, blockIn, nodesFrom, fileIn, Tables, Filled}
+use Rattle.macondo.specs.Tables.{arcIn, blockIn, nodesFrom, fileIn, Tables, Filled}
 use Rattle.macondo.proofs.Rows.{ready}
 
 -- ---- lists

@@ -4,20 +4,15 @@ use mathlib.Core.Path.{_≡_}
 use mathlib.Core.List.{List, [], _∷_, _++_, map}
 use Prim.Native.Nat.{ℕ, zero, suc, _+_, _-_, _*_, _≤_, _<_}
 use lib.ListN.{length, getD, take}
-use Rattle.endian.specs.Bytes.{bigEndian, bigEndians}
 use Rattle.node.specs.Nodes.{KBWG, tile, arc}
 use Rattle.graph.specs.Runs.{Graph}
 use Rattle.export.specs.Blocks.{met}
 use Rattle.export.specs.Places.{Holds}
-use Rattle.macondo_file.specs.File.{Format, marks, arcsOf, setOf}
+use Rattle.macondo_file.specs.File.{Format, marks, section, arcsOf, setOf}
 use Rattle.macondo_blocks.specs.Blocks.{Ready, childrenOf, sizeOf}
 use Rattle.letter_sets.specs.Letters.{Small}
 use Rattle.letter_sets.specs.Sets.{setsIn, Numbered}
 use Rattle.macondo.specs.declared.tables.Counts.{Counts}
-
--- "letter count (4), code points (4 each)": how many numbers there are, and the numbers
-abbrev pub section : ℕ → List ℕ → List ℕ
-section width numbers = bigEndian 4 (length numbers) ++ bigEndians width numbers
 
 -- "arc: letter × 2^24 + child block"
 unfoldable pub arcIn : List ℕ → List ℕ → ℕ → ℕ

@@ -8,7 +8,7 @@ ghost use Rattle.endian.specs.Bytes.{bigEndian};
 ghost use Rattle.letter_sets.specs.Sets.{setsIn};
 ghost use Rattle.macondo_file.specs.File.{marks};
 ghost use Rattle.macondo.specs.Said.{formatOf};
-ghost use Rattle.macondo.specs.Tables.{section};
+ghost use Rattle.macondo_file.specs.File.{section};
 use crate::MacondoFormat;
 use endian::write_be_halves;
 use endian::write_be_u32;

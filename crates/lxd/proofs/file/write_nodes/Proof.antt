@@ -1,5 +1,6 @@
+-- `write_nodes` meets its contract: two nodes, and after them the last or the runs of the record's order, are the nodes of the
+-- definition.
 use native.Mathlib.Omega.{arith}
-use mathlib.Core.Path.{_≡_}
 use Prim.Native.Nat.{_≤_}
 use lib.ListN.{length}
 use Rattle.lxd_file.specs.File.{lxdNodes}
@@ -10,7 +11,7 @@ use Rattle.lxd.proofs.file.write_nodes.Tie as tie
 use Rattle.lxd.proofs.file.write_nodes.Reads as reads
 use Rattle.lxd.proofs.file.write_nodes.Lts as lts
 use Rattle.endian.proofs.write_le_u32.Reads as write-le-u32-reads
-use Rattle.lxd.proofs.nodes.write_runs.Reads as write-runs-reads
+use Rattle.lxd_blocks.proofs.write_runs.Reads as write-runs-reads
 
 two : (s : tie.Start) → 2 ≤ length (lxdNodes (s .args .nodes .now) (s .args .labels .now))
 two s = two-nodes (s .args .nodes .now) (s .args .labels .now) (s .args .work .now) (s .args .words) (s .args .t) (s .pre .0)

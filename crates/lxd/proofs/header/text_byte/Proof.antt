@@ -1,4 +1,4 @@
-use native.Mathlib.Omega.{arith}
+-- `text_byte` meets its contract, inside the text and past it.
 use mathlib.Core.Path.{_∙_}
 use Rattle.lxd.proofs.HeaderLaws.{text-inside, text-past}
 use borrow.Author.Needs.{needs}

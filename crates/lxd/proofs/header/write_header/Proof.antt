@@ -1,4 +1,4 @@
-use native.Mathlib.Omega.{arith}
+-- `write_header` meets its contract: the fields stand one after the other.
 use Rattle.lxd.proofs.HeaderLaws.{header-written}
 use borrow.Author.Needs.{needs}
 use Rattle.lxd.proofs.header.write_header.Statement.{statement}

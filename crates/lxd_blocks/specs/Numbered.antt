@@ -8,8 +8,8 @@ use Rattle.export.specs.Blocks.{total}
 use Rattle.export.specs.Places.{orderIn, Holds}
 use Rattle.export.specs.declared.places.Tally.{Tally}
 use Rattle.lxd_file.specs.RunsLaws.{size}
-use Rattle.lxd.specs.declared.numbering.Numbering.{Numbering}
-use Rattle.lxd.specs.declared.numbering.Numbering.the-variants.{Done, TooMany}
+use Rattle.lxd_blocks.specs.declared.numbering.Numbering.{Numbering}
+use Rattle.lxd_blocks.specs.declared.numbering.Numbering.the-variants.{Done, TooMany}
 
 module _ (g : Graph) where
   -- the work list holds the runs of the list, from node 2 of the file on, and no node too many for a child's 22 bits

@@ -1,17 +1,18 @@
+-- `write_runs` meets its contract: the bytes of the runs left, written after those before, are the bytes of all.
 use borrow.Author.Needs.{needs}
 use native.Mathlib.Omega.{arith}
 use mathlib.Core.Path.{_≡_, refl, sym, ap, ap₂, _∙_}
 use mathlib.Core.List.{List}
-use Prim.Native.Nat.{ℕ, _+_, _-_, _≤_, _<_}
-use lib.ListN.{length, take, drop, getD}
+use Prim.Native.Nat.{ℕ, _+_, _-_, _≤_}
+use lib.ListN.{length, take, drop}
 use lib.Seq.{sets}
-use Rattle.lxd.specs.Placed.{orderBytes}
-use Rattle.lxd.proofs.PlacedLaws.{order-in, order-done, next-length, next-written}
-use Rattle.lxd.proofs.nodes.write_runs.Statement.{statement}
-use Rattle.lxd.proofs.nodes.write_runs.Tie as tie
-use Rattle.lxd.proofs.nodes.write_runs.Reads as reads
-use Rattle.lxd.proofs.nodes.write_runs.Lts as lts
-use Rattle.lxd.proofs.nodes.write_run.Reads as write-run-reads
+use Rattle.lxd_blocks.specs.Placed.{orderBytes}
+use Rattle.lxd_blocks.proofs.PlacedLaws.{order-in, order-done, next-length, next-written}
+use Rattle.lxd_blocks.proofs.nodes.write_runs.Statement.{statement}
+use Rattle.lxd_blocks.proofs.nodes.write_runs.Tie as tie
+use Rattle.lxd_blocks.proofs.nodes.write_runs.Reads as reads
+use Rattle.lxd_blocks.proofs.nodes.write_runs.Lts as lts
+use Rattle.lxd_blocks.proofs.nodes.write_run.Reads as write-run-reads
 
 abbrev Inv-loop : tie.InvT-loop
 Inv-loop nodes labels work blocks file₀ n at₀ i₀ file at i = let order = take blocks (drop (length nodes) work) in

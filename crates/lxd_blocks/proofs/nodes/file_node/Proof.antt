@@ -1,19 +1,19 @@
-use native.Mathlib.Omega.{arith}
+-- `file_node` meets its contract: each part is the part of the definition.
 use mathlib.Core.Path.{_≡_, sym, ap, _∙_, subst}
 use Prim.Native.Nat.{ℕ, _^_, _<_}
 use lib.ListN.{getD}
 use Rattle.node.specs.Nodes.{KBWG, arc}
 use Rattle.export.specs.Latin1.{byteWritten}
-use Rattle.lxd.specs.Placed.{childIn}
-use Rattle.lxd.proofs.PlacedLaws.{node-packed}
+use Rattle.lxd_blocks.specs.Placed.{childIn}
+use Rattle.lxd_blocks.proofs.PlacedLaws.{node-packed}
 use borrow.Author.Needs.{needs}
-use Rattle.lxd.proofs.nodes.file_node.Statement.{statement}
-use Rattle.lxd.proofs.nodes.file_node.Tie as tie
-use Rattle.lxd.proofs.nodes.file_node.Reads as reads
-use Rattle.lxd.proofs.nodes.file_node.Lts as lts
+use Rattle.lxd_blocks.proofs.nodes.file_node.Statement.{statement}
+use Rattle.lxd_blocks.proofs.nodes.file_node.Tie as tie
+use Rattle.lxd_blocks.proofs.nodes.file_node.Reads as reads
+use Rattle.lxd_blocks.proofs.nodes.file_node.Lts as lts
 use Rattle.export.proofs.byte_of.Reads as byte-of-reads
-use Rattle.lxd.proofs.nodes.child.Reads as child-reads
-use Rattle.lxd.proofs.nodes.pack.Reads as pack-reads
+use Rattle.lxd_blocks.proofs.nodes.child.Reads as child-reads
+use Rattle.lxd_blocks.proofs.nodes.pack.Reads as pack-reads
 use Rattle.node.proofs.Node24.accepts.Reads as accepts-reads
 use Rattle.node.proofs.Node24.arc_index.Reads as arc-index-reads
 use Rattle.node.proofs.Node24.is_end.Reads as is-end-reads

@@ -1,14 +1,15 @@
+-- `run_length` meets its contract: the nodes passed and those of the run left are one more than the run has.
 use borrow.Author.Needs.{needs}
 use native.Mathlib.Omega.{arith}
 use mathlib.Core.Path.{_≡_, sym, _∙_}
 use Prim.Native.Nat.{_+_, _-_, _≤_, _<_}
 use lib.ListN.{length}
 use Rattle.lxd_file.specs.RunsLaws.{size}
-use Rattle.lxd.proofs.RunLaws.{size-last, size-more}
-use Rattle.lxd.proofs.numbering.run_length.Statement.{statement}
-use Rattle.lxd.proofs.numbering.run_length.Tie as tie
-use Rattle.lxd.proofs.numbering.run_length.Reads as reads
-use Rattle.lxd.proofs.numbering.run_length.Lts as lts
+use Rattle.lxd_blocks.proofs.RunLaws.{size-last, size-more}
+use Rattle.lxd_blocks.proofs.numbering.run_length.Statement.{statement}
+use Rattle.lxd_blocks.proofs.numbering.run_length.Tie as tie
+use Rattle.lxd_blocks.proofs.numbering.run_length.Reads as reads
+use Rattle.lxd_blocks.proofs.numbering.run_length.Lts as lts
 use Rattle.node.proofs.Node24.is_end.Reads as is-end-reads
 
 abbrev Inv-loop : tie.InvT-loop

@@ -2,7 +2,7 @@
 -- the one to the other and back.
 use mathlib.Core.Path.{_≡_, refl, sym, ap, _∙_, subst}
 use mathlib.Core.List.{List, [], _∷_, _++_}
-use Prim.Native.Nat.{ℕ, _+_, _-_, _*_, _^_, _≤_, _<_}
+use Prim.Native.Nat.{ℕ, _+_, _-_, _*_, _^_, _<_}
 use native.Mathlib.Omega.{arith}
 use lib.ListN.{length}
 use borrow.Author.Needs.{needs}
@@ -16,21 +16,22 @@ use Rattle.export.specs.Places.{placeAt, orderIn, metBy}
 use Rattle.export.specs.PlacesLaws.{place-none}
 use Rattle.export.specs.ChainLaws.{arcsFrom}
 use Rattle.lxd_file.specs.RunsLaws.{size}
-use Rattle.lxd.specs.Numbered.{Held, NumberedAs}
-use Rattle.lxd.proofs.NumberingLaws.{walk, held-as, blocks-left, no-arc, arc-known, arc-new, chain-used, run-met, run-over, run-pushed, Along, held-here, along-starts, along-goes, along-ends, along-over}
-use Rattle.lxd.proofs.numbering.number_arc.Reads as number-arc
-use Rattle.lxd.proofs.numbering.number_arc.Kinds as number-arc-kinds
-use Rattle.lxd.proofs.numbering.+number_arc+number_run.Lts-number_arc as arc-lts
-use Rattle.lxd.proofs.numbering.number_run.Reads as number-run
-use Rattle.lxd.proofs.numbering.number_run.Kinds as number-run-kinds
-use Rattle.lxd.proofs.numbering.+number_arc+number_run.Lts-number_run as run-lts
+use Rattle.lxd_blocks.specs.Numbered.{Held, NumberedAs}
+use Rattle.lxd_blocks.specs.NumberedLaws.{held-as, held-here}
+use Rattle.lxd_blocks.proofs.NumberingLaws.{walk, blocks-left, no-arc, arc-known, arc-new, chain-used, run-met, run-over, run-pushed, Along, along-starts, along-goes, along-ends, along-over}
+use Rattle.lxd_blocks.proofs.numbering.number_arc.Reads as number-arc
+use Rattle.lxd_blocks.proofs.numbering.number_arc.Kinds as number-arc-kinds
+use Rattle.lxd_blocks.proofs.numbering.+number_arc+number_run.Lts-number_arc as arc-lts
+use Rattle.lxd_blocks.proofs.numbering.number_run.Reads as number-run
+use Rattle.lxd_blocks.proofs.numbering.number_run.Kinds as number-run-kinds
+use Rattle.lxd_blocks.proofs.numbering.+number_arc+number_run.Lts-number_run as run-lts
 use Rattle.export.proofs.place_of.Reads as place-of
 use Rattle.export.proofs.push_block.Reads as push-block
-use Rattle.lxd.proofs.numbering.run_length.Reads as run-length
+use Rattle.lxd_blocks.proofs.numbering.run_length.Reads as run-length
 use Rattle.node.proofs.Node24.arc_index.Reads as arc-index
 use Rattle.node.proofs.Node24.is_end.Reads as is-end
-use Rattle.lxd.proofs.numbering.+number_arc+number_run.{statement}
-use Rattle.lxd.proofs.numbering.+number_arc+number_run.Tie.{close}
+use Rattle.lxd_blocks.proofs.numbering.+number_arc+number_run.{statement}
+use Rattle.lxd_blocks.proofs.numbering.+number_arc+number_run.Tie.{close}
 
 abbrev μ-arc : Measures 2 number-arc-kinds.ps ℕ
 μ-arc κs a = 2 * a .1 .1 .1 .1 .0 + 1

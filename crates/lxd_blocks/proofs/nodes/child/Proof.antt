@@ -1,11 +1,11 @@
-use native.Mathlib.Omega.{arith}
+-- `child` meets its contract: by arc 0, and by what the record says of the arc.
 use mathlib.Core.Path.{sym, _∙_}
-use Rattle.lxd.proofs.PlacedLaws.{child-none, child-numbered, child-unnumbered}
+use Rattle.lxd_blocks.proofs.PlacedLaws.{child-none, child-numbered, child-unnumbered}
 use borrow.Author.Needs.{needs}
-use Rattle.lxd.proofs.nodes.child.Statement.{statement}
-use Rattle.lxd.proofs.nodes.child.Tie as tie
-use Rattle.lxd.proofs.nodes.child.Reads as reads
-use Rattle.lxd.proofs.nodes.child.Lts as lts
+use Rattle.lxd_blocks.proofs.nodes.child.Statement.{statement}
+use Rattle.lxd_blocks.proofs.nodes.child.Tie as tie
+use Rattle.lxd_blocks.proofs.nodes.child.Reads as reads
+use Rattle.lxd_blocks.proofs.nodes.child.Lts as lts
 use Rattle.export.proofs.place_of.Reads as place-of-reads
 
 returns : tie.Need-returns

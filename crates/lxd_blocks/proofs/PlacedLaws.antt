@@ -22,8 +22,8 @@ use Rattle.export.specs.PlacesLaws.{place-none, place-value}
 use Rattle.export.specs.declared.places.Place.the-variants.{Numbered, Unnumbered}
 use Rattle.export.specs.Latin1.{byteWritten}
 use Rattle.lxd_file.specs.File.{LXD}
-use Rattle.lxd.specs.Placed.{childIn, nodeIn, bytesIn, runBytes, orderBytes}
-use Rattle.lxd.proofs.RunLaws.{run-last, run-more, run-first}
+use Rattle.lxd_blocks.specs.Placed.{childIn, nodeIn, bytesIn, runBytes, orderBytes}
+use Rattle.lxd_blocks.proofs.RunLaws.{run-last, run-more, run-first}
 
 -- ---- a child
 module _ (w : List ℕ) (p : ℕ) where

@@ -5,9 +5,8 @@ ghost use Prim.Native.Nat.{ℕ, _+_, _^_, _≤_, _<_};
 ghost use lib.ListN.{length, take, drop};
 ghost use lib.Seq.{sets};
 ghost use Rattle.node.specs.Nodes.{KBWG, tile, arc, flag, values, packed};
-ghost use Rattle.export.specs.Starts.{runOf};
 ghost use Rattle.lxd_file.specs.File.{LXD};
-ghost use Rattle.lxd.specs.Placed.{childIn, nodeIn, runBytes, orderBytes, Ready};
+ghost use Rattle.lxd_blocks.specs.Placed.{childIn, nodeIn, runBytes, orderBytes, Ready};
 use endian::write_le_u32;
 use export::Place;
 use export::byte_of;
@@ -88,13 +87,7 @@ fn write_run(
 }
 
 // Writes the first `blocks` runs of the record's order to the bytes from 72 on, which must be there.
-pub(crate) fn write_runs(
-    nodes: &[u32],
-    labels: &[u32],
-    work: &[u32],
-    blocks: usize,
-    file: &mut [u8],
-)
+pub fn write_runs(nodes: &[u32], labels: &[u32], work: &[u32], blocks: usize, file: &mut [u8])
     requires { ⌜ Ready (now nodes) (now labels) (now work) ⌝ }
     requires { ⌜ length (now nodes) + blocks ≤ length (now work) ⌝ }
     requires { ⌜ ((p : ℕ) → List·Memᴰ p (take blocks (drop (length (now nodes)) (now work))) → p < length (now nodes)) ⌝ }

@@ -1,3 +1,4 @@
+-- `write_run` meets its contract: the bytes of the nodes left, written after those before, are the bytes of the run.
 use borrow.Author.Needs.{needs}
 use native.Mathlib.Omega.{arith}
 use mathlib.Core.Path.{_≡_, refl, sym, ap, _∙_}
@@ -8,14 +9,14 @@ use lib.Seq.{sets}
 use Rattle.node.specs.Nodes.{KBWG, arc}
 use Rattle.graph.specs.Runs.{node}
 use Rattle.endian.specs.Bytes.{toBytes}
-use Rattle.lxd.specs.Placed.{nodeIn, runBytes}
-use Rattle.lxd.proofs.PlacedLaws.{labelled-at, some-bytes, last-bytes, more-length, more-written}
-use Rattle.lxd.proofs.nodes.write_run.Statement.{statement}
-use Rattle.lxd.proofs.nodes.write_run.Tie as tie
-use Rattle.lxd.proofs.nodes.write_run.Reads as reads
-use Rattle.lxd.proofs.nodes.write_run.Lts as lts
+use Rattle.lxd_blocks.specs.Placed.{nodeIn, runBytes}
+use Rattle.lxd_blocks.proofs.PlacedLaws.{labelled-at, some-bytes, last-bytes, more-length, more-written}
+use Rattle.lxd_blocks.proofs.nodes.write_run.Statement.{statement}
+use Rattle.lxd_blocks.proofs.nodes.write_run.Tie as tie
+use Rattle.lxd_blocks.proofs.nodes.write_run.Reads as reads
+use Rattle.lxd_blocks.proofs.nodes.write_run.Lts as lts
 use Rattle.endian.proofs.write_le_u32.Reads as write-le-u32-reads
-use Rattle.lxd.proofs.nodes.file_node.Reads as file-node-reads
+use Rattle.lxd_blocks.proofs.nodes.file_node.Reads as file-node-reads
 use Rattle.node.proofs.Node24.is_end.Reads as is-end-reads
 
 abbrev Inv-loop : tie.InvT-loop

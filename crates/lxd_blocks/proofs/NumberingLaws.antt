@@ -12,39 +12,36 @@ use Rattle.laws.specs.Cases.{split}
 use Rattle.laws.specs.Lists.{kept, member}
 use Rattle.node.specs.Nodes.{KBWG, arc, isEnd}
 use Rattle.graph.specs.Runs.{Graph, node}
-use Rattle.graph.specs.ChecksLaws.{Fit}
 use Rattle.export.specs.Starts.{runOf, hasArc}
 use Rattle.export.specs.Blocks.{each, met, total}
 use Rattle.export.specs.Places.{placeAt, orderIn, metBy}
-use Rattle.export.specs.PlacesLaws.{used-lt, met-none, met-old, met-new, by-none, by-arc, total-snoc, all-total, fresh-of, stale-of, place-some, push-holds, holds-none}
+use Rattle.export.specs.PlacesLaws.{used-lt, met-none, met-old, met-new, by-none, by-arc, total-snoc, all-total, fresh-of, stale-of, place-some, push-holds}
 use Rattle.export.specs.declared.places.Place.the-variants.{Numbered}
 use Rattle.export.specs.declared.places.Tally.{Tally}
 use Rattle.export.specs.ChainLaws.{arcsFrom}
 use Rattle.lxd_file.specs.RunsLaws.{size}
-use Rattle.lxd.specs.Numbered.{Held, Recorded, NumberedAs}
-use Rattle.lxd.specs.declared.numbering.Numbering.{Numbering}
-use Rattle.lxd.proofs.RunLaws.{run-last, run-more, run-first}
+use Rattle.lxd_blocks.specs.Numbered.{Held, NumberedAs}
+use Rattle.lxd_blocks.specs.NumberedLaws.{held-as, held-here}
+use Rattle.lxd_blocks.specs.declared.numbering.Numbering.{Numbering}
+use Rattle.lxd_blocks.proofs.RunLaws.{run-last, run-more, run-first}
 
 module _ (g : Graph) where
   -- the runs met from the arcs of nodes, with so many runs left in the chain
   abbrev pub walk : ℕ → List ℕ → List ℕ → List ℕ
   walk left seen vs = each (met (arcsFrom g) left) seen (map (arc KBWG) (kept hasArc vs))
 
-  pub held-as : {w : List ℕ} {t : Tally} {o o′ : List ℕ} → o ≡ o′ → Held g w t o → Held g w t o′
-  held-as {w} {t} e h = subst (Held g w t) e h
-
   -- ---- an arc, and a run, that meet nothing new
   module _ {w : List ℕ} {t : Tally} {o : List ℕ} (h : Held g w t o) (left p : ℕ) where
     pub no-arc : p ≡ 0 → Held g w t (metBy (arcsFrom g) left o p)
-    no-arc e = held-as (sym (by-none (arcsFrom g) left o p e)) h
+    no-arc e = held-as g (sym (by-none (arcsFrom g) left o p e)) h
 
     pub arc-known : {x : ℕ} → p < length g → p ≢ 0 → placeAt w p ≡ Numbered x → Held g w t (metBy (arcsFrom g) left o p)
     arc-known {x} l e k =
         let old = stale-of (h .runs) p l (place-some w p x k) in
-        held-as (sym (by-arc (arcsFrom g) left o p e ∙ met-old (arcsFrom g) left o p old)) h
+        held-as g (sym (by-arc (arcsFrom g) left o p e ∙ met-old (arcsFrom g) left o p old)) h
 
     pub chain-used : left ≡ 0 → Held g w t (met (arcsFrom g) left o p)
-    chain-used e = held-as (sym (met-none (arcsFrom g) o p left e)) h
+    chain-used e = held-as g (sym (met-none (arcsFrom g) o p left e)) h
 
   pub arc-new : (w o : List ℕ) (left p : ℕ) (r : Numbering) {q : ℕ} → q ≡ p → q ≢ 0 → NumberedAs g w (met (arcsFrom g) left o q) r
       → NumberedAs g w (metBy (arcsFrom g) left o p) r
@@ -91,9 +88,6 @@ module _ (g : Graph) where
     pub held : Held g w t (orderIn (length g) w t)
     pub rest : walk left (orderIn (length g) w t) (runOf g at) ≡ walk left o (runOf g p)
 
-  pub held-here : {w : List ℕ} {t : Tally} {o : List ℕ} → Held g w t o → Held g w t (orderIn (length g) w t)
-  held-here h = held-as (sym (h .runs .order)) h
-
   pub along-starts : {left p : ℕ} {w : List ℕ} {t : Tally} → p < length g → Held g w t (orderIn (length g) w t)
       → Along left (orderIn (length g) w t) p w t p
   along-starts l h = record { inside = l; held = h; rest = refl }
@@ -108,13 +102,13 @@ module _ (g : Graph) where
     pub along-goes : {w′ : List ℕ} {t′ : Tally} → isEnd KBWG (node g at) ≡ false → suc at < length g → Held g w′ t′ next → Along left o p w′ t′ (at + 1)
     along-goes e l h = record {
       inside = omega arith;
-      held = held-here h;
+      held = held-here g h;
       rest = ap (λ x. walk left x (runOf g (at + 1))) (h .runs .order)
           ∙ sym (ap (walk left seen) (run-more g at (k .inside) e) ∙ walk-node left seen (node g at) (runOf g (at + 1))) ∙ k .rest;
     }
 
     pub along-ends : {w′ : List ℕ} {t′ : Tally} → isEnd KBWG (node g at) ≡ true → Held g w′ t′ next → Held g w′ t′ (walk left o (runOf g p))
-    along-ends e h = held-as (sym (ap (walk left seen) (run-last g at (k .inside) e) ∙ walk-node left seen (node g at) []) ∙ k .rest) h
+    along-ends e h = held-as g (sym (ap (walk left seen) (run-last g at (k .inside) e) ∙ walk-node left seen (node g at) []) ∙ k .rest) h
 
     pub along-over : 2 ^ 22 < 2 + total (size g) next → 2 ^ 22 < 2 + total (size g) (walk left o (runOf g p))
     along-over h =
@@ -122,13 +116,3 @@ module _ (g : Graph) where
         let e = ap (walk left seen) (r .1) ∙ walk-node left seen (node g at) (r .0) in
         let m = all-total (size g) (arcsFrom g) left next (map (arc KBWG) (kept hasArc (r .0))) in
         subst (λ x. 2 ^ 22 < 2 + total (size g) x) (sym e ∙ k .rest) (omega arith)
-
-  -- ---- the beginning: no run is held yet
-  pub none-recorded : {w : List ℕ} {t : Tally} → Fit g → length g + length g ≤ length w → ((p : ℕ) → p < length g → getD w p 0 ≡ 0)
-      → t .blocks ≡ 0 → t .nodes ≡ 2 → Recorded g w t
-  none-recorded {w} {t} f r z a b =
-      record {
-        fit = f;
-        room = r;
-        held = held-here (record { runs = holds-none (length g) (size g) 2 w t z a b; within = omega arith });
-      }

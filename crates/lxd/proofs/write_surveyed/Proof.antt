@@ -1,26 +1,27 @@
+-- `write_surveyed` meets its contract: a record with no runs is what the numbering begins with, and what it gives is what the file is
+-- written from.
 use native.Mathlib.Omega.{arith}
 use mathlib.Core.Path.{_≡_, refl, sym, ap, _∙_, subst}
 use mathlib.Core.List.{List, []}
-use Prim.Native.Nat.{ℕ, _+_, _<_}
+use Prim.Native.Nat.{ℕ, _<_}
 use lib.ListN.{length, getD}
 use Rattle.export.specs.Starts.{start}
 use Rattle.export.specs.Blocks.{met}
 use Rattle.export.specs.ChainLaws.{arcsFrom}
 use Rattle.laws.specs.Cleared.{cleared-at}
 use Rattle.lxd_file.specs.RunsLaws.{start-inside}
-use Rattle.lxd.specs.Numbered.{NumberedAs}
-use Rattle.lxd.specs.declared.numbering.Numbering.{Numbering}
-use Rattle.lxd.proofs.NumberingLaws.{none-recorded}
-use Rattle.lxd.proofs.CallLaws.{walk-refuses, nodes-many, plan}
+use Rattle.lxd_blocks.specs.Numbered.{NumberedAs}
+use Rattle.lxd_blocks.specs.NumberedLaws.{none-recorded}
+use Rattle.lxd.proofs.WalkLaws.{few-words, many-nodes, plan, walk-refuses}
 use borrow.Author.Needs.{needs}
-use Rattle.lxd.proofs.write_found.Statement.{statement}
-use Rattle.lxd.proofs.write_found.Tie as tie
-use Rattle.lxd.proofs.write_found.Reads as reads
-use Rattle.lxd.proofs.write_found.Lts as lts
+use Rattle.lxd.proofs.write_surveyed.Statement.{statement}
+use Rattle.lxd.proofs.write_surveyed.Tie as tie
+use Rattle.lxd.proofs.write_surveyed.Reads as reads
+use Rattle.lxd.proofs.write_surveyed.Lts as lts
 use Rattle.lists.proofs.clear.Reads as clear-reads
 use Rattle.lxd.proofs.file.write_file.Reads as write-file-reads
-use Rattle.lxd.proofs.numbering.number_run.Reads as number-run-reads
 use Rattle.lxd.proofs.start.Reads as start-reads
+use Rattle.lxd_blocks.proofs.number_run.Reads as number-run-reads
 
 clear-requires : tie.Need-clear-requires
 clear-requires c κs = search needs
@@ -56,14 +57,15 @@ numbers c = let g = c .before .before .before .before .before .before .before .b
 
 returns : tie.Need-returns
 returns c = let a = c .before .before .before .before .before .before .before .before .before .before .before .before .before .before .before .before .before .args in
+    let h = c .before .before .before .before .before .before .before .before .before .before .before .before .before .before .before .before .before .pre .0 in
+    let many = subst (NumberedAs (a .nodes .now) (c .before .before .before .before .number-run .last .1 .0) (met (arcsFrom (a .nodes .now)) 64 [] (start (a .nodes .now) 0))) (c .enum-told .given .1) (numbers (c .before .before .before .before)) in
     walk-refuses (a .nodes .now) (a .labels .now) (a .title .now) (a .date .now) (a .file .now) 3
-    (nodes-many (a .nodes .now) (a .labels .now) (a .title .now) (a .date .now) (a .file .now) (a .words) (c .before .before .before .before .before .before .before .before .before .before .before .before .before .before .before .before .before .pre .0)
-    (subst (NumberedAs (a .nodes .now) (c .before .before .before .before .number-run .last .1 .0) (met (arcsFrom (a .nodes .now)) 64 [] (start (a .nodes .now) 0))) (c .enum-told .given .1) (numbers (c .before .before .before .before))))
+    (h .ended, (h .narrow, (few-words (a .nodes .now) (a .labels .now) (a .words) h, many-nodes (a .nodes .now) (a .labels .now) many)))
 
 write-file-requires : tie.Need-write-file-requires
 write-file-requires c κs = let a = c .before .before .before .before .before .before .before .before .before .before .before .before .before .before .before .before .before .before .before .before .args in
     let room = c .before .before .before .before .before .before .before .before .before .before .before .before .before .before .before .before .before .before .before .before .pre .1 in
-    plan (a .nodes .now) (a .labels .now) (a .title .now) (a .date .now) (a .file .now) (a .words) (c .before .before .before .before .before .before .before .before .before .before .before .before .before .before .before .before .before .before .before .before .pre .0)
+    plan (a .nodes .now) (a .labels .now) (a .words) (c .before .before .before .before .before .before .before .before .before .before .before .before .before .before .before .before .before .before .before .before .pre .0)
     (omega (arith, c .before .before .before .before .before .before .before .before .before .before .before .before .clear .kept .0, c .before .before .before .before .before .before .before .number-run .kept .1 .0))
     (subst (NumberedAs (a .nodes .now) (c .before .before .before .before .before .before .before .number-run .last .1 .0) (met (arcsFrom (a .nodes .now)) 64 [] (start (a .nodes .now) 0))) (c .before .before .before .numbered .given .1) (numbers (c .before .before .before .before .before .before .before)))
 
@@ -76,8 +78,8 @@ same-length-3 c = search needs
 returns-2 : tie.Need-returns-2
 returns-2 c = search needs
 
-pub write-found-spec : {M : Type 1} → statement M
-write-found-spec =
+pub write-surveyed-spec : {M : Type 1} → statement M
+write-surveyed-spec =
     tie.close
     (tie.spec
     clear-requires

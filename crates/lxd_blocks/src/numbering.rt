@@ -1,7 +1,7 @@
 // The places of runs in the file: a run that is met for the first time takes those after the runs met before it. Places and order stand
 // in the first 2 × N numbers of the work list.
 ghost use mathlib.Core.Path.{_≡_};
-ghost use Prim.Native.Nat.{_≤_, _<_};
+ghost use Prim.Native.Nat.{_<_};
 ghost use lib.ListN.{length, getD};
 ghost use Rattle.node.specs.Nodes.{KBWG, arc};
 ghost use Rattle.graph.specs.ChecksLaws.{Fit};
@@ -9,7 +9,7 @@ ghost use Rattle.export.specs.Blocks.{met};
 ghost use Rattle.export.specs.Places.{orderIn, metBy};
 ghost use Rattle.export.specs.ChainLaws.{arcsFrom};
 ghost use Rattle.lxd_file.specs.RunsLaws.{size};
-ghost use Rattle.lxd.specs.Numbered.{Recorded, NumberedAs};
+ghost use Rattle.lxd_blocks.specs.Numbered.{Recorded, NumberedAs};
 use export::Place;
 use export::Tally;
 use export::place_of;
@@ -19,7 +19,7 @@ use node::Node24;
 // The places that the 22 bits of a child can tell.
 const PLACES: u32 = 4194304;
 
-pub(crate) enum Numbering {
+pub enum Numbering {
     Done(Tally),
     TooMany,
 }
@@ -60,13 +60,7 @@ fn number_arc(nodes: &[u32], work: &mut [u32], node: u32, t: Tally, chain_left: 
 }
 
 // Numbers the run from p, a node that must not be numbered yet, and what its arcs lead to; stops when the file has over 2^22 nodes.
-pub(crate) fn number_run(
-    nodes: &[u32],
-    work: &mut [u32],
-    p: usize,
-    t: Tally,
-    chain_left: u32,
-) -> Numbering
+pub fn number_run(nodes: &[u32], work: &mut [u32], p: usize, t: Tally, chain_left: u32) -> Numbering
     requires { ⌜ Recorded (now nodes) (now work) t ⌝ }
     requires { ⌜ p < length (now nodes) ⌝ }
     requires { ⌜ getD (now work) p 0 ≡ 0 ⌝ }

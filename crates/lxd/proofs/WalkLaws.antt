@@ -1,0 +1,129 @@
+-- The checks of the walk by what the survey, the numbering and the file's length tell, and what is left by the first of them that
+-- refuses, or by none.
+use mathlib.Core.Path.{_≡_, sym, ap, ap₂, _∙_}
+use mathlib.Core.Bool.{true, false}
+use mathlib.Core.Logic.{_≢_}
+use mathlib.Core.List.{List, [], _∷_, _++_}
+use mathlib.Core.Option.{none}
+use Prim.Native.Nat.{ℕ, _+_, _*_, _^_, _≤_, _<_}
+use native.Mathlib.Omega.{arith}
+use lib.Dec.{eqb, ltb, leb}
+use lib.ListN.{length, drop}
+use lib.Seq.{sets}
+use borrow.Author.Tests.{lt-ltb, le-ltb, lt-leb}
+use Rattle.laws.specs.Lists.{someOf}
+use Rattle.laws.specs.Sets.{sets-front}
+use Rattle.endian.specs.Bytes.{nodeBytes}
+use Rattle.node.specs.Answers.{gives, Row, firstOf}
+use Rattle.node.specs.Nodes.{KBWG}
+use Rattle.graph.specs.Runs.{Graph}
+use Rattle.graph.specs.Words.{count}
+use Rattle.graph.specs.ChecksLaws.{Fit}
+use Rattle.export.specs.Starts.{start, unlabelled}
+use Rattle.export.specs.Blocks.{met, total}
+use Rattle.export.specs.ChainLaws.{arcsFrom}
+use Rattle.export.specs.Written.{written}
+use Rattle.export.specs.Survey.{most, wide, Surveys}
+use Rattle.export.specs.ReachLaws.{survey-wide, survey-many, survey-count}
+use Rattle.export.specs.declared.survey.Findings.{Findings}
+use Rattle.export.specs.declared.places.Tally.{Tally}
+use Rattle.lxd_file.specs.File.{field, runs, lxdNodes, lxdFile}
+use Rattle.lxd_file.specs.FileLaws.{length-file}
+use Rattle.lxd_file.specs.Row.{reached, walkRow}
+use Rattle.lxd_file.specs.RunsLaws.{size, reached-size, start-inside}
+use Rattle.lxd_blocks.specs.Numbered.{Held}
+use Rattle.lxd.specs.Header.{header}
+use Rattle.lxd.specs.Planned.{Found, Planned, nodeCount}
+use Rattle.lxd.proofs.HeaderLaws.{written-after, length-header, header-before}
+use Rattle.lxd.proofs.PlannedLaws.{total-nodes, count-nodes}
+use Rattle.lxd.proofs.RowLaws.{StopsAt, answerAt, stops-at, all-pass}
+
+module _ (g : Graph) (labels : List ℕ) where
+  -- ---- by the survey: 23 and 13
+  module _ (sound : Fit g) (f : Findings) (surveys : Surveys g labels 64 (start g 0) f) where
+    pub wide-label : someOf (wide labels) (reached g) ≡ f .wide
+    unfolding runs
+    wide-label = survey-wide g labels 64 (start g 0) f surveys
+
+    pub many-words : leb most (count KBWG g (start g 0)) ≡ eqb (f .words) most
+    many-words = survey-many g labels 64 (start g 0) f surveys (sound .steps) (start-inside g sound)
+
+    pub found : unlabelled g labels ≡ false → f .wide ≡ false → f .words ≢ most → Found g labels (f .words)
+    found labelled narrow n =
+        let e = surveys .words in
+        record {
+          sound = sound;
+          labelled = labelled;
+          ended = surveys .deep;
+          narrow = wide-label ∙ narrow;
+          counted = survey-count g labels 64 (start g 0) f surveys (sound .steps) (start-inside g sound) n;
+          few = omega arith;
+        }
+
+  -- ---- by the numbering: 25
+  module _ (words : ℕ) (h : Found g labels words) where
+    pub few-words : leb most (count KBWG g (start g 0)) ≡ false
+    few-words = let l : count KBWG g (start g 0) < most = let e = h .counted in let f = h .few in omega arith in lt-leb _ _ l
+
+    pub plan : {w : List ℕ} {t : Tally} → length g + length g ≤ length w → Held g w t (met (arcsFrom g) 64 [] (start g 0)) → Planned g labels w words t
+    unfolding runs
+    plan r k = record { found = h; room = r; held = k }
+
+  pub many-nodes : 2 ^ 22 < 2 + total (size g) (met (arcsFrom g) 64 [] (start g 0)) → ltb (2 ^ 22) (2 + length (reached g)) ≡ true
+  unfolding runs
+  many-nodes m = let l : 2 ^ 22 < 2 + length (reached g) = let e = reached-size g in omega arith in lt-ltb _ _ l
+
+module _ (g : Graph) (labels title date lent : List ℕ) where
+  abbrev file : List ℕ
+  file = lxdFile g labels title date
+
+  abbrev pub walkOf : Row
+  walkOf = walkRow g labels title date (length lent)
+
+  -- "A refusal writes no file byte."
+  pub walk-refuses : (k : ℕ) → StopsAt k walkOf → record { answer = answerAt k walkOf; bytes = lent } ≡ written (firstOf walkOf) file lent
+  walk-refuses k s = ap (λ o. written o file lent) (sym (stops-at k walkOf s))
+
+  -- ---- by the file's length: 11, or the file
+  module _ (w : List ℕ) (words : ℕ) (t : Tally) (p : Planned g labels w words t) (n : ℕ) (told : n ≡ nodeCount words (t .nodes)) where
+    few-nodes : ltb (2 ^ 22) (2 + length (reached g)) ≡ false
+    few-nodes =
+        let l : 2 + length (reached g) ≤ 2 ^ 22 = let a = total-nodes g labels w words t p in let b = p .held .within in omega arith in
+        le-ltb _ _ l
+
+    nodes-told : n ≡ length (lxdNodes g labels)
+    nodes-told = told ∙ count-nodes g labels w words t p
+
+    file-long : 64 + 4 * n ≡ length file
+    file-long = ap (λ k. 64 + 4 * k) nodes-told ∙ sym (length-file g labels title date)
+
+    pub file-short : length lent < 64 + 4 * n → StopsAt 4 walkOf
+    file-short l =
+        let f = p .found in
+        let m : length lent < length file = let e = file-long in omega arith in
+        (f .ended, (f .narrow, (few-words g labels words f, (few-nodes, lt-ltb _ _ m))))
+
+    module _ (fits : 64 + 4 * n ≤ length lent) where
+      whole : length file ≤ length lent
+      whole = let e = file-long in omega arith
+
+      passes : firstOf walkOf ≡ none
+      passes = let f = p .found in all-pass walkOf (f .ended, (f .narrow, (few-words g labels words f, (few-nodes, (le-ltb _ _ whole, tt)))))
+
+      in-two-parts : header n title date words ++ nodeBytes (lxdNodes g labels) ≡ file
+      unfolding lxdFile
+      in-two-parts =
+          ap₂ (λ k c. header k title date c ++ nodeBytes (lxdNodes g labels)) nodes-told (p .found .counted)
+          ∙ header-before (field 32 title) (field 20 date) (nodeBytes (lxdNodes g labels)) (length (lxdNodes g labels)) (count KBWG g (start g 0))
+
+      bytes-after : {a b : List ℕ} → a ≡ sets lent 0 (header n title date words) → b ≡ sets a 64 (nodeBytes (lxdNodes g labels))
+          → b ≡ file ++ drop (length file) lent
+      bytes-after i j =
+          j ∙ ap (λ x. sets x 64 (nodeBytes (lxdNodes g labels))) i
+          ∙ written-after lent (header n title date words) (nodeBytes (lxdNodes g labels)) 0 64 (length-header n title date words)
+          ∙ ap (sets lent 0) in-two-parts ∙ sets-front lent file whole
+
+      pub file-written : {a b : List ℕ} → a ≡ sets lent 0 (header n title date words) → b ≡ sets a 64 (nodeBytes (lxdNodes g labels))
+          → record { answer = gives ((64 + 4 * n) ∷ []); bytes = b } ≡ written (firstOf walkOf) file lent
+      file-written i j =
+          (λ x. record { answer = gives (file-long x ∷ []); bytes = bytes-after i j x }) ∙ ap (λ o. written o file lent) (sym passes)
