@@ -55,10 +55,10 @@ module _ (g : Graph) (labels ranks w : List ℕ) (blocks : ℕ) where
   left j = nodesFrom g labels ranks w j (blocks - j)
 
   -- the nodes of block j, with these arcs
-  abbrev blockAt : ℕ → List ℕ → List ℕ
-  blockAt j arcs = blockIn ranks w (getD w (2 * length g + j) 0) arcs
+  abbrev nodesOf : ℕ → List ℕ → List ℕ
+  nodesOf j arcs = blockIn ranks w (getD w (2 * length g + j) 0) arcs
 
-  left-next : (j : ℕ) → j < blocks → left j ≡ blockAt j (arcsOf g labels (getD w (length g + j) 0)) ++ left (j + 1)
+  left-next : (j : ℕ) → j < blocks → left j ≡ nodesOf j (arcsOf g labels (getD w (length g + j) 0)) ++ left (j + 1)
   unfolding nodesFrom
   left-next j h =
       let e : blocks - j ≡ suc (blocks - (j + 1)) = omega arith in
@@ -79,15 +79,15 @@ module _ (g : Graph) (labels ranks w : List ℕ) (blocks : ℕ) where
 
     module _ (j : ℕ) {now : List ℕ} {p : ℕ} (h : BlocksFrom j now p) where
       module _ (l : j < blocks) (count : ℕ) (arcs : List ℕ) (fits : count ≤ length arcs) (e : take count arcs ≡ arcsOf g labels (getD w (length g + j) 0)) where
-        piece : bigEndians 4 (left j) ≡ bigEndians 4 (blockAt j (take count arcs)) ++ bigEndians 4 (left (j + 1))
+        piece : bigEndians 4 (left j) ≡ bigEndians 4 (nodesOf j (take count arcs)) ++ bigEndians 4 (left (j + 1))
         piece =
-            ap (bigEndians 4) (left-next j l ∙ ap (λ a. blockAt j a ++ left (j + 1)) (sym e))
-            ∙ bigs-append 4 (blockAt j (take count arcs)) (left (j + 1))
+            ap (bigEndians 4) (left-next j l ∙ ap (λ a. nodesOf j a ++ left (j + 1)) (sym e))
+            ∙ bigs-append 4 (nodesOf j (take count arcs)) (left (j + 1))
 
-        size : length (bigEndians 4 (blockAt j (take count arcs))) ≡ 4 + 4 * count
+        size : length (bigEndians 4 (nodesOf j (take count arcs))) ≡ 4 + 4 * count
         unfolding blockIn
         size =
-            let a = bigs-length 4 (blockAt j (take count arcs)) in
+            let a = bigs-length 4 (nodesOf j (take count arcs)) in
             let b = length-map (take count arcs) (arcIn ranks w) in
             let d = length-take-le count arcs fits in
             omega arith
@@ -96,12 +96,12 @@ module _ (g : Graph) (labels ranks w : List ℕ) (blocks : ℕ) where
         blocks-room room =
             let a = bigs-length 4 (nodesFrom g labels ranks w 0 blocks) in
             let b = size in
-            let r = put-room h (bigEndians 4 (blockAt j (take count arcs))) (bigEndians 4 (left (j + 1))) piece (omega arith) in
+            let r = put-room h (bigEndians 4 (nodesOf j (take count arcs))) (bigEndians 4 (left (j + 1))) piece (omega arith) in
             omega arith
 
-        pub blocks-next : {after : List ℕ} → after ≡ sets now p (bigEndians 4 (blockAt j (take count arcs))) → BlocksFrom (j + 1) after (p + (4 + 4 * count))
+        pub blocks-next : {after : List ℕ} → after ≡ sets now p (bigEndians 4 (nodesOf j (take count arcs))) → BlocksFrom (j + 1) after (p + (4 + 4 * count))
         blocks-next s =
-            put-next h (bigEndians 4 (blockAt j (take count arcs))) (bigEndians 4 (left (j + 1))) piece (ap (p +_) (sym size)) s
+            put-next h (bigEndians 4 (nodesOf j (take count arcs))) (bigEndians 4 (left (j + 1))) piece (ap (p +_) (sym size)) s
 
       pub blocks-done : blocks ≤ j → now ≡ sets before at (bigEndians 4 (nodesFrom g labels ranks w 0 blocks))
       unfolding bigEndians

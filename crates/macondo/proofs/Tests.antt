@@ -1,20 +1,20 @@
--- The checks of the writer by the facts that decide them; runs that ascend, a node at a time.
-use mathlib.Core.Path.{_≡_, refl, ap, sym, _∙_}
-use mathlib.Core.Logic.{_≢_}
-use mathlib.Core.Bool.{Bool, true, false, not, _&&_, _||_, true≢false}
-use mathlib.Core.List.{List, [], _∷_}
-use Prim.Native.Nat.{ℕ, zero, suc, _+_, _-_, _≤_, _<_}
+-- The checks of the writer by the facts that decide them, and runs that ascend, a node at a time.
+use mathlib.Core.Path.{_≡_, refl, sym, ap}
+use mathlib.Core.Bool.{Bool, true, false, _&&_, _||_}
+use mathlib.Core.List.{[], _∷_}
+use Prim.Native.Nat.{ℕ, suc, _+_, _≤_, _<_}
 use native.Mathlib.Numerals.{add-one}
 use native.Mathlib.Omega.{arith}
-use lib.Dec.{eqb, ltb, leb}
-use lib.ListN.{length, getD, drop, drop-of-length-le}
+use lib.Dec.{ltb, leb}
+use lib.ListN.{length, drop, drop-of-length-le}
 use lib.Seq.{drop-cons}
-use borrow.Author.Tests.{ltb-true, ltb-false, lt-ltb, le-ltb, le-leb, lt-leb}
+use borrow.Author.Tests.{ltb-true, ltb-false, le-leb, lt-leb}
 use Rattle.laws.specs.Cases.{split}
 use Rattle.node.specs.Nodes.{KBWG, tile, isEnd}
 use Rattle.graph.specs.Runs.{Graph, node, ascends}
 use Rattle.macondo_file.specs.Row.{noCodePoint}
 
+-- ---- code points
 pub code-low : (c : ℕ) → c < 55296 → false ≡ noCodePoint c
 code-low c h = rw (lt-leb 55296 c h, lt-leb 1114112 c (omega arith))
 
@@ -24,47 +24,41 @@ code-half c h k = rw (le-leb 55296 c h, le-leb c 57343 k)
 pub code-high : (c : ℕ) → 55296 ≤ c → 57343 < c → leb 1114112 c ≡ noCodePoint c
 code-high c h k = rw (le-leb 55296 c h, lt-leb c 57343 k)
 
-pub falls-end : (x y : ℕ) → isEnd KBWG x ≡ true → false ≡ not (isEnd KBWG x || ltb (tile KBWG x) (tile KBWG y))
-falls-end x y e = rw e
+-- ---- the tiles that may come after node v: all after an end, else those above its own
+module _ (v t : ℕ) where
+  pub any-after-end : isEnd KBWG v ≡ true → leb 0 t ≡ isEnd KBWG v || ltb (tile KBWG v) t
+  any-after-end e = rw e (le-leb 0 t (omega arith))
 
-tests : (a b : ℕ) → leb b a ≡ not (ltb a b)
-tests a b = split (ltb a b) (λ e. rw e (lt-leb b a (ltb-true a b e))) (λ e. rw e (le-leb b a (ltb-false a b e)))
+  pub higher-after : (a : ℕ) → isEnd KBWG v ≡ false → a ≡ tile KBWG v → leb (a + 1) t ≡ isEnd KBWG v || ltb (tile KBWG v) t
+  higher-after a e i =
+      rw (e, ← i) (split (ltb a t)
+      (λ h. rw h (le-leb (a + 1) t (let l = ltb-true a t h in omega arith)))
+      (λ h. rw h (lt-leb (a + 1) t (let l = ltb-false a t h in omega arith))))
 
-pub falls-test : (x y : ℕ) (a b : ℕ) → isEnd KBWG x ≡ false → a ≡ tile KBWG x → b ≡ tile KBWG y → leb b a ≡ not (isEnd KBWG x || ltb (tile KBWG x) (tile KBWG y))
-falls-test x y a b e p q = tests a b ∙ rw (p, q, e)
+-- ---- whether the nodes ascend, and the first has this tile or a higher one
+abbrev pub ascendsFrom : ℕ → Graph → Bool
+ascendsFrom lowest [] = true
+ascendsFrom lowest (v ∷ l) = leb lowest (tile KBWG v) && ascends KBWG (v ∷ l)
 
--- runs that ascend, a node at a time; i is the place of the later node
-up-step : (g : Graph) (i : ℕ) → suc i < length g → ascends KBWG (drop i g) ≡ ((isEnd KBWG (node g i) || ltb (tile KBWG (node g i)) (tile KBWG (node g (suc i)))) && ascends KBWG (drop (suc i) g))
+pub from-any : (g : Graph) → ascendsFrom 0 g ≡ ascends KBWG g
 unfolding ascends
-up-step g i h = rw (drop-cons g i 0 (omega arith), drop-cons g (suc i) 0 h)
+from-any [] = refl
+from-any (v ∷ l) = rw (le-leb 0 (tile KBWG v) (omega arith))
 
-pub up-falls : (g : Graph) (i : ℕ) → 0 < i → i < length g → not (isEnd KBWG (node g (i - 1)) || ltb (tile KBWG (node g (i - 1))) (tile KBWG (node g i))) ≡ true → ascends KBWG (drop (i - 1) g) ≡ false
-up-falls g zero p h e = absurd (omega arith)
-up-falls g (suc i) p h e =
-    let o : suc i - 1 ≡ i = omega arith in
-    rw o (up-step g i h ∙ ap (λ (b : Bool). b && ascends KBWG (drop (suc i) g)) (not-true (isEnd KBWG (node g i) || ltb (tile KBWG (node g i)) (tile KBWG (node g (suc i)))) (rw o at e)))
-  where
-    not-true : (b : Bool) → not b ≡ true → b ≡ false
-    not-true true q = sym q
-    not-true false q = refl
+module _ (lowest : ℕ) (g : Graph) (i : ℕ) where
+  module _ (h : i < length g) where
+    pub first-falls : tile KBWG (node g i) < lowest → ascendsFrom lowest (drop i g) ≡ false
+    first-falls k = rw (drop-cons g i 0 h) (rw (lt-leb lowest (tile KBWG (node g i)) k))
 
-pub up-next : (g : Graph) (i : ℕ) → 0 < i → i < length g → not (isEnd KBWG (node g (i - 1)) || ltb (tile KBWG (node g (i - 1))) (tile KBWG (node g i))) ≡ false
-    → ascends KBWG (drop (i - 1) g) ≡ ascends KBWG (drop (i + 1 - 1) g)
-up-next g zero p h e = absurd (omega arith)
-up-next g (suc i) p h e =
-    let o : suc i - 1 ≡ i = omega arith in
-    let q : suc i + 1 - 1 ≡ suc i = omega arith in
-    rw (o, q) (up-step g i h ∙ ap (λ (b : Bool). b && ascends KBWG (drop (suc i) g)) (not-false′ (isEnd KBWG (node g i) || ltb (tile KBWG (node g i)) (tile KBWG (node g (suc i)))) (rw o at e)))
-  where
-    not-false′ : (b : Bool) → not b ≡ false → b ≡ true
-    not-false′ true q = refl
-    not-false′ false q = absurd (true≢false q)
+    after-first : (next v : ℕ) (l : Graph) → ((t : ℕ) → leb next t ≡ isEnd KBWG v || ltb (tile KBWG v) t) → ascends KBWG (v ∷ l) ≡ ascendsFrom next l
+    unfolding ascends
+    after-first next v [] a = refl
+    after-first next v (w ∷ l) a = ap (_&& ascends KBWG (w ∷ l)) (sym (a (tile KBWG w)))
 
-pub up-end : (g : Graph) (i : ℕ) → 0 < i → length g ≤ i → ascends KBWG (drop (i - 1) g) ≡ true
-unfolding ascends
-up-end g zero p h = absurd (omega arith)
-up-end g (suc i) p h =
-    let o : suc i - 1 ≡ i = omega arith in
-    rw o (split (ltb i (length g))
-    (λ e. let l : i < length g = ltb-true i (length g) e in let z : length g ≤ suc i = h in rw (drop-cons g i 0 l, drop-of-length-le g z))
-    (λ e. let l : length g ≤ i = ltb-false i (length g) e in rw (drop-of-length-le g l)))
+    pub first-passes : lowest ≤ tile KBWG (node g i) → (next : ℕ) → ((t : ℕ) → leb next t ≡ isEnd KBWG (node g i) || ltb (tile KBWG (node g i)) t)
+        → ascendsFrom lowest (drop i g) ≡ ascendsFrom next (drop (i + 1) g)
+    first-passes k next a =
+        rw (drop-cons g i 0 h, add-one) (rw (le-leb lowest (tile KBWG (node g i)) k) (after-first next (node g i) (drop (suc i) g) a))
+
+  pub none-left : length g ≤ i → ascendsFrom lowest (drop i g) ≡ true
+  none-left h = rw (drop-of-length-le g h)

@@ -1,7 +1,7 @@
 -- The tables that the walk fills hold what the definitions of the file say. The idea: a block's entry in the record of blocks is its
 -- number and 1, and the blocks and their sets stand in the order of the definition; so what is read block after block is the file's.
 use mathlib.Core.Path.{_≡_, refl, sym, ap, ap₂, _∙_, subst}
-use mathlib.Core.Bool.{true, false}
+use mathlib.Core.Bool.{false}
 use mathlib.Core.List.{List, [], _∷_, _++_, map, List·Memᴰ, List·Memᴰ·head, List·Memᴰ·tail}
 use Prim.Native.Nat.{ℕ, zero, suc, _+_, _-_, _*_, _≤_, _<_}
 use native.Mathlib.Omega.{arith}

@@ -1,7 +1,8 @@
 // The checks of graph, labels and name that are the Macondo writer's own.
 ghost use mathlib.Core.Path.{_≡_};
 ghost use mathlib.Core.Bool.{not, _||_};
-ghost use lib.Dec.{ltb};
+ghost use Prim.Native.Nat.{ℕ};
+ghost use lib.Dec.{ltb, leb};
 ghost use lib.ListN.{drop};
 ghost use Rattle.laws.specs.Lists.{someOf};
 ghost use Rattle.node.specs.Nodes.{KBWG, tile, isEnd};
@@ -9,25 +10,29 @@ ghost use Rattle.graph.specs.Runs.{ascends};
 ghost use Rattle.macondo_file.specs.Row.{noCodePoint};
 use node::Node24;
 
-// Whether node v goes on to a node whose tile is no higher than its own.
-fn falls(v: u32, next: u32) -> bool
-    ensures { λ r. ⌜ r ≡ not (isEnd KBWG v || ltb (tile KBWG v) (tile KBWG next)) ⌝ }
+// The lowest tile that the node after v may have: any where v ends its run, else one above v's own.
+fn lowest_after(v: u32) -> u8
+    ensures { λ r. ⌜ ((t : ℕ) → leb r t ≡ isEnd KBWG v || ltb (tile KBWG v) t) ⌝ }
 {
     if Node24(v).is_end() {
-        return false;
+        0
+    } else {
+        Node24(v).tile() + 1
     }
-    Node24(next).tile() <= Node24(v).tile()
 }
 
 // Whether the tiles of some run fail to ascend.
 pub(crate) fn descends(nodes: &[u32]) -> bool
     ensures { λ r. ⌜ r ≡ not (ascends KBWG (now (nodes .entry))) ⌝ }
 {
-    let mut i = 1;
+    let mut lowest: u8 = 0;
+    let mut i = 0;
     while i < nodes.len() {
-        if falls(nodes[i - 1], nodes[i]) {
+        let v = nodes[i];
+        if Node24(v).tile() < lowest {
             return true;
         }
+        lowest = lowest_after(v);
         i += 1;
     }
     false

@@ -1,3 +1,4 @@
+-- `to_macondo` meets its contract: each refusal by its condition of the row, and past the checks what `write_checked` gives.
 use native.Mathlib.Omega.{arith}
 use mathlib.Core.Path.{_≡_, refl, sym, ap, _∙_}
 use mathlib.Core.Bool.{or-true}
@@ -13,7 +14,6 @@ use Rattle.node.specs.RowLaws.{row-refuses, row-passes, row-ends, rows-refuse, 
 use Rattle.graph.specs.Checks.{graphRow, graphRefusal}
 use Rattle.graph.specs.Lent.{WorkKept, work-untouched, work-walked}
 use Rattle.graph.specs.declared.GraphCheck.{GraphCheck}
-use Rattle.macondo_file.specs.File.{Format}
 use Rattle.macondo_file.specs.Row.{checkRow, toMacondo}
 use Rattle.macondo_file.specs.RowLaws.{checked}
 use Rattle.macondo.specs.declared.Macondo.{Macondo}

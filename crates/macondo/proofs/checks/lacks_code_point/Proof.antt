@@ -1,8 +1,9 @@
+-- `lacks_code_point` meets its contract: what is left of the labels decides.
 use borrow.Author.Needs.{needs}
 use native.Mathlib.Omega.{arith}
-use mathlib.Core.Path.{_≡_, refl, sym, ap, _∙_}
-use Prim.Native.Nat.{ℕ, _≤_, _<_, _-_, _+_}
-use lib.ListN.{length, drop, getD}
+use mathlib.Core.Path.{_≡_, refl, sym, _∙_}
+use Prim.Native.Nat.{_-_}
+use lib.ListN.{length, drop}
 use Rattle.laws.specs.Lists.{someOf}
 use Rattle.macondo_file.specs.Row.{noCodePoint}
 use Rattle.laws.specs.Members.{some-here, some-next, some-past}

@@ -1,4 +1,4 @@
-use borrow.Author.Needs.{needs}
+-- `no_code_point` meets its contract: below, within and above the numbers that are halves of a pair.
 use native.Mathlib.Omega.{arith}
 use Rattle.macondo.proofs.Tests.{code-low, code-half, code-high}
 use Rattle.macondo.proofs.checks.no_code_point.Statement.{statement}

@@ -1,4 +1,4 @@
-use native.Mathlib.Omega.{arith}
+-- `write_file` meets its contract: the sections stand one after the other, each where the one before it ends.
 use Rattle.macondo.specs.Said.{formatOf}
 use Rattle.macondo.proofs.SectionLaws.{file-stored}
 use borrow.Author.Needs.{needs}

@@ -1,5 +1,6 @@
+-- `arc_node` meets its contract, whatever the record of blocks says of the child.
 use native.Mathlib.Omega.{arith}
-use mathlib.Core.Path.{_≡_, sym, subst, _∙_}
+use mathlib.Core.Path.{sym, subst, _∙_}
 use Prim.Native.Nat.{ℕ, _≤_}
 use lib.ListN.{getD}
 use Rattle.macondo.proofs.BlockNodes.{arc-unnumbered, arc-numbered, number-low}

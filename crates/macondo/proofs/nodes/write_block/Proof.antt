@@ -1,3 +1,4 @@
+-- `write_block` meets its contract: after the head, the arcs left, written where they go, give the block.
 use borrow.Author.Needs.{needs}
 use native.Mathlib.Omega.{arith}
 use mathlib.Core.Path.{_≡_, sym, _∙_}

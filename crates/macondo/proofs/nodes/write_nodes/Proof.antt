@@ -1,10 +1,10 @@
+-- `write_nodes` meets its contract: after the count, the blocks left, written where they go, give the section.
 use borrow.Author.Needs.{needs}
 use native.Mathlib.Omega.{arith}
-use mathlib.Core.Path.{_≡_, refl, sym, ap, _∙_}
+use mathlib.Core.Path.{_≡_, refl}
 use mathlib.Core.List.{List}
-use Prim.Native.Nat.{ℕ, _+_, _-_, _*_, _≤_, _<_}
-use lib.ListN.{length, getD, take}
-use Rattle.macondo_file.specs.File.{arcsOf}
+use Prim.Native.Nat.{ℕ, _+_, _-_, _*_, _≤_}
+use lib.ListN.{length, getD}
 use Rattle.macondo_blocks.specs.ArcsLaws.{child-inside}
 use Rattle.macondo.specs.Tables.{nodesFrom}
 use Rattle.macondo.proofs.SectionLaws.{section-stored}

@@ -1,8 +1,9 @@
+-- `write_code_points` meets its contract: after the count, the code points left, written where they go, give the section.
 use borrow.Author.Needs.{needs}
 use native.Mathlib.Omega.{arith}
-use mathlib.Core.Path.{_≡_, refl, sym, ap, _∙_}
+use mathlib.Core.Path.{_≡_, sym}
 use mathlib.Core.List.{List, map}
-use Prim.Native.Nat.{ℕ, _≤_, _<_, _-_, _+_}
+use Prim.Native.Nat.{ℕ, _<_, _-_, _+_}
 use lib.ListN.{length, getD, take}
 use Rattle.macondo.proofs.SectionLaws.{Writing, writing-start, writing-room, writing-next, writing-done, section-stored, made-length, made-at}
 use Rattle.macondo.proofs.sections.write_code_points.Statement.{statement}

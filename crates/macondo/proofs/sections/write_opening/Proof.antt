@@ -1,5 +1,6 @@
+-- `write_opening` meets its contract: its three stores are one, of the magic and then the name after its length.
 use native.Mathlib.Omega.{arith}
-use mathlib.Core.Path.{_≡_, refl, sym, ap, _∙_}
+use mathlib.Core.Path.{_∙_}
 use Rattle.macondo_file.specs.File.{marks}
 use Rattle.macondo.specs.Said.{formatOf}
 use lib.ListN.{length-set}

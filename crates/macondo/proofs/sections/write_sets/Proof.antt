@@ -1,8 +1,9 @@
+-- `write_sets` meets its contract: after the count, the sets left, written where they go, give the section.
 use borrow.Author.Needs.{needs}
 use native.Mathlib.Omega.{arith}
-use mathlib.Core.Path.{_≡_, refl, sym, ap, _∙_}
+use mathlib.Core.Path.{_≡_, sym}
 use mathlib.Core.List.{List}
-use Prim.Native.Nat.{ℕ, _≤_, _<_, _-_, _+_, _*_}
+use Prim.Native.Nat.{ℕ, _<_, _-_, _+_}
 use lib.ListN.{length, getD}
 use Rattle.letter_sets.specs.Sets.{setAt, setsIn}
 use Rattle.graph.specs.TableLaws.{table-length, table-at}

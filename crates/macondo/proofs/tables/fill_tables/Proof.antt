@@ -1,3 +1,4 @@
+-- `fill_tables` meets its contract: numbering the sets leaves the record of blocks as it is.
 use native.Mathlib.Omega.{arith}
 use Rattle.macondo_blocks.specs.NumbersLaws.{blocks-few}
 use borrow.Author.Needs.{needs}

@@ -1,4 +1,4 @@
-use native.Mathlib.Omega.{arith}
+-- `start_of` meets its contract: each format starts at its own node's arc.
 use mathlib.Core.Path.{sym, ap, _∙_}
 use Rattle.export.specs.Starts.{start}
 use Rattle.macondo_file.specs.File.{marks}

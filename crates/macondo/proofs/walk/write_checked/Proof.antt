@@ -1,10 +1,11 @@
+-- `write_checked` meets its contract: the survey and the labels decide the checks 22 and 23, and past them what `write_from` gives.
 use native.Mathlib.Omega.{arith}
 use mathlib.Core.Path.{_≡_, sym, ap, _∙_, subst}
-use mathlib.Core.Bool.{true, false}
+use mathlib.Core.Bool.{false}
 use mathlib.Core.List.{List}
 use Prim.Native.Nat.{ℕ, _<_}
 use lib.ListN.{length}
-use Rattle.node.specs.Answers.{Row, firstOf}
+use Rattle.node.specs.Answers.{Row}
 use Rattle.node.specs.RowLaws.{row-refuses, row-passes}
 use Rattle.export.specs.Starts.{start, deeper}
 use Rattle.export.specs.Survey.{SurveyIs}

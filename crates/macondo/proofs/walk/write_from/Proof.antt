@@ -1,3 +1,4 @@
+-- `write_from` meets its contract: the walk's counts decide the sizes, and what the tables hold is the file of the definition.
 use native.Mathlib.Omega.{arith}
 use mathlib.Core.Path.{_≡_, sym, ap, _∙_, subst}
 use mathlib.Core.Bool.{false}
