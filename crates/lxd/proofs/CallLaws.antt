@@ -18,6 +18,7 @@ use Rattle.export.specs.Starts.{unlabelled}
 use Rattle.export.specs.Written.{written}
 use Rattle.lxd_file.specs.File.{lxdFile}
 use Rattle.lxd_file.specs.Row.{checkRow, walkRow, lxdRow, toLxd}
+use Rattle.lxd.specs.Said.{afterChecks}
 use Rattle.lxd.proofs.RowLaws.{passed-all, listsRow}
 
 module _ (g : Graph) (labels title date : List ℕ) (lentWork : ℕ) where
@@ -32,7 +33,7 @@ module _ (g : Graph) (labels title date : List ℕ) (lentWork : ℕ) where
     unfolding lxdRow toLxd
     call-refuses e = ap (λ o. written o (lxdFile g labels title date) lent) (sym (rows-refuse checks walk e))
 
-    pub call-walks : firstOf checks ≡ none → written (firstOf walk) (lxdFile g labels title date) lent ≡ toLxd g labels title date lentWork lent
+    pub call-walks : firstOf checks ≡ none → afterChecks g labels title date lent ≡ toLxd g labels title date lentWork lent
     unfolding lxdRow toLxd
     call-walks e = ap (λ o. written o (lxdFile g labels title date) lent) (sym (rows-pass checks walk e))
 

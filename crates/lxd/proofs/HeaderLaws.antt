@@ -49,7 +49,8 @@ module _ (l : List ℕ) (nodes : ℕ) (title date : List ℕ) (words : ℕ) wher
   pub header-written : {a b c d e : List ℕ} → a ≡ sets l 0 (toBytes 64) → b ≡ sets a 4 (toBytes nodes) → c ≡ sets b 8 (field 32 title)
       → d ≡ sets c 40 (field 20 date) → e ≡ sets d 60 (toBytes words) → e ≡ sets l 0 (header nodes title date words)
   header-written h i j k m =
-      let texts = k ∙ ap (λ x. sets x 40 (field 20 date)) (j ∙ ap (λ x. sets x 8 (field 32 title)) (i ∙ ap (λ x. sets x 4 (toBytes nodes)) h)) in
+      let counts = i ∙ ap (λ x. sets x 4 (toBytes nodes)) h in
+      let texts = k ∙ ap (λ x. sets x 40 (field 20 date)) (j ∙ ap (λ x. sets x 8 (field 32 title)) counts) in
       m ∙ ap (λ x. sets x 60 (toBytes words)) texts ∙ fields-written
 
 pub length-header : (nodes : ℕ) (title date : List ℕ) (words : ℕ) → 0 + length (header nodes title date words) ≡ 64
@@ -60,5 +61,6 @@ length-header nodes title date words =
 
 -- a header with what follows it, for any texts
 pub header-before : (title date rest : List ℕ) (nodes words : ℕ)
-    → (toBytes 64 ++ (toBytes nodes ++ (title ++ (date ++ toBytes words)))) ++ rest ≡ toBytes 64 ++ (toBytes nodes ++ (title ++ (date ++ (toBytes words ++ rest))))
+    → (toBytes 64 ++ (toBytes nodes ++ (title ++ (date ++ toBytes words)))) ++ rest
+    ≡ toBytes 64 ++ (toBytes nodes ++ (title ++ (date ++ (toBytes words ++ rest))))
 header-before title date rest nodes words = simp append-assoc

@@ -33,6 +33,7 @@ use Rattle.lxd_file.specs.Row.{reached, walkRow}
 use Rattle.lxd_file.specs.RunsLaws.{size, reached-size, start-inside}
 use Rattle.lxd_blocks.specs.Numbered.{Held}
 use Rattle.lxd.specs.Header.{header}
+use Rattle.lxd.specs.Said.{afterChecks}
 use Rattle.lxd.specs.Planned.{Found, Planned, nodeCount}
 use Rattle.lxd.proofs.HeaderLaws.{written-after, length-header, header-before}
 use Rattle.lxd.proofs.PlannedLaws.{total-nodes, count-nodes}
@@ -65,7 +66,8 @@ module _ (g : Graph) (labels : List ℕ) where
     pub few-words : leb most (count KBWG g (start g 0)) ≡ false
     few-words = let l : count KBWG g (start g 0) < most = let e = h .counted in let f = h .few in omega arith in lt-leb _ _ l
 
-    pub plan : {w : List ℕ} {t : Tally} → length g + length g ≤ length w → Held g w t (met (arcsFrom g) 64 [] (start g 0)) → Planned g labels w words t
+    pub plan : {w : List ℕ} {t : Tally} → length g + length g ≤ length w → Held g w t (met (arcsFrom g) 64 [] (start g 0))
+        → Planned g labels w words t
     unfolding runs
     plan r k = record { found = h; room = r; held = k }
 
@@ -81,7 +83,7 @@ module _ (g : Graph) (labels title date lent : List ℕ) where
   walkOf = walkRow g labels title date (length lent)
 
   -- "A refusal writes no file byte."
-  pub walk-refuses : (k : ℕ) → StopsAt k walkOf → record { answer = answerAt k walkOf; bytes = lent } ≡ written (firstOf walkOf) file lent
+  pub walk-refuses : (k : ℕ) → StopsAt k walkOf → record { answer = answerAt k walkOf; bytes = lent } ≡ afterChecks g labels title date lent
   walk-refuses k s = ap (λ o. written o file lent) (sym (stops-at k walkOf s))
 
   -- ---- by the file's length: 11, or the file
@@ -124,6 +126,6 @@ module _ (g : Graph) (labels title date lent : List ℕ) where
           ∙ ap (sets lent 0) in-two-parts ∙ sets-front lent file whole
 
       pub file-written : {a b : List ℕ} → a ≡ sets lent 0 (header n title date words) → b ≡ sets a 64 (nodeBytes (lxdNodes g labels))
-          → record { answer = gives ((64 + 4 * n) ∷ []); bytes = b } ≡ written (firstOf walkOf) file lent
+          → record { answer = gives ((64 + 4 * n) ∷ []); bytes = b } ≡ afterChecks g labels title date lent
       file-written i j =
           (λ x. record { answer = gives (file-long x ∷ []); bytes = bytes-after i j x }) ∙ ap (λ o. written o file lent) (sym passes)

@@ -2,8 +2,12 @@
 use mathlib.Core.List.{List, [], _∷_}
 use mathlib.Core.Option.{Option, none, some}
 use Prim.Native.Nat.{ℕ}
-use Rattle.node.specs.Answers.{Answer, gives, refused}
-use Rattle.export.specs.Written.{Written}
+use lib.ListN.{length}
+use Rattle.node.specs.Answers.{Answer, gives, refused, firstOf}
+use Rattle.graph.specs.Runs.{Graph}
+use Rattle.export.specs.Written.{Written, written}
+use Rattle.lxd_file.specs.File.{lxdFile}
+use Rattle.lxd_file.specs.Row.{walkRow}
 use Rattle.lxd.specs.declared.Lxd.{Lxd}
 use Rattle.lxd.specs.declared.Lxd.the-variants as L
 use Rattle.lxd.specs.declared.checks.Checked.{Checked}
@@ -29,6 +33,10 @@ said L.FileTooShort = refused 11 []
 -- the call's result in the terms of its definition
 abbrev pub writtenAs : Lxd → List ℕ → Written
 writtenAs r bytes = record { answer = said r; bytes = bytes }
+
+-- what it answers and leaves past the checks before the walk
+abbrev pub afterChecks : Graph → List ℕ → List ℕ → List ℕ → List ℕ → Written
+afterChecks g labels title date lent = written (firstOf (walkRow g labels title date (length lent))) (lxdFile g labels title date) lent
 
 abbrev pub refusal : Checked → Option Answer
 refusal Passed = none

@@ -3,13 +3,10 @@ ghost use mathlib.Core.Path.{_≡_};
 ghost use Prim.Native.Nat.{_+_, _*_, _≤_};
 ghost use lib.ListN.{length};
 ghost use lib.Seq.{sets};
-ghost use Rattle.node.specs.Answers.{firstOf};
 ghost use Rattle.endian.specs.Bytes.{nodeBytes};
-ghost use Rattle.export.specs.Written.{written};
-ghost use Rattle.lxd_file.specs.File.{lxdNodes, lxdFile};
-ghost use Rattle.lxd_file.specs.Row.{walkRow};
+ghost use Rattle.lxd_file.specs.File.{lxdNodes};
 ghost use Rattle.lxd.specs.Planned.{Planned, nodeCount};
-ghost use Rattle.lxd.specs.Said.{writtenAs};
+ghost use Rattle.lxd.specs.Said.{writtenAs, afterChecks};
 use crate::Lxd;
 use crate::header::write_header;
 use endian::write_le_u32;
@@ -51,7 +48,7 @@ pub(crate) fn write_file(
     file: &mut [u8],
 ) -> Lxd
     requires { ⌜ Planned (now nodes) (now labels) (now work) words t ⌝ }
-    ensures { λ r. ⌜ writtenAs r (now (file .exit)) ≡ written (firstOf (walkRow (now (nodes .entry)) (now (labels .entry)) (now (title .entry)) (now (date .entry)) (length (now (file .entry))))) (lxdFile (now (nodes .entry)) (now (labels .entry)) (now (title .entry)) (now (date .entry))) (now (file .entry)) ⌝ }
+    ensures { λ r. ⌜ writtenAs r (now (file .exit)) ≡ afterChecks (now (nodes .entry)) (now (labels .entry)) (now (title .entry)) (now (date .entry)) (now (file .entry)) ⌝ }
 {
     let count = node_count(words, t.nodes);
     let long = 64 + 4 * (count as usize);

@@ -7,15 +7,12 @@ ghost use mathlib.Core.Path.{_≡_};
 ghost use mathlib.Core.Bool.{false};
 ghost use Prim.Native.Nat.{_*_, _≤_, _<_};
 ghost use lib.ListN.{length};
-ghost use Rattle.node.specs.Answers.{firstOf};
 ghost use Rattle.graph.specs.ChecksLaws.{Fit};
 ghost use Rattle.graph.specs.Lent.{WorkKept};
 ghost use Rattle.export.specs.Starts.{start, unlabelled};
-ghost use Rattle.export.specs.Written.{written};
-ghost use Rattle.lxd_file.specs.File.{lxdFile};
-ghost use Rattle.lxd_file.specs.Row.{checkRow, walkRow, toLxd};
+ghost use Rattle.lxd_file.specs.Row.{checkRow, toLxd};
 ghost use Rattle.lxd.specs.Planned.{Found};
-ghost use Rattle.lxd.specs.Said.{writtenAs};
+ghost use Rattle.lxd.specs.Said.{writtenAs, afterChecks};
 use checks::Checked;
 use checks::check;
 use export::Tally;
@@ -65,7 +62,7 @@ fn write_surveyed(
 ) -> Lxd
     requires { ⌜ Found (now nodes) (now labels) words ⌝ }
     requires { ⌜ 8 * length (now nodes) ≤ length (now work) ⌝ }
-    ensures { λ r. ⌜ writtenAs r (now (file .exit)) ≡ written (firstOf (walkRow (now (nodes .entry)) (now (labels .entry)) (now (title .entry)) (now (date .entry)) (length (now (file .entry))))) (lxdFile (now (nodes .entry)) (now (labels .entry)) (now (title .entry)) (now (date .entry))) (now (file .entry)) ⌝ }
+    ensures { λ r. ⌜ writtenAs r (now (file .exit)) ≡ afterChecks (now (nodes .entry)) (now (labels .entry)) (now (title .entry)) (now (date .entry)) (now (file .entry)) ⌝ }
 {
     clear(work, nodes.len());
     let none = Tally {
@@ -91,7 +88,7 @@ fn write_checked(
     requires { ⌜ Fit (now nodes) ⌝ }
     requires { ⌜ unlabelled (now nodes) (now labels) ≡ false ⌝ }
     requires { ⌜ 8 * length (now nodes) ≤ length (now work) ⌝ }
-    ensures { λ r. ⌜ writtenAs r (now (file .exit)) ≡ written (firstOf (walkRow (now (nodes .entry)) (now (labels .entry)) (now (title .entry)) (now (date .entry)) (length (now (file .entry))))) (lxdFile (now (nodes .entry)) (now (labels .entry)) (now (title .entry)) (now (date .entry))) (now (file .entry)) ⌝ }
+    ensures { λ r. ⌜ writtenAs r (now (file .exit)) ≡ afterChecks (now (nodes .entry)) (now (labels .entry)) (now (title .entry)) (now (date .entry)) (now (file .entry)) ⌝ }
 {
     let surveyed = survey(nodes, labels, work, start(nodes));
     let Surveyed::Within(found) = surveyed else {

@@ -56,7 +56,8 @@ module _ (g : Graph) where
     pub blocks-left : t .blocks < length g
     blocks-left = let a = used-lt (length g) w p l new in let b = h .runs .many in omega arith
 
-    pub run-met : (left : ℕ) (o₀ : List ℕ) → left ≢ 0 → o₀ ≡ o ++ p ∷ [] → walk (left - 1) o₀ (runOf g p) ≡ met (arcsFrom g) left o p
+    pub run-met : (left : ℕ) (o₀ : List ℕ) → left ≢ 0 → o₀ ≡ o ++ p ∷ []
+        → walk (left - 1) o₀ (runOf g p) ≡ met (arcsFrom g) left o p
     run-met left o₀ e q = ap (λ x. walk (left - 1) x (runOf g p)) q ∙ sym (met-new (arcsFrom g) left o p e fresh)
 
     pub run-over : (left : ℕ) → left ≢ 0 → 2 ^ 22 - t .nodes < size g p → 2 ^ 22 < 2 + total (size g) (met (arcsFrom g) left o p)
@@ -76,7 +77,8 @@ module _ (g : Graph) where
     }
 
   -- ---- along the nodes of a run
-  walk-node : (left : ℕ) (o : List ℕ) (v : ℕ) (vs : List ℕ) → walk left o (v ∷ vs) ≡ walk left (metBy (arcsFrom g) left o (arc KBWG v)) vs
+  walk-node : (left : ℕ) (o : List ℕ) (v : ℕ) (vs : List ℕ)
+      → walk left o (v ∷ vs) ≡ walk left (metBy (arcsFrom g) left o (arc KBWG v)) vs
   walk-node left o v vs =
       split (eqb (arc KBWG v) 0)
       (λ e. rw (e, kept) (ap (λ x. walk left x vs) (sym (by-none (arcsFrom g) left o (arc KBWG v) (eqb-true _ _ e)))))
@@ -99,7 +101,8 @@ module _ (g : Graph) where
     abbrev next : List ℕ
     next = metBy (arcsFrom g) left (orderIn (length g) w t) (arc KBWG (node g at))
 
-    pub along-goes : {w′ : List ℕ} {t′ : Tally} → isEnd KBWG (node g at) ≡ false → suc at < length g → Held g w′ t′ next → Along left o p w′ t′ (at + 1)
+    pub along-goes : {w′ : List ℕ} {t′ : Tally} → isEnd KBWG (node g at) ≡ false → suc at < length g → Held g w′ t′ next
+        → Along left o p w′ t′ (at + 1)
     along-goes e l h = record {
       inside = omega arith;
       held = held-here g h;
@@ -107,7 +110,8 @@ module _ (g : Graph) where
           ∙ sym (ap (walk left seen) (run-more g at (k .inside) e) ∙ walk-node left seen (node g at) (runOf g (at + 1))) ∙ k .rest;
     }
 
-    pub along-ends : {w′ : List ℕ} {t′ : Tally} → isEnd KBWG (node g at) ≡ true → Held g w′ t′ next → Held g w′ t′ (walk left o (runOf g p))
+    pub along-ends : {w′ : List ℕ} {t′ : Tally} → isEnd KBWG (node g at) ≡ true → Held g w′ t′ next
+        → Held g w′ t′ (walk left o (runOf g p))
     along-ends e h = held-as g (sym (ap (walk left seen) (run-last g at (k .inside) e) ∙ walk-node left seen (node g at) []) ∙ k .rest) h
 
     pub along-over : 2 ^ 22 < 2 + total (size g) next → 2 ^ 22 < 2 + total (size g) (walk left o (runOf g p))

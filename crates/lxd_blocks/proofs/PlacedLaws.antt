@@ -54,7 +54,8 @@ in-at (x ∷ l) zero h = List·Memᴰ·head refl
 in-at (x ∷ l) (suc i) h = List·Memᴰ·tail (in-at l i (omega arith))
 
 -- each node has its tile labelled
-pub labelled-at : (g : Graph) (labels : List ℕ) → unlabelled g labels ≡ false → (p : ℕ) → p < length g → tile KBWG (node g p) < length labels
+pub labelled-at : (g : Graph) (labels : List ℕ) → unlabelled g labels ≡ false → (p : ℕ) → p < length g
+    → tile KBWG (node g p) < length labels
 labelled-at g labels e p h = leb-false _ _ (none-of _ g e (node g p) (in-at g p h))
 
 numbers-append : (a b : List ℕ) → nodeBytes (a ++ b) ≡ nodeBytes a ++ nodeBytes b
@@ -81,7 +82,8 @@ module _ (g : Graph) (labels w : List ℕ) where
       pub more-length : length (runBytes g labels w p) ≡ 4 + length (runBytes g labels w (p + 1))
       more-length = ap length more-bytes ∙ length-append own (runBytes g labels w (p + 1))
 
-      pub more-written : (l : List ℕ) (at : ℕ) → sets (sets l at own) (at + 4) (runBytes g labels w (p + 1)) ≡ sets l at (runBytes g labels w p)
+      pub more-written : (l : List ℕ) (at : ℕ)
+          → sets (sets l at own) (at + 4) (runBytes g labels w (p + 1)) ≡ sets l at (runBytes g labels w p)
       more-written l at = sym (ap (sets l at) more-bytes ∙ sets-append l at own (runBytes g labels w (p + 1)))
 
     -- at least one node

@@ -19,7 +19,7 @@ fn bit(b: bool) -> u32
     if b { 1 } else { 0 }
 }
 
-// A node of the file; the child must be a place that 22 bits can tell.
+// A node of the file; the child's place must have no more than 22 bits.
 fn pack(letter: u8, accepts: bool, is_end: bool, child: u32) -> u32
     requires { ⌜ child < 2 ^ 22 ⌝ }
     ensures { λ r. ⌜ r ≡ packed LXD (values letter accepts «is_end» child) ⌝ }
@@ -27,8 +27,8 @@ fn pack(letter: u8, accepts: bool, is_end: bool, child: u32) -> u32
     bit(is_end) * 0x80000000 + bit(accepts) * 0x40000000 + letter as u32 * 0x400000 + child
 }
 
-// Where the run that an arc leads to stands, 0 for arc 0; the record must have an entry for the arc.
-fn child(work: &[u32], arc: u32) -> u32
+// Where the run that an arc leads to stands by the record, which must have an entry for it; arc 0 leads nowhere.
+fn child_place(work: &[u32], arc: u32) -> u32
     requires { ⌜ arc < length (now work) ⌝ }
     ensures { λ r. ⌜ r ≡ childIn (now (work .entry)) arc ⌝ }
 {
@@ -42,7 +42,7 @@ fn child(work: &[u32], arc: u32) -> u32
     at
 }
 
-// A node of the graph as a node of the file. The tile must have a label, and the arc an entry in the record that 22 bits can tell.
+// A node of the graph as a node of the file. The tile must have a label, and the record a place of 22 bits for the arc.
 fn file_node(labels: &[u32], work: &[u32], node: u32) -> u32
     requires { ⌜ tile KBWG node < length (now labels) ⌝ }
     requires { ⌜ arc KBWG node < length (now work) ⌝ }
@@ -50,12 +50,11 @@ fn file_node(labels: &[u32], work: &[u32], node: u32) -> u32
     ensures { λ r. ⌜ r ≡ nodeIn (now (labels .entry)) (now (work .entry)) node ⌝ }
 {
     let t = Node24(node).tile() as usize;
-    let child = child(work, Node24(node).arc_index());
     pack(
         byte_of(labels[t]),
         Node24(node).accepts(),
         Node24(node).is_end(),
-        child,
+        child_place(work, Node24(node).arc_index()),
     )
 }
 

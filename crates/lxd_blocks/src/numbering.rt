@@ -16,9 +16,10 @@ use export::place_of;
 use export::push_block;
 use node::Node24;
 
-// The places that the 22 bits of a child can tell.
-const PLACES: u32 = 4194304;
+// As many nodes as the 22 bits of a child can tell apart.
+const MOST_NODES: u32 = 4194304;
 
+// The runs numbered, or too many nodes.
 pub enum Numbering {
     Done(Tally),
     TooMany,
@@ -59,7 +60,8 @@ fn number_arc(nodes: &[u32], work: &mut [u32], node: u32, t: Tally, chain_left: 
     Numbering::Done(t)
 }
 
-// Numbers the run from p, a node that must not be numbered yet, and what its arcs lead to; stops when the file has over 2^22 nodes.
+// Numbers the run from p, a node that must not be numbered yet, and what its arcs lead to, by a record that must be that of the runs met
+// so far; stops as soon as the file has over 2^22 nodes.
 pub fn number_run(nodes: &[u32], work: &mut [u32], p: usize, t: Tally, chain_left: u32) -> Numbering
     requires { ⌜ Recorded (now nodes) (now work) t ⌝ }
     requires { ⌜ p < length (now nodes) ⌝ }
@@ -70,7 +72,7 @@ pub fn number_run(nodes: &[u32], work: &mut [u32], p: usize, t: Tally, chain_lef
         return Numbering::Done(t);
     }
     let size = run_length(nodes, p);
-    if PLACES - t.nodes < size {
+    if MOST_NODES - t.nodes < size {
         return Numbering::TooMany;
     }
     let mut sum = push_block(nodes.len(), work, p, t, size);

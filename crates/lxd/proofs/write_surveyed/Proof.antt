@@ -1,5 +1,5 @@
--- `write_surveyed` meets its contract: a record with no runs is what the numbering begins with, and what it gives is what the file is
--- written from.
+-- `write_surveyed` meets its contract: numbering begins with a record that holds no runs, and the file is written from the one that it
+-- leaves.
 use native.Mathlib.Omega.{arith}
 use mathlib.Core.Path.{_≡_, refl, sym, ap, _∙_, subst}
 use mathlib.Core.List.{List, []}
@@ -12,6 +12,7 @@ use Rattle.laws.specs.Cleared.{cleared-at}
 use Rattle.lxd_file.specs.RunsLaws.{start-inside}
 use Rattle.lxd_blocks.specs.Numbered.{NumberedAs}
 use Rattle.lxd_blocks.specs.NumberedLaws.{none-recorded}
+use Rattle.lxd_blocks.specs.declared.numbering.Numbering.{Numbering}
 use Rattle.lxd.proofs.WalkLaws.{few-words, many-nodes, plan, walk-refuses}
 use borrow.Author.Needs.{needs}
 use Rattle.lxd.proofs.write_surveyed.Statement.{statement}
@@ -23,22 +24,36 @@ use Rattle.lxd.proofs.file.write_file.Reads as write-file-reads
 use Rattle.lxd.proofs.start.Reads as start-reads
 use Rattle.lxd_blocks.proofs.number_run.Reads as number-run-reads
 
+module _ (s : tie.Start) where
+  abbrev g : List ℕ
+  g = s .args .nodes .now
+
+  abbrev labels : List ℕ
+  labels = s .args .labels .now
+
+  -- what the numbering answers of the runs from the start, and the work list then
+  abbrev Answers : List ℕ → Numbering → Type 0
+  Answers w = NumberedAs g w (met (arcsFrom g) 64 [] (start g 0))
+
 clear-requires : tie.Need-clear-requires
 clear-requires c κs = search needs
 
 start-requires : tie.Need-start-requires
-start-requires c κs = let f = c .before .before .before .before .before .before .before .before .before .before .before .pre .0 .sound in let n = f .two in omega arith
+start-requires c κs = let n = c .before .before .before .before .before .before .before .before .before .before .before .pre .0 .sound .two in
+    omega arith
 
-emptied : (c : tie.After-clear) (p : ℕ) → p < length (c .before .before .before .before .before .before .before .before .args .nodes .now) → getD (c .clear .last .0) p 0 ≡ 0
-emptied c p l = ap (λ (w : List ℕ). getD w p 0) (c .clear .ensures) ∙ cleared-at (length (c .before .before .before .before .before .before .before .before .args .nodes .now)) (c .before .before .before .before .before .before .before .before .args .work .now) p l
+emptied : (c : tie.After-clear) (p : ℕ) → let s = c .before .before .before .before .before .before .before .before in p < length (g s) → getD (c .clear .last .0) p 0 ≡ 0
+emptied c p l =
+    let s = c .before .before .before .before .before .before .before .before in
+    ap (λ (w : List ℕ). getD w p 0) (c .clear .ensures) ∙ cleared-at (length (g s)) (s .args .work .now) p l
 
 number-run-requires : tie.Need-number-run-requires
 number-run-requires c κs = let s = c .before .before .before .before .before .before .before .before .before .before .before .before in
     let room = s .pre .1 in
-    let inside = subst (λ (p : ℕ). p < length (s .args .nodes .now)) (sym (c .start .ensures)) (start-inside (s .args .nodes .now) (s .pre .0 .sound)) in (
-      none-recorded (s .args .nodes .now) (s .pre .0 .sound) (omega (arith, c .before .before .before .before .clear .kept .0)) (emptied (c .before .before .before .before)) refl refl,
-      (inside, emptied (c .before .before .before .before) (c .start .result) inside),
-    )
+    let sound = s .pre .0 .sound in
+    let inside = subst (λ (p : ℕ). p < length (g s)) (sym (c .start .ensures)) (start-inside (g s) sound) in
+    let none = emptied (c .before .before .before .before) in
+    (none-recorded (g s) sound (omega (arith, c .before .before .before .before .clear .kept .0)) none refl refl, (inside, none (c .start .result) inside))
 
 enum-known-numbered : tie.Need-enum-known-numbered
 enum-known-numbered c = search needs
@@ -49,25 +64,28 @@ enum-told c = search needs
 same-length : tie.Need-same-length
 same-length c = search needs
 
--- what the numbering answers of the runs from the start
-numbers : (c : tie.After-number-run) → let g = c .before .before .before .before .before .before .before .before .before .before .before .before .before .args .nodes .now in
-    NumberedAs g (c .number-run .last .1 .0) (met (arcsFrom g) 64 [] (start g 0)) (c .number-run .result)
-numbers c = let g = c .before .before .before .before .before .before .before .before .before .before .before .before .before .args .nodes .now in
-    subst (λ (p : ℕ). NumberedAs g (c .number-run .last .1 .0) (met (arcsFrom g) 64 [] p) (c .number-run .result)) (c .before .start .ensures) (c .number-run .ensures)
+answers : (c : tie.After-number-run) →
+    let s = c .before .before .before .before .before .before .before .before .before .before .before .before .before in
+    Answers s (c .number-run .last .1 .0) (c .number-run .result)
+answers c =
+    let s = c .before .before .before .before .before .before .before .before .before .before .before .before .before in
+    let numbered = c .number-run in
+    subst (λ (p : ℕ). NumberedAs (g s) (numbered .last .1 .0) (met (arcsFrom (g s)) 64 [] p) (numbered .result)) (c .before .start .ensures)
+    (numbered .ensures)
 
 returns : tie.Need-returns
-returns c = let a = c .before .before .before .before .before .before .before .before .before .before .before .before .before .before .before .before .before .args in
-    let h = c .before .before .before .before .before .before .before .before .before .before .before .before .before .before .before .before .before .pre .0 in
-    let many = subst (NumberedAs (a .nodes .now) (c .before .before .before .before .number-run .last .1 .0) (met (arcsFrom (a .nodes .now)) 64 [] (start (a .nodes .now) 0))) (c .enum-told .given .1) (numbers (c .before .before .before .before)) in
-    walk-refuses (a .nodes .now) (a .labels .now) (a .title .now) (a .date .now) (a .file .now) 3
-    (h .ended, (h .narrow, (few-words (a .nodes .now) (a .labels .now) (a .words) h, many-nodes (a .nodes .now) (a .labels .now) many)))
+returns c = let s = c .before .before .before .before .before .before .before .before .before .before .before .before .before .before .before .before .before in
+    let h = s .pre .0 in
+    let many = subst (Answers s (c .before .before .before .before .number-run .last .1 .0)) (c .enum-told .given .1) (answers (c .before .before .before .before)) in
+    walk-refuses (g s) (labels s) (s .args .title .now) (s .args .date .now) (s .args .file .now) 3
+    (h .ended, (h .narrow, (few-words (g s) (labels s) (s .args .words) h, many-nodes (g s) (labels s) many)))
 
 write-file-requires : tie.Need-write-file-requires
-write-file-requires c κs = let a = c .before .before .before .before .before .before .before .before .before .before .before .before .before .before .before .before .before .before .before .before .args in
-    let room = c .before .before .before .before .before .before .before .before .before .before .before .before .before .before .before .before .before .before .before .before .pre .1 in
-    plan (a .nodes .now) (a .labels .now) (a .words) (c .before .before .before .before .before .before .before .before .before .before .before .before .before .before .before .before .before .before .before .before .pre .0)
-    (omega (arith, c .before .before .before .before .before .before .before .before .before .before .before .before .clear .kept .0, c .before .before .before .before .before .before .before .number-run .kept .1 .0))
-    (subst (NumberedAs (a .nodes .now) (c .before .before .before .before .before .before .before .number-run .last .1 .0) (met (arcsFrom (a .nodes .now)) 64 [] (start (a .nodes .now) 0))) (c .before .before .before .numbered .given .1) (numbers (c .before .before .before .before .before .before .before)))
+write-file-requires c κs = let s = c .before .before .before .before .before .before .before .before .before .before .before .before .before .before .before .before .before .before .before .before in
+    let room = s .pre .1 in
+    let same = c .before .before .before .before .before .before .before .number-run .kept .1 .0 in
+    plan (g s) (labels s) (s .args .words) (s .pre .0) (omega (arith, same, c .before .before .before .before .before .before .before .before .before .before .before .before .clear .kept .0))
+    (subst (Answers s (c .before .before .before .before .before .before .before .number-run .last .1 .0)) (c .before .before .before .numbered .given .1) (answers (c .before .before .before .before .before .before .before)))
 
 same-length-2 : tie.Need-same-length-2
 same-length-2 c = search needs

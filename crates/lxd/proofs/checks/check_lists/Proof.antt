@@ -23,6 +23,12 @@ use Rattle.lxd.proofs.checks.lacks_byte.Reads as lacks-byte-reads
 use Rattle.export.proofs.lacks_label.Reads as lacks-label-reads
 
 module _ (s : tie.Start) where
+  abbrev g : List ℕ
+  g = s .args .nodes .now
+
+  abbrev labels : List ℕ
+  labels = s .args .labels .now
+
   abbrev title : List ℕ
   title = s .args .title .now
 
@@ -30,57 +36,73 @@ module _ (s : tie.Start) where
   date = s .args .date .now
 
   -- the row's answer by the first of its checks after the graph's that holds
-  stops : (k : ℕ) → let r = listsRow (s .args .nodes .now) (s .args .labels .now) title date (s .args .lent-work) in
-      StopsAt k r → some (answerAt k r) ≡ firstOf (row (s .args .nodes .now) (s .args .labels .now) title date (s .args .lent-work))
-  stops k = lists-refuse (s .args .nodes .now) (s .args .labels .now) title date (s .args .lent-work) (s .pre) k
+  stops : (k : ℕ) → let r = listsRow g labels title date (s .args .lent-work) in
+      StopsAt k r → some (answerAt k r) ≡ firstOf (row g labels title date (s .args .lent-work))
+  stops = lists-refuse g labels title date (s .args .lent-work) (s .pre)
 
 lacks-byte-requires : tie.Need-lacks-byte-requires
 lacks-byte-requires c κs = search needs
 
-title-bytes : (c : tie.Else1) → someOf noByte (title (c .before .before .before .before .before .before)) ≡ false
+title-bytes : (c : tie.Else1) → let s = c .before .before .before .before .before .before in someOf noByte (title s) ≡ false
 title-bytes c = sym (c .before .lacks-byte .ensures) ∙ c .if1 .left
 
-title-fits : (c : tie.Else2) → ltb 31 (length (title (c .before .before .before .before .before .before .before))) ≡ false
+title-fits : (c : tie.Else2) → let s = c .before .before .before .before .before .before .before in ltb 31 (length (title s)) ≡ false
 title-fits c = le-ltb _ _ (c .if2 .left)
 
-date-bytes : (c : tie.Else3) → someOf noByte (date (c .before .before .before .before .before .before .before .before .before)) ≡ false
+date-bytes : (c : tie.Else3) → let s = c .before .before .before .before .before .before .before .before .before in someOf noByte (date s) ≡ false
 date-bytes c = sym (c .before .lacks-byte2 .ensures) ∙ c .if3 .left
 
-date-fits : (c : tie.Else4) → ltb 19 (length (date (c .before .before .before .before .before .before .before .before .before .before))) ≡ false
+date-fits : (c : tie.Else4) → let s = c .before .before .before .before .before .before .before .before .before .before in ltb 19 (length (date s)) ≡ false
 date-fits c = le-ltb _ _ (c .if4 .left)
 
-labelled : (c : tie.Else5) → unlabelled (c .before .before .before .before .before .before .before .before .before .before .before .before .args .nodes .now) (c .before .before .before .before .before .before .before .before .before .before .before .before .args .labels .now) ≡ false
+labelled : (c : tie.Else5) → let s = c .before .before .before .before .before .before .before .before .before .before .before .before in unlabelled (g s) (labels s) ≡ false
 labelled c = sym (c .before .lacks-label .ensures) ∙ c .if5 .left
 
 returns : tie.Need-returns
-returns c = stops (c .before .before .before .before .before .before) 0 (sym (c .before .lacks-byte .ensures) ∙ c .if1 .taken)
+returns c = let s = c .before .before .before .before .before .before in
+    stops s 0 (sym (c .before .lacks-byte .ensures) ∙ c .if1 .taken)
 
 returns-2 : tie.Need-returns-2
-returns-2 c = stops (c .before .before .before .before .before .before .before) 1 (title-bytes (c .before), lt-ltb _ _ (c .if2 .taken))
+returns-2 c = let s = c .before .before .before .before .before .before .before in
+    stops s 1 (title-bytes (c .before), lt-ltb _ _ (c .if2 .taken))
 
 lacks-byte-requires-2 : tie.Need-lacks-byte-requires-2
 lacks-byte-requires-2 c κs = search needs
 
 returns-3 : tie.Need-returns-3
-returns-3 c = stops (c .before .before .before .before .before .before .before .before .before) 2 (title-bytes (c .before .before .before), (title-fits (c .before .before), sym (c .before .lacks-byte2 .ensures) ∙ c .if3 .taken))
+returns-3 c = let s = c .before .before .before .before .before .before .before .before .before in
+    stops s 2 (title-bytes (c .before .before .before), (title-fits (c .before .before), sym (c .before .lacks-byte2 .ensures) ∙ c .if3 .taken))
 
 returns-4 : tie.Need-returns-4
-returns-4 c = stops (c .before .before .before .before .before .before .before .before .before .before) 3 (title-bytes (c .before .before .before .before), (title-fits (c .before .before .before), (date-bytes (c .before), lt-ltb _ _ (c .if4 .taken))))
+returns-4 c = let s = c .before .before .before .before .before .before .before .before .before .before in
+    stops s 3 (title-bytes (c .before .before .before .before), (title-fits (c .before .before .before), (date-bytes (c .before), lt-ltb _ _ (c .if4 .taken))))
 
 lacks-label-requires : tie.Need-lacks-label-requires
 lacks-label-requires c κs = search needs
 
 returns-5 : tie.Need-returns-5
-returns-5 c = stops (c .before .before .before .before .before .before .before .before .before .before .before .before) 4 (title-bytes (c .before .before .before .before .before .before), (title-fits (c .before .before .before .before .before), (date-bytes (c .before .before .before), (date-fits (c .before .before), sym (c .before .lacks-label .ensures) ∙ c .if5 .taken))))
+returns-5 c = let s = c .before .before .before .before .before .before .before .before .before .before .before .before in
+    let title-ok = title-fits (c .before .before .before .before .before) in
+    let lacks = sym (c .before .lacks-label .ensures) ∙ c .if5 .taken in
+    stops s 4 (title-bytes (c .before .before .before .before .before .before), (title-ok, (date-bytes (c .before .before .before), (date-fits (c .before .before), lacks))))
 
 mul-if6 : tie.Need-mul-if6
-mul-if6 c = let f = fit (c .before .before .before .before .before .before .before .before .before .before .before .before .args .nodes .now) (c .before .before .before .before .before .before .before .before .before .before .before .before .pre) in let m = f .most in omega arith
+mul-if6 c = let s = c .before .before .before .before .before .before .before .before .before .before .before .before in
+    let n = fit (g s) (s .pre) .most in
+    omega arith
 
 returns-6 : tie.Need-returns-6
-returns-6 c = stops (c .before .before .before .before .before .before .before .before .before .before .before .before .before) 5 (title-bytes (c .before .before .before .before .before .before .before), (title-fits (c .before .before .before .before .before .before), (date-bytes (c .before .before .before .before), (date-fits (c .before .before .before), (labelled (c .before), lt-ltb _ _ (c .if6 .taken))))))
+returns-6 c = let s = c .before .before .before .before .before .before .before .before .before .before .before .before .before in
+    let title-ok = title-bytes (c .before .before .before .before .before .before .before) in
+    let short = lt-ltb _ _ (c .if6 .taken) in
+    stops s 5 (title-ok, (title-fits (c .before .before .before .before .before .before), (date-bytes (c .before .before .before .before), (date-fits (c .before .before .before), (labelled (c .before), short)))))
 
 returns-7 : tie.Need-returns-7
-returns-7 c = let s = c .before .before .before .before .before .before .before .before .before .before .before .before .before in lists-pass (s .args .nodes .now) (s .args .labels .now) (title s) (date s) (s .args .lent-work) (s .pre) (title-bytes (c .before .before .before .before .before .before .before), (title-fits (c .before .before .before .before .before .before), (date-bytes (c .before .before .before .before), (date-fits (c .before .before .before), (labelled (c .before), (le-ltb _ _ (c .if6 .left), tt))))))
+returns-7 c = let s = c .before .before .before .before .before .before .before .before .before .before .before .before .before in
+    let title-ok = title-bytes (c .before .before .before .before .before .before .before) in
+    let enough = le-ltb _ _ (c .if6 .left) in
+    lists-pass (g s) (labels s) (title s) (date s) (s .args .lent-work) (s .pre)
+    (title-ok, (title-fits (c .before .before .before .before .before .before), (date-bytes (c .before .before .before .before), (date-fits (c .before .before .before), (labelled (c .before), (enough, tt))))))
 
 pub check-lists-spec : {M : Type 1} → statement M
 check-lists-spec =

@@ -32,8 +32,10 @@ no-byte-requires : tie.Need-no-byte-requires Inv-loop μ-loop
 no-byte-requires c κs = search needs
 
 returns : tie.Need-returns Inv-loop μ-loop
-returns c = let w = c .before .before .before .before .loop in
-    sym (some-here noByte (c .before .before .before .before .before .before .args .text .now) 0 (w .i) (c .before .before .before .loop-test .taken) (sym (c .before .no-byte .ensures) ∙ c .if1 .taken)) ∙ w .inv .1
+returns c = let text = c .before .before .before .before .before .before .args .text .now in
+    let w = c .before .before .before .before .loop in
+    let here = sym (c .before .no-byte .ensures) ∙ c .if1 .taken in
+    sym (some-here noByte text 0 (w .i) (c .before .before .before .loop-test .taken) here) ∙ w .inv .1
 
 add-i : tie.Need-add-i Inv-loop μ-loop
 add-i c = search needs
@@ -42,11 +44,15 @@ loop-less : tie.Need-loop-less Inv-loop μ-loop
 loop-less c = search needs
 
 loop-again : tie.Need-loop-again Inv-loop μ-loop
-loop-again c = let w = c .before .before .before .before .loop in
-    (omega arith, sym (some-next noByte (c .before .before .before .before .before .before .args .text .now) 0 (w .i) (c .before .before .before .loop-test .taken) (sym (c .before .no-byte .ensures) ∙ c .if1 .left)) ∙ w .inv .1)
+loop-again c = let text = c .before .before .before .before .before .before .args .text .now in
+    let w = c .before .before .before .before .loop in
+    let not = sym (c .before .no-byte .ensures) ∙ c .if1 .left in
+    (omega arith, sym (some-next noByte text 0 (w .i) (c .before .before .before .loop-test .taken) not) ∙ w .inv .1)
 
 returns-2 : tie.Need-returns-2 Inv-loop μ-loop
-returns-2 c = sym (some-past noByte (c .before .before .before .args .text .now) 0 (c .before .loop .i) (c .loop-test .left)) ∙ c .before .loop .inv .1
+returns-2 c = let text = c .before .before .before .args .text .now in
+    let w = c .before .loop in
+    sym (some-past noByte text 0 (w .i) (c .loop-test .left)) ∙ w .inv .1
 
 pub lacks-byte-spec : {M : Type 1} → statement M
 lacks-byte-spec =

@@ -24,27 +24,32 @@ add-long : tie.Need-add-long
 add-long c = search needs
 
 returns : tie.Need-returns
-returns c = let a = c .before .before .before .before .before .before .before .before .args in
+returns c = let s = c .before .before .before .before .before .before .before .before in
+    let a = s .args in
     let n = c .before .node-count in
     walk-refuses (a .nodes .now) (a .labels .now) (a .title .now) (a .date .now) (a .file .now) 4
-    (file-short (a .nodes .now) (a .labels .now) (a .title .now) (a .date .now) (a .file .now) (a .work .now) (a .words) (a .t) (c .before .before .before .before .before .before .before .before .pre) (n .result) (n .ensures) (c .if1 .taken))
+    (file-short (a .nodes .now) (a .labels .now) (a .title .now) (a .date .now) (a .file .now) (a .work .now) (a .words) (a .t) (s .pre)
+    (n .result) (n .ensures) (c .if1 .taken))
 
 write-header-requires : tie.Need-write-header-requires
 write-header-requires c κs = search needs
 
 write-nodes-requires : tie.Need-write-nodes-requires
 write-nodes-requires c κs = let s = c .before .before .before .before .before .before .before .before .before .before .before .before .before in
-    let e = count-nodes (s .args .nodes .now) (s .args .labels .now) (s .args .work .now) (s .args .words) (s .args .t) (s .pre) in
+    let a = s .args in
+    let n = count-nodes (a .nodes .now) (a .labels .now) (a .work .now) (a .words) (a .t) (s .pre) in
     (s .pre, omega (arith, c .before .before .before .before .before .before .node-count .ensures, c .before .before .before .before .before .if1 .left, c .before .before .before .write-header .kept .0))
 
 same-length : tie.Need-same-length
 same-length c = search needs
 
 returns-2 : tie.Need-returns-2
-returns-2 c = let a = c .before .before .before .before .before .before .before .before .before .before .before .before .before .before .before .before .args in
+returns-2 c = let s = c .before .before .before .before .before .before .before .before .before .before .before .before .before .before .before .before in
+    let a = s .args in
     let n = c .before .before .before .before .before .before .before .before .before .node-count in
-    file-written (a .nodes .now) (a .labels .now) (a .title .now) (a .date .now) (a .file .now) (a .work .now) (a .words) (a .t) (c .before .before .before .before .before .before .before .before .before .before .before .before .before .before .before .before .pre) (n .result) (n .ensures) (c .before .before .before .before .before .before .before .before .if1 .left)
-    (c .before .before .before .before .before .before .write-header .ensures) (c .before .before .write-nodes .ensures)
+    let fits = c .before .before .before .before .before .before .before .before .if1 .left in
+    file-written (a .nodes .now) (a .labels .now) (a .title .now) (a .date .now) (a .file .now) (a .work .now) (a .words) (a .t) (s .pre)
+    (n .result) (n .ensures) fits (c .before .before .before .before .before .before .write-header .ensures) (c .before .before .write-nodes .ensures)
 
 pub write-file-spec : {M : Type 1} → statement M
 write-file-spec =

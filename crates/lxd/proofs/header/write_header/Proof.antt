@@ -28,8 +28,11 @@ same-length c = search needs
 
 returns : tie.Need-returns
 returns c = let a = c .before .before .before .before .before .before .before .before .before .before .before .before .before .before .before .before .before .before .before .before .before .before .before .args in
-    header-written (a .file .now) (a .nodes) (a .title .now) (a .date .now) (a .words)
-    (c .before .before .before .before .before .before .before .before .before .before .before .before .before .before .before .before .before .before .write-le-u32 .ensures) (c .before .before .before .before .before .before .before .before .before .before .before .before .before .before .write-le-u322 .ensures) (c .before .before .before .before .before .before .before .before .before .before .write-text .ensures) (c .before .before .before .before .before .before .write-text2 .ensures) (c .before .before .write-le-u323 .ensures)
+    let first = c .before .before .before .before .before .before .before .before .before .before .before .before .before .before .before .before .before .before .write-le-u32 .ensures in
+    let nodes = c .before .before .before .before .before .before .before .before .before .before .before .before .before .before .write-le-u322 .ensures in
+    let title = c .before .before .before .before .before .before .before .before .before .before .write-text .ensures in
+    let date = c .before .before .before .before .before .before .write-text2 .ensures in
+    header-written (a .file .now) (a .nodes) (a .title .now) (a .date .now) (a .words) first nodes title date (c .before .before .write-le-u323 .ensures)
 
 pub write-header-spec : {M : Type 1} → statement M
 write-header-spec =

@@ -12,7 +12,7 @@ use Rattle.lxd_blocks.proofs.nodes.file_node.Tie as tie
 use Rattle.lxd_blocks.proofs.nodes.file_node.Reads as reads
 use Rattle.lxd_blocks.proofs.nodes.file_node.Lts as lts
 use Rattle.export.proofs.byte_of.Reads as byte-of-reads
-use Rattle.lxd_blocks.proofs.nodes.child.Reads as child-reads
+use Rattle.lxd_blocks.proofs.nodes.child_place.Reads as child-place-reads
 use Rattle.lxd_blocks.proofs.nodes.pack.Reads as pack-reads
 use Rattle.node.proofs.Node24.accepts.Reads as accepts-reads
 use Rattle.node.proofs.Node24.arc_index.Reads as arc-index-reads
@@ -24,12 +24,6 @@ tile-requires c κs = search needs
 
 cast-t : tie.Need-cast-t
 cast-t c = search needs
-
-arc-index-requires : tie.Need-arc-index-requires
-arc-index-requires c κs = search needs
-
-child-requires : tie.Need-child-requires
-child-requires c κs = search needs
 
 mul-byte-of : tie.Need-mul-byte-of
 mul-byte-of c = search needs
@@ -46,16 +40,29 @@ accepts-requires c κs = search needs
 is-end-requires : tie.Need-is-end-requires
 is-end-requires c κs = search needs
 
-child-is : (c : tie.After-child) → c .child .result ≡ childIn (c .before .before .before .before .before .args .work .now) (arc KBWG (c .before .before .before .before .before .args .node))
-child-is c = c .child .ensures ∙ ap (childIn (c .before .before .before .before .before .args .work .now)) (c .before .arc-index .ensures)
+arc-index-requires : tie.Need-arc-index-requires
+arc-index-requires c κs = search needs
+
+child-place-requires : tie.Need-child-place-requires
+child-place-requires c κs = search needs
+
+child-is : (c : tie.After-child-place) →
+    let a = c .before .before .before .before .before .before .before .before .before .args in
+    c .child-place .result ≡ childIn (a .work .now) (arc KBWG (a .node))
+child-is c =
+    let a = c .before .before .before .before .before .before .before .before .before .args in
+    c .child-place .ensures ∙ ap (childIn (a .work .now)) (c .before .arc-index .ensures)
 
 pack-requires : tie.Need-pack-requires
-pack-requires c κs = subst (λ (k : ℕ). k < 2 ^ 22) (sym (child-is (c .before .before .before .before))) (c .before .before .before .before .before .before .before .before .before .pre .1 .1)
+pack-requires c κs = subst (λ (k : ℕ). k < 2 ^ 22) (sym (child-is c)) (c .before .before .before .before .before .before .before .before .before .pre .1 .1)
 
 returns : tie.Need-returns
-returns c = let s = c .before .before .before .before .before .before .before .before .before .before in
-    let letter = c .before .before .before .byte-of .ensures ∙ ap (λ (t : ℕ). byteWritten (getD (s .args .labels .now) t 0)) (c .before .before .before .before .before .before .before .tile .ensures) in
-    c .pack .ensures ∙ node-packed (s .args .labels .now) (s .args .work .now) (s .args .node) letter (c .before .before .accepts .ensures) (c .before .is-end .ensures) (child-is (c .before .before .before .before .before))
+returns c = let a = c .before .before .before .before .before .before .before .before .before .before .args in
+    let tile = c .before .before .before .before .before .before .before .tile .ensures in
+    let letter = c .before .before .before .before .before .byte-of .ensures ∙ ap (λ (t : ℕ). byteWritten (getD (a .labels .now) t 0)) tile in
+    let accepts = c .before .before .before .before .accepts .ensures in
+    let end = c .before .before .before .is-end .ensures in
+    c .pack .ensures ∙ node-packed (a .labels .now) (a .work .now) (a .node) letter accepts end (child-is (c .before))
 
 pub file-node-spec : {M : Type 1} → statement M
 file-node-spec =
@@ -63,12 +70,12 @@ file-node-spec =
     (tie.spec
     tile-requires
     cast-t
-    arc-index-requires
-    child-requires
     mul-byte-of
     shared-slice-read-byte-of
     byte-of-requires
     accepts-requires
     is-end-requires
+    arc-index-requires
+    child-place-requires
     pack-requires
     returns)

@@ -20,11 +20,22 @@ use Rattle.lxd_blocks.proofs.nodes.file_node.Reads as file-node-reads
 use Rattle.node.proofs.Node24.is_end.Reads as is-end-reads
 
 abbrev Inv-loop : tie.InvT-loop
-Inv-loop nodes labels work first file₀ from p₀ at₀ file p at = (p < length nodes) × (length file ≡ length file₀) × (at + length (runBytes nodes labels work p) ≡ from + length (runBytes nodes labels work first))
+Inv-loop nodes labels work first file₀ from p₀ at₀ file p at = (p < length nodes) × (length file ≡ length file₀)
+    × (at + length (runBytes nodes labels work p) ≡ from + length (runBytes nodes labels work first))
     × (sets file at (runBytes nodes labels work p) ≡ sets file₀ from (runBytes nodes labels work first))
 
 abbrev μ-loop : tie.MeasureT-loop
 μ-loop nodes labels work first file₀ from p₀ at₀ file p at = length nodes - p
+
+module _ (s : tie.Start Inv-loop μ-loop) where
+  abbrev g : List ℕ
+  g = s .args .nodes .now
+
+  abbrev labels : List ℕ
+  labels = s .args .labels .now
+
+  abbrev work : List ℕ
+  work = s .args .work .now
 
 loop-holds : tie.Need-loop-holds Inv-loop μ-loop
 loop-holds c = (c .before .before .before .before .pre .1 .0, refl, refl, refl)
@@ -37,25 +48,30 @@ shared-slice-read-node c = search needs
 
 file-node-requires : tie.Need-file-node-requires Inv-loop μ-loop
 file-node-requires c κs = let s = c .before .before .before .before .before .before .before in
-    let inside = c .before .before .loop .inv .0 in
-    let leads = s .pre .0 .fit .steps .arcs (c .before .before .loop .p) inside in
+    let w = c .before .before .loop in
+    let leads = s .pre .0 .fit .steps .arcs (w .p) (w .inv .0) in
     let room = s .pre .0 .room in
-    (labelled-at (s .args .nodes .now) (s .args .labels .now) (s .pre .0 .labelled) (c .before .before .loop .p) inside, (omega arith, s .pre .0 .places (arc KBWG (node (s .args .nodes .now) (c .before .before .loop .p))) leads))
+    let label = labelled-at (g s) (labels s) (s .pre .0 .labelled) (w .p) (w .inv .0) in
+    (label, (omega arith, s .pre .0 .places (arc KBWG (node (g s) (w .p))) leads))
 
 -- room for one node more
 fits : (c : tie.At-loop Inv-loop μ-loop) → c .loop .at + 4 ≤ length (c .loop .file)
 fits c =
     let s = c .before .before .before .before .before in
-    let some = some-bytes (s .args .nodes .now) (s .args .labels .now) (s .args .work .now) (c .loop .p) (c .loop .inv .0) in
+    let some = some-bytes (g s) (labels s) (work s) (c .loop .p) (c .loop .inv .0) in
     omega (arith, c .loop .inv .1, c .loop .inv .2, s .pre .1 .1)
 
 write-le-u32-requires : tie.Need-write-le-u32-requires Inv-loop μ-loop
 write-le-u32-requires c κs = let room = fits (c .before .before .before) in omega arith
 
 -- the node's bytes
-wrote : (c : tie.After-write-le-u32 Inv-loop μ-loop)
-    → c .write-le-u32 .last .0 ≡ sets (c .before .before .before .before .loop .file) (c .before .before .before .before .loop .at) (toBytes (nodeIn (c .before .before .before .before .before .before .before .before .before .args .labels .now) (c .before .before .before .before .before .before .before .before .before .args .work .now) (node (c .before .before .before .before .before .before .before .before .before .args .nodes .now) (c .before .before .before .before .loop .p))))
-wrote c = c .write-le-u32 .ensures ∙ ap (λ (v : ℕ). sets (c .before .before .before .before .loop .file) (c .before .before .before .before .loop .at) (toBytes v)) (c .before .file-node .ensures)
+wrote : (c : tie.After-write-le-u32 Inv-loop μ-loop) →
+    let s = c .before .before .before .before .before .before .before .before .before in
+    let w = c .before .before .before .before .loop in
+    c .write-le-u32 .last .0 ≡ sets (w .file) (w .at) (toBytes (nodeIn (labels s) (work s) (node (g s) (w .p))))
+wrote c =
+    let w = c .before .before .before .before .loop in
+    c .write-le-u32 .ensures ∙ ap (λ (v : ℕ). sets (w .file) (w .at) (toBytes v)) (c .before .file-node .ensures)
 
 add-at : tie.Need-add-at Inv-loop μ-loop
 add-at c = let room = fits (c .before .before .before .before .before .before) in omega (arith, c .before .before .write-le-u32 .kept .0)
@@ -69,7 +85,8 @@ same-length c = c .before .before .before .before .write-le-u32 .kept .0 ∙ c .
 returns : tie.Need-returns Inv-loop μ-loop
 returns c = let s = c .before .before .before .before .before .before .before .before .before .before .before .before .before in
     let w = c .before .before .before .before .before .before .before .before .loop in
-    let own = last-bytes (s .args .nodes .now) (s .args .labels .now) (s .args .work .now) (w .p) (w .inv .0) (sym (c .before .is-end .ensures) ∙ c .if1 .taken) in
+    let last = sym (c .before .is-end .ensures) ∙ c .if1 .taken in
+    let own = last-bytes (g s) (labels s) (work s) (w .p) (w .inv .0) last in
     let size = ap length own in
     (omega (arith, w .inv .2), wrote (c .before .before .before .before) ∙ ap (sets (w .file) (w .at)) (sym own) ∙ w .inv .3)
 
@@ -81,17 +98,17 @@ loop-less c = search needs
 
 loop-again : tie.Need-loop-again Inv-loop μ-loop
 loop-again c = let s = c .before .before .before .before .before .before .before .before .before .before .before .before .before in
-    let g = s .args .nodes .now in
-    let labels = s .args .labels .now in
-    let work = s .args .work .now in
     let w = c .before .before .before .before .before .before .before .before .loop in
+    let node = c .before .before .before .before in
     let more = sym (c .before .is-end .ensures) ∙ c .if1 .left in
     let next = s .pre .0 .fit .steps .runs (w .p) (w .inv .0) more in
-    let size = more-length g labels work (w .p) (w .inv .0) more in (
+    let size = more-length (g s) (labels s) (work s) (w .p) (w .inv .0) more in
+    let rest = runBytes (g s) (labels s) (work s) (w .p + 1) in (
       omega arith,
-      c .before .before .before .before .write-le-u32 .kept .0 ∙ w .inv .1,
+      node .write-le-u32 .kept .0 ∙ w .inv .1,
       omega (arith, w .inv .2),
-      ap (λ (l : List ℕ). sets l (w .at + 4) (runBytes g labels work (w .p + 1))) (wrote (c .before .before .before .before)) ∙ more-written g labels work (w .p) (w .inv .0) more (w .file) (w .at) ∙ w .inv .3,
+      ap (λ (l : List ℕ). sets l (w .at + 4) rest) (wrote node)
+          ∙ more-written (g s) (labels s) (work s) (w .p) (w .inv .0) more (w .file) (w .at) ∙ w .inv .3,
     )
 
 pub write-run-spec : {M : Type 1} → statement M

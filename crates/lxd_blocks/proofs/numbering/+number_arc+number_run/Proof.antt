@@ -4,7 +4,7 @@ use mathlib.Core.Path.{_≡_, refl, sym, ap, _∙_, subst}
 use mathlib.Core.List.{List, [], _∷_, _++_}
 use Prim.Native.Nat.{ℕ, _+_, _-_, _*_, _^_, _<_}
 use native.Mathlib.Omega.{arith}
-use lib.ListN.{length}
+use lib.ListN.{length, getD}
 use borrow.Author.Needs.{needs}
 use borrow.Fn.Kinds.{In}
 use borrow.Fn.PlainCycle.{Measures, is, falls, and}
@@ -18,6 +18,8 @@ use Rattle.export.specs.ChainLaws.{arcsFrom}
 use Rattle.lxd_file.specs.RunsLaws.{size}
 use Rattle.lxd_blocks.specs.Numbered.{Held, NumberedAs}
 use Rattle.lxd_blocks.specs.NumberedLaws.{held-as, held-here}
+use Rattle.lxd_blocks.specs.declared.numbering.Numbering.{Numbering}
+use Rattle.lxd_blocks.specs.declared.numbering.Numbering.the-variants.{TooMany}
 use Rattle.lxd_blocks.proofs.NumberingLaws.{walk, blocks-left, no-arc, arc-known, arc-new, chain-used, run-met, run-over, run-pushed, Along, along-starts, along-goes, along-ends, along-over}
 use Rattle.lxd_blocks.proofs.numbering.number_arc.Reads as number-arc
 use Rattle.lxd_blocks.proofs.numbering.number_arc.Kinds as number-arc-kinds
@@ -63,11 +65,18 @@ module _ (t : ℕ) where
   cast-child c = search needs
 
   arc-returns : arc-lts.Need-returns arc-calls arc-at number-arc.Post
-  arc-returns c = let s = c .before .before .before .before in
-      no-arc (s .args .nodes .now) (s .pre .1 .0 .held) (s .args .chain-left) (arc KBWG (s .args .node)) (sym (c .before .arc-index .ensures) ∙ c .if1 .taken)
+  arc-returns c =
+      let s = c .before .before .before .before in
+      let none = sym (c .before .arc-index .ensures) ∙ c .if1 .taken in
+      no-arc (s .args .nodes .now) (s .pre .1 .0 .held) (s .args .chain-left) (arc KBWG (s .args .node)) none
 
   place-of-requires : arc-lts.Need-place-of-requires arc-calls arc-at number-arc.Post
-  place-of-requires c κs = let r = c .before .before .before .before .before .pre .1 .0 .room in let l = c .before .before .before .before .before .pre .1 .1 in let e = c .before .before .arc-index .ensures in omega arith
+  place-of-requires c κs =
+      let s = c .before .before .before .before .before in
+      let room = s .pre .1 .0 .room in
+      let inside = s .pre .1 .1 in
+      let same = c .before .before .arc-index .ensures in
+      omega arith
 
   arc-enum-told : arc-lts.Need-enum-told arc-calls arc-at number-arc.Post
   arc-enum-told c = search needs
@@ -76,29 +85,38 @@ module _ (t : ℕ) where
   arc-enum-told-2 c = search needs
 
   number-run-requires : arc-lts.Need-number-run-requires arc-calls arc-at number-arc.Post
-  number-run-requires c κs = let s = c .before .before .before .before .before .before .before .before .before in
-      let e = c .before .before .before .before .before .before .arc-index .ensures in
-      let l = s .pre .1 .1 in
-      let new = place-none (s .args .work .now) (c .before .before .before .before .before .before .arc-index .result) (sym (c .before .before .before .place-of .ensures) ∙ c .before .enum-told2 .given .1) in
+  number-run-requires c κs =
+      let s = c .before .before .before .before .before .before .before .before .before in
+      let child = c .before .before .before .before .before .before .arc-index in
+      let inside = s .pre .1 .1 in
+      let same = child .ensures in
+      let new = place-none (s .args .work .now) (child .result) (sym (c .before .before .before .place-of .ensures) ∙ c .before .enum-told2 .given .1) in
       (omega arith, (s .pre .1 .0, (omega arith, new)))
 
   arc-same-length : arc-lts.Need-same-length arc-calls arc-at number-arc.Post
   arc-same-length c = search needs
 
   arc-returns-2 : arc-lts.Need-returns-2 arc-calls arc-at number-arc.Post
-  arc-returns-2 c = let s = c .before .before .before .before .before .before .before .before .before .before .before .before in
+  arc-returns-2 c =
+      let s = c .before .before .before .before .before .before .before .before .before .before .before .before in
+      let g = s .args .nodes .now in
       let run = c .before .before .number-run in
-      arc-new (s .args .nodes .now) (run .last .1 .0) (orderIn (length (s .args .nodes .now)) (s .args .work .now) (s .args .t)) (s .args .chain-left)
-      (arc KBWG (s .args .node)) (run .result) (c .before .before .before .before .before .before .before .before .before .arc-index .ensures) (c .before .before .before .before .before .before .before .before .if1 .left) (run .ensures)
+      let child = c .before .before .before .before .before .before .before .before .before .arc-index .ensures in
+      let some = c .before .before .before .before .before .before .before .before .if1 .left in
+      arc-new g (run .last .1 .0) (orderIn (length g) (s .args .work .now) (s .args .t)) (s .args .chain-left) (arc KBWG (s .args .node))
+      (run .result) child some (run .ensures)
 
   arc-same-length-2 : arc-lts.Need-same-length-2 arc-calls arc-at number-arc.Post
   arc-same-length-2 c = search needs
 
   arc-returns-3 : arc-lts.Need-returns-3 arc-calls arc-at number-arc.Post
-  arc-returns-3 c = let s = c .before .before .before .before .before .before .before .before in
-      let e = c .before .before .before .before .before .arc-index .ensures in
-      let known = ap (placeAt (s .args .work .now)) (sym e) ∙ sym (c .before .before .place-of .ensures) ∙ c .enum-told .given .1 in
-      arc-known (s .args .nodes .now) (s .pre .1 .0 .held) (s .args .chain-left) (arc KBWG (s .args .node)) (s .pre .1 .1) (λ z. c .before .before .before .before .if1 .left (e ∙ z)) known
+  arc-returns-3 c =
+      let s = c .before .before .before .before .before .before .before .before in
+      let child = c .before .before .before .before .before .arc-index .ensures in
+      let some = c .before .before .before .before .if1 .left in
+      let known = ap (placeAt (s .args .work .now)) (sym child) ∙ sym (c .before .before .place-of .ensures) ∙ c .enum-told .given .1 in
+      arc-known (s .args .nodes .now) (s .pre .1 .0 .held) (s .args .chain-left) (arc KBWG (s .args .node)) (s .pre .1 .1)
+      (λ z. some (child ∙ z)) known
 
   -- ---- number_run
   abbrev Inv-loop : run-lts.InvT-loop
@@ -109,44 +127,77 @@ module _ (t : ℕ) where
   μ-loop nodes work₀ p chain-left size sum₀ at₀ work sum at = length nodes - at
 
   abbrev run-calls : run-lts.Claims
-  run-calls = (run-length.Asked, run-length.Learnt, push-block.Asked, push-block.Learnt, arc-below, number-arc.Post, is-end.Asked, is-end.Learnt)
+  run-calls =
+      (run-length.Asked, run-length.Learnt, push-block.Asked, push-block.Learnt, arc-below, number-arc.Post, is-end.Asked, is-end.Learnt)
+
+  module _ (s : run-lts.Start run-calls run-at number-run.Post Inv-loop μ-loop) where
+    abbrev g : List ℕ
+    g = s .args .nodes .now
+
+    -- the runs met before
+    abbrev seen : List ℕ
+    seen = orderIn (length g) (s .args .work .now) (s .args .t)
+
+    held : Held g (s .args .work .now) (s .args .t) seen
+    held = s .pre .1 .0 .held
+
+    inside : s .args .p < length g
+    inside = s .pre .1 .1 .0
+
+    new : getD (s .args .work .now) (s .args .p) 0 ≡ 0
+    new = s .pre .1 .1 .1
 
   run-returns : run-lts.Need-returns run-calls run-at number-run.Post Inv-loop μ-loop
-  run-returns c = let s = c .before .before .before in chain-used (s .args .nodes .now) (s .pre .1 .0 .held) (s .args .chain-left) (s .args .p) (c .if1 .taken)
+  run-returns c =
+      let s = c .before .before .before in
+      chain-used (g s) (held s) (s .args .chain-left) (s .args .p) (c .if1 .taken)
 
   run-length-requires : run-lts.Need-run-length-requires run-calls run-at number-run.Post Inv-loop μ-loop
-  run-length-requires c κs = let s = c .before .before .before in (s .pre .1 .0 .fit, s .pre .1 .1 .0)
+  run-length-requires c κs =
+      let s = c .before .before .before in
+      (s .pre .1 .0 .fit, inside s)
 
   sub-if2 : run-lts.Need-sub-if2 run-calls run-at number-run.Post Inv-loop μ-loop
   sub-if2 c = c .before .before .before .before .before .pre .1 .0 .held .within
 
   run-returns-2 : run-lts.Need-returns-2 run-calls run-at number-run.Post Inv-loop μ-loop
-  run-returns-2 c = let s = c .before .before .before .before .before .before in
+  run-returns-2 c =
+      let s = c .before .before .before .before .before .before in
       let size = c .before .before .run-length .ensures in
-      run-over (s .args .nodes .now) (s .pre .1 .0 .held) (s .args .p) (s .pre .1 .1 .0) (s .pre .1 .1 .1) (s .args .chain-left) (c .before .before .before .if1 .left) (omega (arith, c .if2 .taken))
+      run-over (g s) (held s) (s .args .p) (inside s) (new s) (s .args .chain-left) (c .before .before .before .if1 .left) (omega (arith, c .if2 .taken))
 
   push-block-requires : run-lts.Need-push-block-requires run-calls run-at number-run.Post Inv-loop μ-loop
-  push-block-requires c κs = let s = c .before .before .before .before .before .before .before in
-      let few = blocks-left (s .args .nodes .now) (s .pre .1 .0 .held) (s .args .p) (s .pre .1 .1 .0) (s .pre .1 .1 .1) in
+  push-block-requires c κs =
+      let s = c .before .before .before .before .before .before .before in
+      let few = blocks-left (g s) (held s) (s .args .p) (inside s) (new s) in
       let within = s .pre .1 .0 .held .within in
       let fits = c .before .if2 .left in
-      (s .pre .1 .0 .fit .most, s .pre .1 .0 .room, s .pre .1 .1 .0, few, omega arith, omega arith)
+      (s .pre .1 .0 .fit .most, s .pre .1 .0 .room, inside s, few, omega arith, omega arith)
 
+  -- where the run itself is numbered
   module _ (c : run-lts.After-push-block run-calls run-at number-run.Post Inv-loop μ-loop) where
-    abbrev s : run-lts.Start run-calls run-at number-run.Post Inv-loop μ-loop
-    s = c .before .before .before .before .before .before .before .before
+    abbrev from : run-lts.Start run-calls run-at number-run.Post Inv-loop μ-loop
+    from = c .before .before .before .before .before .before .before .before
 
-    -- the run itself is held
-    pushed : Held (s .args .nodes .now) (c .push-block .last .1 .0) (c .push-block .result) (orderIn (length (s .args .nodes .now)) (s .args .work .now) (s .args .t) ++ s .args .p ∷ [])
-    pushed = run-pushed (s .args .nodes .now) (s .pre .1 .0 .held) (s .args .p) (s .pre .1 .1 .0) (s .pre .1 .1 .1) _ _ _ (s .pre .1 .0 .room) (c .before .before .before .before .run-length .ensures) (c .before .before .if2 .left) (c .push-block .ensures)
+    abbrev own : List ℕ
+    own = orderIn (length (g from)) (c .push-block .last .1 .0) (c .push-block .result)
+
+    pushed : Held (g from) (c .push-block .last .1 .0) (c .push-block .result) (seen from ++ from .args .p ∷ [])
+    pushed =
+        run-pushed (g from) (held from) (from .args .p) (inside from) (new from) _ _ _ (from .pre .1 .0 .room) (c .before .before .before .before .run-length .ensures)
+        (c .before .before .if2 .left) (c .push-block .ensures)
 
     -- what is met from its arcs is what is met from it
-    whole : walk (s .args .nodes .now) (s .args .chain-left - 1) (orderIn (length (s .args .nodes .now)) (c .push-block .last .1 .0) (c .push-block .result)) (runOf (s .args .nodes .now) (s .args .p))
-        ≡ met (arcsFrom (s .args .nodes .now)) (s .args .chain-left) (orderIn (length (s .args .nodes .now)) (s .args .work .now) (s .args .t)) (s .args .p)
-    whole = run-met (s .args .nodes .now) (s .pre .1 .0 .held) (s .args .p) (s .pre .1 .1 .0) (s .pre .1 .1 .1) (s .args .chain-left) _ (c .before .before .before .before .before .if1 .left) (pushed .runs .order)
+    whole : walk (g from) (from .args .chain-left - 1) own (runOf (g from) (from .args .p))
+        ≡ met (arcsFrom (g from)) (from .args .chain-left) (seen from) (from .args .p)
+    whole =
+        run-met (g from) (held from) (from .args .p) (inside from) (new from) (from .args .chain-left) own (c .before .before .before .before .before .if1 .left)
+        (pushed .runs .order)
 
   loop-holds : run-lts.Need-loop-holds run-calls run-at number-run.Post Inv-loop μ-loop
-  loop-holds c = (refl, along-starts (c .before .before .before .before .before .before .before .before .before .before .args .nodes .now) (c .before .before .before .before .before .before .before .before .before .before .pre .1 .1 .0) (held-here (c .before .before .before .before .before .before .before .before .before .before .args .nodes .now) (pushed (c .before .before))))
+  loop-holds c =
+      let s = c .before .before .before .before .before .before .before .before .before .before in
+      (refl, along-starts (g s) (inside s) (held-here (g s) (pushed (c .before .before))))
 
   mul-node : run-lts.Need-mul-node run-calls run-at number-run.Post Inv-loop μ-loop
   mul-node c = search needs
@@ -158,11 +209,13 @@ module _ (t : ℕ) where
   sub-number-arc c = search needs
 
   number-arc-requires : run-lts.Need-number-arc-requires run-calls run-at number-run.Post Inv-loop μ-loop
-  number-arc-requires c κs = let s = c .before .before .before .before .before .before .before .before .before .before .before .before .before in
-      let w = c .before .before .loop .inv in
+  number-arc-requires c κs =
+      let s = c .before .before .before .before .before .before .before .before .before .before .before .before .before in
+      let w = c .before .before .loop in
       let room = s .pre .1 .0 .room in
       let same = c .before .before .before .before .before .push-block .kept .1 .0 in
-      (omega arith, (record { fit = s .pre .1 .0 .fit; room = omega (arith, w .0); held = w .1 .held }, s .pre .1 .0 .fit .steps .arcs (c .before .before .loop .at) (w .1 .inside)))
+      let leads = s .pre .1 .0 .fit .steps .arcs (w .at) (w .inv .1 .inside) in
+      (omega arith, (record { fit = s .pre .1 .0 .fit; room = omega (arith, w .inv .0); held = w .inv .1 .held }, leads))
 
   enum-known-numbered : run-lts.Need-enum-known-numbered run-calls run-at number-run.Post Inv-loop μ-loop
   enum-known-numbered c = search needs
@@ -171,12 +224,31 @@ module _ (t : ℕ) where
   run-enum-told c = search needs
 
   run-same-length : run-lts.Need-same-length run-calls run-at number-run.Post Inv-loop μ-loop
-  run-same-length c = c .before .before .before .before .number-arc .kept .1 .0 ∙ c .before .before .before .before .before .before .before .loop .inv .0 ∙ c .before .before .before .before .before .before .before .before .before .before .push-block .kept .1 .0
+  run-same-length c =
+      let same = c .before .before .before .before .before .before .before .before .before .before .push-block .kept .1 .0 in
+      c .before .before .before .before .number-arc .kept .1 .0 ∙ c .before .before .before .before .before .before .before .loop .inv .0 ∙ same
+
+  -- ---- a turn of the loop
+  module _ (c : run-lts.After-number-arc run-calls run-at number-run.Post Inv-loop μ-loop) where
+    abbrev first : run-lts.Start run-calls run-at number-run.Post Inv-loop μ-loop
+    first = c .before .before .before .before .before .before .before .before .before .before .before .before .before .before
+
+    abbrev w : run-lts.At-loop·own run-calls run-at number-run.Post Inv-loop μ-loop (c .before .before .before .before)
+    w = c .before .before .before .loop
+
+    -- the runs met after the arc of the node at hand
+    abbrev next : List ℕ
+    next = metBy (arcsFrom (g first)) (first .args .chain-left - 1) (orderIn (length (g first)) (w .work) (w .sum)) (arc KBWG (node (g first) (w .at)))
+
+    turn : (r : Numbering) → c .number-arc .result ≡ r → NumberedAs (g first) (c .number-arc .last .1 .0) next r
+    turn r e = subst (NumberedAs (g first) (c .number-arc .last .1 .0) next) e (c .number-arc .ensures)
 
   run-returns-3 : run-lts.Need-returns-3 run-calls run-at number-run.Post Inv-loop μ-loop
-  run-returns-3 c = let g = c .before .before .before .before .before .before .before .before .before .before .before .before .before .before .before .before .before .before .args .nodes .now in
-      subst (λ (x : List ℕ). 2 ^ 22 < 2 + total (size g) x) (whole (c .before .before .before .before .before .before .before .before .before .before))
-      (along-over g (c .before .before .before .before .before .before .before .loop .inv .1) (subst (NumberedAs g _ _) (c .enum-told .given .1) (c .before .before .before .before .number-arc .ensures)))
+  run-returns-3 c =
+      let s = c .before .before .before .before .before .before .before .before .before .before .before .before .before .before .before .before .before .before in
+      let k = c .before .before .before .before .before .before .before .loop .inv .1 in
+      subst (λ (x : List ℕ). 2 ^ 22 < 2 + total (size (g s)) x) (whole (c .before .before .before .before .before .before .before .before .before .before))
+      (along-over (g s) k (turn (c .before .before .before .before) TooMany (c .enum-told .given .1)))
 
   is-end-requires : run-lts.Need-is-end-requires run-calls run-at number-run.Post Inv-loop μ-loop
   is-end-requires c κs = search needs
@@ -187,28 +259,28 @@ module _ (t : ℕ) where
   loop-less : run-lts.Need-loop-less run-calls run-at number-run.Post Inv-loop μ-loop
   loop-less c = search needs
 
-  -- what a turn holds
-  turn : (c : run-lts.After-known-told run-calls run-at number-run.Post Inv-loop μ-loop)
-      → let g = c .before .before .before .before .before .before .before .before .before .before .before .before .before .before .before .before .before .before .before .args .nodes .now in
-      let w = c .before .before .before .before .before .before .before .before .loop in
-      Held g (c .before .before .before .before .before .number-arc .last .1 .0) (c .before .numbered .given .0 .0)
-      (metBy (arcsFrom g) (c .before .before .before .before .before .before .before .before .before .before .before .before .before .before .before .before .before .before .before .args .chain-left - 1) (orderIn (length g) (w .work) (w .sum)) (arc KBWG (node g (w .at))))
-  turn c = subst (NumberedAs _ _ _) (c .before .numbered .given .1) (c .before .before .before .before .before .number-arc .ensures)
-
   loop-again : run-lts.Need-loop-again run-calls run-at number-run.Post Inv-loop μ-loop
-  loop-again c = let g = c .before .before .before .before .before .before .before .before .before .before .before .before .before .before .before .before .before .before .before .before .before .args .nodes .now in
-      let w = c .before .before .before .before .before .before .before .before .before .before .loop .inv in
-      let more = sym (c .before .is-end .ensures) ∙ c .if3 .left in (
-        c .before .before .before .before .before .before .before .number-arc .kept .1 .0 ∙ w .0,
-        along-goes g (w .1) more (c .before .before .before .before .before .before .before .before .before .before .before .before .before .before .before .before .before .before .before .before .before .pre .1 .0 .fit .steps .runs (c .before .before .before .before .before .before .before .before .before .before .loop .at) (w .1 .inside) more) (turn (c .before .before)),
-      )
+  loop-again c =
+      let s = c .before .before .before .before .before .before .before .before .before .before .before .before .before .before .before .before .before .before .before .before .before in
+      let loop = c .before .before .before .before .before .before .before .before .before .before .loop in
+      let k = loop .inv .1 in
+      let arc = c .before .before .before .before .before .before .before in
+      let more = sym (c .before .is-end .ensures) ∙ c .if3 .left in
+      let on = s .pre .1 .0 .fit .steps .runs (loop .at) (k .inside) more in
+      (arc .number-arc .kept .1 .0 ∙ loop .inv .0, along-goes (g s) k more on (turn arc _ (c .before .before .before .numbered .given .1)))
 
   run-same-length-2 : run-lts.Need-same-length-2 run-calls run-at number-run.Post Inv-loop μ-loop
-  run-same-length-2 c = c .before .before .before .before .before .before .before .number-arc .kept .1 .0 ∙ c .before .before .before .before .before .before .before .before .before .before .loop .inv .0 ∙ c .before .before .before .before .before .before .before .before .before .before .before .before .before .push-block .kept .1 .0
+  run-same-length-2 c =
+      let same = c .before .before .before .before .before .before .before .before .before .before .before .before .before .push-block .kept .1 .0 in
+      c .before .before .before .before .before .before .before .number-arc .kept .1 .0 ∙ c .before .before .before .before .before .before .before .before .before .before .loop .inv .0 ∙ same
 
   run-returns-4 : run-lts.Need-returns-4 run-calls run-at number-run.Post Inv-loop μ-loop
-  run-returns-4 c = let g = c .before .before .before .before .before .before .before .before .before .before .before .before .before .before .before .before .before .before .before .before .before .args .nodes .now in
-      held-as g (whole (c .before .before .before .before .before .before .before .before .before .before .before .before .before)) (along-ends g (c .before .before .before .before .before .before .before .before .before .before .loop .inv .1) (sym (c .before .is-end .ensures) ∙ c .if3 .taken) (turn (c .before .before)))
+  run-returns-4 c =
+      let s = c .before .before .before .before .before .before .before .before .before .before .before .before .before .before .before .before .before .before .before .before .before in
+      let k = c .before .before .before .before .before .before .before .before .before .before .loop .inv .1 in
+      let last = sym (c .before .is-end .ensures) ∙ c .if3 .taken in
+      let numbered = turn (c .before .before .before .before .before .before .before) _ (c .before .before .before .numbered .given .1) in
+      held-as (g s) (whole (c .before .before .before .before .before .before .before .before .before .before .before .before .before)) (along-ends (g s) k last numbered)
 
 pub +number-arc+number-run-spec : {M : Type 1} → statement M
 +number-arc+number-run-spec =

@@ -31,7 +31,10 @@ is-end-requires : tie.Need-is-end-requires Inv-loop μ-loop
 is-end-requires c κs = search needs
 
 returns : tie.Need-returns Inv-loop μ-loop
-returns c = let sizes = size-last (c .before .before .before .before .before .args .nodes .now) (c .before .before .before .loop .at) (c .before .before .before .loop .inv .1) (sym (c .before .is-end .ensures) ∙ c .if1 .taken) in omega arith
+returns c = let s = c .before .before .before .before .before in
+    let w = c .before .before .before .loop in
+    let sizes = size-last (s .args .nodes .now) (w .at) (w .inv .1) (sym (c .before .is-end .ensures) ∙ c .if1 .taken) in
+    omega arith
 
 add-at : tie.Need-add-at Inv-loop μ-loop
 add-at c = search needs
