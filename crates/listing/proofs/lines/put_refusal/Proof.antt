@@ -1,0 +1,57 @@
+-- A refusal's line is its three parts, put one after the other.
+use native.Mathlib.Omega.{arith}
+use mathlib.Core.Path.{refl, ap}
+use Prim.Native.Nat.{_+_}
+use lib.ListN.{length}
+use lib.Seq.{length-sets}
+use Rattle.listing.specs.Lines.{refusedTab, refusal}
+use Rattle.listing.specs.LinesLaws.{refusal-parts}
+use Rattle.listing.specs.PutLaws.{put-size, put-both}
+use Rattle.listing.specs.Said.{Puts}
+use borrow.Author.Needs.{needs}
+use Rattle.listing.proofs.lines.put_refusal.Statement.{statement}
+use Rattle.listing.proofs.lines.put_refusal.Tie as tie
+
+slice-aggregate-write-bytes : tie.Need-slice-aggregate-write-bytes
+slice-aggregate-write-bytes c = search needs
+
+write-bytes-requires : tie.Need-write-bytes-requires
+write-bytes-requires c κs = let s = c .before .before .before in omega (arith, s .pre, refusal-parts (s .args .number))
+
+add-put-number : tie.Need-add-put-number
+add-put-number c = let s = c .before .before .before .before .before .before .before in
+    omega (arith, s .pre, refusal-parts (s .args .number))
+
+put-number-requires : tie.Need-put-number-requires
+put-number-requires c κs = let s = c .before .before .before .before .before .before .before in
+    let l = ap length (c .before .before .before .write-bytes .ensures) in
+    omega (arith, s .pre, refusal-parts (s .args .number), l, length-sets (s .args .out .now) (s .args .at) refusedTab)
+
+put-byte-requires : tie.Need-put-byte-requires
+put-byte-requires c κs = let s = c .before .before .before .before .before .before .before .before .before .before .before in
+    let p = c .before .before .before .put-number .ensures in
+    let l = ap length (c .before .before .before .before .before .before .before .write-bytes .ensures) in
+    let m = length-sets (s .args .out .now) (s .args .at) refusedTab in
+    omega (arith, s .pre, refusal-parts (s .args .number), p .place, put-size p, l, m)
+
+same-length : tie.Need-same-length
+same-length c = search needs
+
+returns : tie.Need-returns
+unfolding refusal
+returns c = let s = c .before .before .before .before .before .before .before .before .before .before .before .before .before .before .args in
+    let put = c .before .before .before .before .before .before .before .before .before .before .write-bytes .ensures in
+    let first : Puts refusedTab (s .out .now) (s .at) _ (s .at + 8) = record { place = refl; stored = put } in
+    put-both (put-both first (c .before .before .before .before .before .before .put-number .ensures)) (c .before .before .put-byte .ensures)
+
+pub put-refusal-spec : {M : Type 1} → statement M
+put-refusal-spec =
+    tie.close
+    (tie.spec
+    slice-aggregate-write-bytes
+    write-bytes-requires
+    add-put-number
+    put-number-requires
+    put-byte-requires
+    same-length
+    returns)

@@ -1,0 +1,61 @@
+-- Each answer of finish has its number.
+use mathlib.Core.Path.{refl, sym, subst}
+use Rattle.load.specs.Said.{saidFinish}
+use Rattle.listing.specs.Wordlist.{RefusesBy}
+use Rattle.load.specs.declared.loader.Finished.{Finished}
+use borrow.Author.Needs.{needs}
+use Rattle.listing.proofs.opening.after_begin.Statement.{statement}
+use Rattle.listing.proofs.opening.after_begin.Tie as tie
+
+enum-known-finished : tie.Need-enum-known-finished
+enum-known-finished c = search needs
+
+enum-told : tie.Need-enum-told
+enum-told c = search needs
+
+enum-told-2 : tie.Need-enum-told-2
+enum-told-2 c = search needs
+
+enum-told-3 : tie.Need-enum-told-3
+enum-told-3 c = search needs
+
+enum-told-4 : tie.Need-enum-told-4
+enum-told-4 c = search needs
+
+enum-told-5 : tie.Need-enum-told-5
+enum-told-5 c = search needs
+
+returns : tie.Need-returns
+returns c = search needs
+
+returns-2 : tie.Need-returns-2
+returns-2 c = subst (λ (f : Finished). RefusesBy (saidFinish f) 4) (sym (c .enum-told .given .1)) refl
+
+returns-3 : tie.Need-returns-3
+returns-3 c = subst (λ (f : Finished). RefusesBy (saidFinish f) 6) (sym (c .enum-told2 .given .1)) refl
+
+returns-4 : tie.Need-returns-4
+returns-4 c = subst (λ (f : Finished). RefusesBy (saidFinish f) 7) (sym (c .enum-told3 .given .1)) refl
+
+returns-5 : tie.Need-returns-5
+returns-5 c = subst (λ (f : Finished). RefusesBy (saidFinish f) 8) (sym (c .enum-told4 .given .1)) refl
+
+returns-6 : tie.Need-returns-6
+returns-6 c = subst (λ (f : Finished). RefusesBy (saidFinish f) 9) (sym (c .enum-told5 .given .1)) refl
+
+pub after-begin-spec : {M : Type 1} → statement M
+after-begin-spec =
+    tie.close
+    (tie.spec
+    enum-known-finished
+    enum-told
+    enum-told-2
+    enum-told-3
+    enum-told-4
+    enum-told-5
+    returns
+    returns-2
+    returns-3
+    returns-4
+    returns-5
+    returns-6)

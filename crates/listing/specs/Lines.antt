@@ -1,0 +1,37 @@
+-- The lines of `wordlist`, as bytes; from document 01, "Five nodes to check by".
+use mathlib.Core.Bool.{true, false}
+use mathlib.Core.List.{List, [], _∷_, _++_}
+use Prim.Native.Nat.{ℕ, zero, suc, _+_, _/_, _%_}
+use lib.Dec.{ltb}
+use Rattle.graph.specs.Words.{Word}
+
+-- a number in decimal digits, the highest first, where k are enough
+unfoldable pub decimalWithin : ℕ → ℕ → List ℕ
+decimalWithin zero n = []
+decimalWithin (suc k) n = elim (ltb n 10) [ true ↦ (0x30 + n) ∷ [] | false ↦ decimalWithin k (n / 10) ++ (0x30 + n % 10) ∷ [] ]
+
+-- more than n digits are always enough (`decimal-one`, `decimal-more`)
+unfoldable pub decimal : ℕ → List ℕ
+decimal n = decimalWithin (suc n) n
+
+-- each tile after a space
+unfoldable pub spaced : Word → List ℕ
+spaced [] = []
+spaced (t ∷ w) = 0x20 ∷ decimal t ++ spaced w
+
+-- "tiles parted by spaces"
+unfoldable pub parted : Word → List ℕ
+parted [] = []
+parted (t ∷ w) = decimal t ++ spaced w
+
+-- "number, tab, tiles parted by spaces. Every line ends in byte 0A hexadecimal."
+unfoldable pub line : ℕ → Word → List ℕ
+line number w = decimal number ++ (0x09 ∷ parted w) ++ 0x0A ∷ []
+
+-- the bytes of `refused`, and a tab
+abbrev pub refusedTab : List ℕ
+refusedTab = 0x72 ∷ 0x65 ∷ 0x66 ∷ 0x75 ∷ 0x73 ∷ 0x65 ∷ 0x64 ∷ 0x09 ∷ []
+
+-- "A refusal prints `refused`, tab, number"
+unfoldable pub refusal : ℕ → List ℕ
+refusal number = refusedTab ++ decimal number ++ 0x0A ∷ []

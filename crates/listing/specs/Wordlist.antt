@@ -1,0 +1,100 @@
+-- What the program `wordlist` prints for an input; from document 01, "Five nodes to check by".
+use mathlib.Core.Path.{_≡_}
+use mathlib.Core.Bool.{true, false}
+use mathlib.Core.List.{List, [], _∷_, _++_}
+use Prim.Native.Nat.{ℕ, suc, _*_, _≤_, _<_}
+use lib.Dec.{eqb, ltb}
+use lib.ListN.{length, take}
+use Rattle.node.specs.Answers.{Answer, gives, nothing, refused}
+use Rattle.node.specs.Nodes.{KBWG, arc}
+use Rattle.node.specs.declared.Layout.the-variants.{Kwg}
+use Rattle.graph.specs.Runs.{Graph, node}
+use Rattle.graph.specs.Words.{Word, words}
+use Rattle.graph.specs.Counting.{Counted, countRow}
+use Rattle.graph.specs.Lent.{WorkKept}
+use Rattle.count.specs.Said.{limit}
+use Rattle.pieces.specs.Pieces.{Loads, loadWhole}
+use Rattle.listing.specs.Lines.{line, refusal}
+
+-- ---- the words
+-- "The start node s is node 0's arc"
+abbrev pub start : Graph → ℕ
+start g = arc KBWG (node g 0)
+
+-- "each word from the start (none if its arc is 0)"
+unfoldable pub startWords : Graph → List Word
+startWords g = elim (eqb (start g) 0) [ true ↦ [] | false ↦ words KBWG g (start g) ]
+
+-- "a word of over 256 tiles is 16"
+abbrev pub mostTiles : ℕ
+mostTiles = 256
+
+-- the words with their numbers, from number i on; "A refusal .. ends the output"
+unfoldable pub listed : ℕ → List Word → List ℕ
+listed i [] = []
+listed i (w ∷ ws) = elim (ltb mostTiles (length w)) [ true ↦ refusal 16 | false ↦ line i w ++ listed (suc i) ws ]
+
+-- ---- loading and counting
+-- "reads a KWG of up to 4,096 nodes", of four bytes each
+abbrev pub mostBytes : ℕ
+mostBytes = 16_384
+
+-- the load of a whole input, over lent nodes
+abbrev pub load : List ℕ → List ℕ → Loads
+load input lentNodes = loadWhole (length input) Kwg lentNodes input
+
+-- its answer: begin's refusal, or else what finish answers
+abbrev pub lastAnswer : Answer → Answer → Answer
+lastAnswer (refused n vs) finished = refused n vs
+lastAnswer (gives vs) finished = finished
+lastAnswer nothing finished = finished
+
+abbrev pub loadAnswer : Loads → Answer
+loadAnswer l = lastAnswer (l .begun) (l .finished)
+
+-- an answer that refuses by this number, whatever it carries
+abbrev pub RefusesBy : Answer → ℕ → Type 0
+RefusesBy (refused m vs) n = m ≡ n
+RefusesBy (gives vs) n = ⊥
+RefusesBy nothing n = ⊥
+
+-- the work list once a graph was counted
+abbrev pub CountWork : Graph → List ℕ → List ℕ → List ℕ → Type 0
+CountWork g lentCounts lentWork work = WorkKept (countRow g (length lentCounts) (length lentWork)) (2 * length g) lentWork work
+
+-- What opening an input ends in: a refusal's number, or a graph that loads and counts.
+pub data Ends : Type 0 where
+  refuses : ℕ → Ends
+  lists : Graph → Ends
+
+-- How opening an input ends, over lent nodes, counts and work, and these lists then.
+module _ (input lentNodes lentCounts lentWork : List ℕ) where
+  pub data Opens : Ends → List ℕ → List ℕ → List ℕ → Type 0 where
+    -- "a longer input is 2"
+    longer : mostBytes < length input → Opens (refuses 2) lentNodes lentCounts lentWork
+    unloaded : {n : ℕ} → length input ≤ mostBytes → RefusesBy (loadAnswer (load input lentNodes)) n
+        → Opens (refuses n) (load input lentNodes .nodes) lentCounts lentWork
+    uncounted : {n size : ℕ} {r : Answer} {counts work : List ℕ} → length input ≤ mostBytes
+        → loadAnswer (load input lentNodes) ≡ gives (size ∷ [])
+        → Counted limit (take size (load input lentNodes .nodes)) lentCounts (length lentWork) r counts → RefusesBy r n
+        → CountWork (take size (load input lentNodes .nodes)) lentCounts lentWork work
+        → Opens (refuses n) (load input lentNodes .nodes) counts work
+    counted : {size : ℕ} {counts work : List ℕ} → length input ≤ mostBytes → loadAnswer (load input lentNodes) ≡ gives (size ∷ [])
+        → Counted limit (take size (load input lentNodes .nodes)) lentCounts (length lentWork) (gives []) counts
+        → CountWork (take size (load input lentNodes .nodes)) lentCounts lentWork work
+        → Opens (lists (take size (load input lentNodes .nodes))) (load input lentNodes .nodes) counts work
+
+-- ---- what is printed
+-- "A refusal prints `refused`, tab, number"; else the words from the start, numbered from 0
+abbrev pub printed : Ends → List ℕ
+printed (refuses n) = refusal n
+printed (lists g) = listed 0 (startWords g)
+
+-- The whole output for an input. It is determined, though the node in refusal 12 is the program's choice (`prints-once`).
+pub record Prints (input lentNodes lentCounts lentWork output : List ℕ) : Type 0 where
+  pub ends : Ends
+  pub nodes : List ℕ
+  pub counts : List ℕ
+  pub work : List ℕ
+  pub opens : Opens input lentNodes lentCounts lentWork ends nodes counts work
+  pub is : output ≡ printed ends

@@ -1,0 +1,110 @@
+// The lines of a graph's words, a block at a time.
+ghost use mathlib.Core.Path.{_≡_};
+ghost use Prim.Native.Nat.{_+_, _≤_};
+ghost use lib.ListN.{length};
+ghost use Rattle.listing.specs.Blocks.{longest, numbersIn, block};
+ghost use Rattle.listing.specs.Said.{walkFrom, PutWord, Fills};
+use crate::lines::put_line;
+use crate::lines::put_refusal;
+use lookup::WordByIndex;
+
+// The most tiles of a word.
+const TILES: usize = 256;
+
+// The bytes of the longest line: 10 digits, a tab, 256 tiles of 2 digits parted by spaces, the line's end.
+const LONGEST: usize = 779;
+
+// How many bytes a block has, and the number to go on from; none is left where that is the count.
+pub struct Filled {
+    pub next: u32,
+    pub written: usize,
+}
+
+// The place after what was put, and whether the list goes on.
+pub struct Put {
+    pub end: usize,
+    pub more: bool,
+}
+
+// Puts the line of a number's word, or of a refusal, from a place on; the longest must have room.
+fn put_word(
+    nodes: &[u32],
+    counts: &[u32],
+    start: u32,
+    number: u32,
+    out: &mut [u8],
+    at: usize,
+) -> Put
+    requires { ⌜ at + longest ≤ length (now out) ⌝ }
+    ensures { λ r. ⌜ PutWord number (walkFrom (now (nodes .entry)) (now (counts .entry)) start number) (now (out .entry)) at (now (out .exit)) r ⌝ }
+{
+    let mut word = [0u8; TILES];
+    match lookup::get_word_by_index(nodes, counts, start, number, &mut word) {
+        WordByIndex::Tiles(tiles) => Put {
+            end: put_line(number, &word[..tiles], out, at),
+            more: true,
+        },
+        WordByIndex::Absent => Put {
+            end: at,
+            more: false,
+        },
+        WordByIndex::NotLent => Put {
+            end: put_refusal(14, out, at),
+            more: false,
+        },
+        WordByIndex::OutOfRange => Put {
+            end: put_refusal(15, out, at),
+            more: false,
+        },
+        WordByIndex::BufferFull => Put {
+            end: put_refusal(16, out, at),
+            more: false,
+        },
+    }
+}
+
+// The number after a block's last: as many as the longest lines have room for, or all that are left.
+fn block_end(count: u32, next: u32, room: usize) -> u32
+    ensures { λ r. ⌜ r ≡ next + numbersIn count next room ⌝ }
+{
+    if count <= next {
+        return next;
+    }
+    let lines = room / LONGEST;
+    if lines < (count - next) as usize {
+        next + lines as u32
+    } else {
+        count
+    }
+}
+
+// Makes the lines of the words from number next on, of so many from the start, as far as there is room for them.
+pub fn fill(
+    nodes: &[u32],
+    counts: &[u32],
+    start: u32,
+    count: u32,
+    next: u32,
+    out: &mut [u8],
+) -> Filled
+    ensures { λ r. ⌜ Fills (block (walkFrom (now (nodes .entry)) (now (counts .entry)) start) count next (length (now (out .entry)))) (now (out .entry)) (now (out .exit)) r ⌝ }
+{
+    let end = block_end(count, next, out.len());
+    let mut number = next;
+    let mut at = 0;
+    while number < end {
+        let put = put_word(nodes, counts, start, number, out, at);
+        at = put.end;
+        if !put.more {
+            return Filled {
+                next: count,
+                written: at,
+            };
+        }
+        number += 1;
+    }
+    Filled {
+        next: number,
+        written: at,
+    }
+}

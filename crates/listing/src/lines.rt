@@ -1,0 +1,76 @@
+// The bytes of a line.
+ghost use mathlib.Core.Path.{_≡_};
+ghost use mathlib.Core.List.{[], _∷_};
+ghost use Prim.Native.Nat.{_+_, _≤_};
+ghost use lib.ListN.{length};
+ghost use Rattle.listing.specs.Lines.{decimal, parted, line, refusal};
+ghost use Rattle.listing.specs.Said.{Puts, AtFront};
+
+fn wide(tile: u8) -> u32
+    ensures { λ r. ⌜ r ≡ tile ⌝ }
+{
+    tile as u32
+}
+
+// Each of these puts its bytes from a place on, where they must have room, and answers the place after them.
+fn put_byte(byte: u8, out: &mut [u8], at: usize) -> usize
+    requires { ⌜ at + 1 ≤ length (now out) ⌝ }
+    ensures { λ r. ⌜ Puts (byte ∷ []) (now (out .entry)) at (now (out .exit)) r ⌝ }
+{
+    out[at] = byte;
+    at + 1
+}
+
+fn put_number(number: u32, out: &mut [u8], at: usize) -> usize
+    requires { ⌜ at + length (decimal number) ≤ length (now out) ⌝ }
+    ensures { λ r. ⌜ Puts (decimal number) (now (out .entry)) at (now (out .exit)) r ⌝ }
+{
+    if number < 10 {
+        return put_byte(b'0' + number as u8, out, at);
+    }
+    let last = put_number(number / 10, out, at);
+    put_byte(b'0' + (number % 10) as u8, out, last)
+}
+
+fn put_tiles(word: &[u8], out: &mut [u8], at: usize) -> usize
+    requires { ⌜ at + length (parted (now word)) ≤ length (now out) ⌝ }
+    ensures { λ r. ⌜ Puts (parted (now (word .entry))) (now (out .entry)) at (now (out .exit)) r ⌝ }
+{
+    if word.len() == 0 {
+        return at;
+    }
+    let mut end = put_number(wide(word[0]), out, at);
+    let mut i = 1;
+    while i < word.len() {
+        let after = put_byte(b' ', out, end);
+        end = put_number(wide(word[i]), out, after);
+        i += 1;
+    }
+    end
+}
+
+pub(crate) fn put_line(number: u32, word: &[u8], out: &mut [u8], at: usize) -> usize
+    requires { ⌜ at + length (line number (now word)) ≤ length (now out) ⌝ }
+    ensures { λ r. ⌜ Puts (line number (now (word .entry))) (now (out .entry)) at (now (out .exit)) r ⌝ }
+{
+    let tab = put_number(number, out, at);
+    let tiles = put_byte(b'\t', out, tab);
+    let end = put_tiles(word, out, tiles);
+    put_byte(b'\n', out, end)
+}
+
+pub(crate) fn put_refusal(number: u32, out: &mut [u8], at: usize) -> usize
+    requires { ⌜ at + length (refusal number) ≤ length (now out) ⌝ }
+    ensures { λ r. ⌜ Puts (refusal number) (now (out .entry)) at (now (out .exit)) r ⌝ }
+{
+    endian::write_bytes(out, at, b"refused\t");
+    let end = put_number(number, out, at + 8);
+    put_byte(b'\n', out, end)
+}
+
+// Puts a refusal's line at the front, and answers its length.
+pub fn refuse(number: u32, out: &mut [u8; 19]) -> usize
+    ensures { λ r. ⌜ AtFront (refusal number) (now (out .entry)) (now (out .exit)) r ⌝ }
+{
+    put_refusal(number, out, 0)
+}
