@@ -1,0 +1,3 @@
+mod CursorLaws
+mod FileLaws
+mod StateLaws

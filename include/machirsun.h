@@ -1,0 +1,279 @@
+/* Machirsun: word graphs loaded, counted, looked up and exported.
+ *
+ * Link with libhost.a, which `rt staticlib host` writes to target/staticlib/ (x86-64 Linux).
+ *
+ * Buffers. The caller owns every buffer. A call reads and writes only the buffers that it is handed, keeps no pointer to them
+ * after it returns, and allocates nothing; its stack does not grow with its input. A buffer is a pointer and a number of entries,
+ * side by side; it has to hold that many entries, aligned for their type. Where the number is 0 nothing is read through the
+ * pointer, but NULL is not allowed. A buffer that a call writes (one that is not const) must not overlap any other buffer of that
+ * call. Buffers that are only read may.
+ *
+ * Threads. There is no global state. Calls are safe at the same time from several threads as long as no buffer that one of them
+ * writes is read or written by another.
+ *
+ * Answers. Every answer has `refusal`: 0, or a number from the table below. A refused call has done nothing but what its comment
+ * says. Fields that an answer has no value for are 0: `arc`, `node` and `tile` are filled by the refusals that carry them, the
+ * other fields where nothing is refused.
+ *
+ * Nodes. The loaded table is 32-bit nodes: arc bits 8-31, accepts 7, end 6, tile 0-5. A place is the number of a node. Wherever a call
+ * takes nodes, lend the part that finish answered: its first N nodes.
+ *
+ * Every call ends on every input; none needs its input to be sound. What each answers is proved: the contracts are in
+ * crates/host/src, and crates/host/specs says how a struct here is read as an answer there.
+ */
+#ifndef MACHIRSUN_H
+#define MACHIRSUN_H
+
+#include <stdbool.h>
+#include <stddef.h>
+#include <stdint.h>
+
+#ifdef __cplusplus
+extern "C" {
+#endif
+
+/* ---- Refusals ----------------------------------------------------------------------------------------------------------------
+ *
+ *  No.  Meaning                                                                        Given by
+ *   1   the announced length is 0 or no multiple of 4                                  begin
+ *   2   the announced length is over 67,108,864                                        begin
+ *   3   the node buffer has fewer than max(length / 4, 2) nodes                        begin
+ *   4   no load of this buffer has this state: begin would refuse its length, or       feed, finish
+ *       it has taken more than that, or its held bytes are not taken mod 4, or an
+ *       unused place of held is not 0
+ *   5   the piece is longer than what is missing; nothing was taken                    feed
+ *   6   a node does not fit the layout; carries node, tile, arc                        feed, finish, repack
+ *   7   bytes are missing                                                              finish
+ *   8   the largest arc is at least the number of nodes; carries that arc              finish, count_words, to_macondo, to_lxd
+ *   9   the last node is no end                                                        finish, count_words, to_macondo, to_lxd
+ *  10   under 2 nodes or over 16,777,216                                               count_words, to_macondo, to_lxd
+ *  11   a list is too short                                                            count_words, letter_bits, to_macondo, to_lxd
+ *  12   a node can be reached from itself; carries such a node                         count_words
+ *  13   some node (to_lxd: the start) has 4,294,967,295 words or more                  count_words, to_lxd
+ *  14   a step leads to a node or a count that is not lent                             seek, cursor_at, cursor_step, word_index,
+ *                                                                                      word_by_index, accepts_alpha, alpha_cross_set
+ *  15   a difference is below 0, or a sum above 4,294,967,295: the counts are not      word_index, word_by_index
+ *       the graph's
+ *  16   the word buffer is full                                                        word_by_index
+ *  17   the tally has over 64 entries                                                  accepts_alpha, alpha_cross_set
+ *  18   no label, or over 50                                                           to_macondo
+ *  19   a text is too long: a name over 255 bytes, a title over 31, a date over 19     to_macondo, to_lxd
+ *  20   the title or the date has a code point over FF hexadecimal                     to_lxd
+ *  21   a tile has no label                                                            to_macondo, to_lxd
+ *  22   over 64 runs, each reached by an arc of the one before, from the start         to_macondo, to_lxd
+ *  23   a label is not one code point (to_lxd: a label reached is over FF)             to_macondo, to_lxd
+ *  24   runs do not ascend                                                             to_macondo
+ *  25   the file would have too many nodes: over 2^24 (to_lxd: 2^22)                   to_macondo, to_lxd
+ *
+ * Where several apply, the first in the order that the call's comment gives is answered.
+ */
+enum {
+    MACHIRSUN_NOT_WHOLE_NODES = 1,
+    MACHIRSUN_OVER_LIMIT = 2,
+    MACHIRSUN_NODES_TOO_SHORT = 3,
+    MACHIRSUN_BAD_STATE = 4,
+    MACHIRSUN_TOO_LONG = 5,
+    MACHIRSUN_DOES_NOT_FIT = 6,
+    MACHIRSUN_MISSING = 7,
+    MACHIRSUN_ARC_PAST_END = 8,
+    MACHIRSUN_NO_END = 9,
+    MACHIRSUN_WRONG_SIZE = 10,
+    MACHIRSUN_LIST_TOO_SHORT = 11,
+    MACHIRSUN_LOOPS = 12,
+    MACHIRSUN_TOO_MANY_WORDS = 13,
+    MACHIRSUN_NOT_LENT = 14,
+    MACHIRSUN_OUT_OF_RANGE = 15,
+    MACHIRSUN_BUFFER_FULL = 16,
+    MACHIRSUN_TALLY_TOO_LONG = 17,
+    MACHIRSUN_LABEL_COUNT = 18,
+    MACHIRSUN_TEXT_TOO_LONG = 19,
+    MACHIRSUN_NOT_LATIN1 = 20,
+    MACHIRSUN_NO_LABEL = 21,
+    MACHIRSUN_CHAIN_TOO_LONG = 22,
+    MACHIRSUN_BAD_LETTER = 23,
+    MACHIRSUN_NOT_ASCENDING = 24,
+    MACHIRSUN_TOO_MANY_NODES = 25
+};
+
+/* ---- Layouts and formats: 0 is the first, every other number the second -------------------------------------------------------- */
+
+/* KWG: tile bits 24-31, accepts 23, end 22, arc 0-21. KBWG: the loaded table's. */
+enum { MACHIRSUN_KWG = 0, MACHIRSUN_KBWG = 1 };
+
+enum { MACHIRSUN_DAWG = 0, MACHIRSUN_GADDAG = 1 };
+
+/* ---- Loading -------------------------------------------------------------------------------------------------------------------
+ *
+ * A file's length is announced to begin, its bytes come to feed in any pieces, also cut inside a node, and finish judges the
+ * nodes. The same node buffer is lent throughout. The state goes in and comes back by value; it holds no pointer.
+ */
+
+/* The state of a load. Where refusal is not 0 it keeps refusal 6 with node, tile and arc. The first held_count bytes of held are
+ * those after the last whole node, the others 0. */
+typedef struct machirsun_loader {
+    size_t announced;
+    size_t taken;
+    size_t held_count;
+    size_t node;
+    uint32_t layout;
+    uint32_t refusal;
+    uint32_t arc;
+    uint8_t tile;
+    uint8_t held[3];
+} machirsun_loader;
+
+typedef struct machirsun_begun {
+    uint32_t refusal;
+    machirsun_loader loader;
+} machirsun_begun;
+
+/* Announces a file of so many bytes. Of the nodes only their number counts. A refused begin gives a state that feed and finish refuse by
+ * 4. Order: 1, 2, 3. */
+machirsun_begun machirsun_begin(size_t announced, uint32_t layout, const uint32_t *nodes, size_t nodes_len);
+
+typedef struct machirsun_fed {
+    uint32_t refusal;
+    uint32_t arc;
+    size_t node;
+    uint8_t tile;
+    machirsun_loader loader;
+} machirsun_fed;
+
+/* The next piece of the file, of any length. Writes each node that it completes and no other. After 4 or 5 state and nodes are as before; a
+ * node that does not fit (6) stops the load, and each later feed and finish repeats it. Order: 4, 6 that the state keeps, 5, 6. */
+machirsun_fed machirsun_feed(machirsun_loader loader, const uint8_t *piece, size_t piece_len, uint32_t *nodes, size_t nodes_len);
+
+typedef struct machirsun_finished {
+    uint32_t refusal;
+    uint32_t arc;
+    size_t nodes;
+    size_t node;
+    uint8_t tile;
+} machirsun_finished;
+
+/* The end of the file: answers the number of its nodes. A file of one node gets its copy as node 1, and answers 2. Nothing else is written.
+ * Order: 4, 6 that the state keeps, 7, 8, 9. */
+machirsun_finished machirsun_finish(machirsun_loader loader, uint32_t *nodes, size_t nodes_len);
+
+typedef struct machirsun_repacked {
+    uint32_t refusal;
+    uint32_t arc;
+    size_t node;
+    uint8_t tile;
+} machirsun_repacked;
+
+/* Puts the nodes of a file's bytes into another layout, where they stand. A node that does not fit (6) stops it, with the nodes before
+ * rewritten; a part node at the end stays. */
+machirsun_repacked machirsun_repack(uint8_t *bytes, size_t bytes_len, uint32_t from, uint32_t to);
+
+/* ---- Counting ------------------------------------------------------------------------------------------------------------------ */
+
+typedef struct machirsun_counted {
+    uint32_t refusal;
+    uint32_t arc;
+    uint32_t node;
+} machirsun_counted;
+
+/* Puts the number of words from each of the N nodes into the first N counts. The work list has at least 2 x N numbers; what is in these
+ * afterwards is free. After 12 or 13 the first N counts are 0; after the others nothing is written. Order: 10, 8, 9, 11, 12, 13. */
+machirsun_counted machirsun_count_words(const uint32_t *nodes, size_t nodes_len, uint32_t *counts, size_t counts_len, uint32_t *work,
+                                        size_t work_len);
+
+/* ---- Lookups: on the way the refusal met first is answered ---------------------------------------------------------------------- */
+
+typedef struct machirsun_sought {
+    uint32_t refusal;
+    bool found;
+    uint32_t place;
+} machirsun_sought;
+
+/* The first node with the tile in the run that the arc of the node at a place leads to. */
+machirsun_sought machirsun_seek(const uint32_t *nodes, size_t nodes_len, uint32_t place, uint8_t tile);
+
+typedef struct machirsun_cursor {
+    uint32_t refusal;
+    bool done;
+    uint32_t at;
+} machirsun_cursor;
+
+/* A cursor at a node. `at` is the place asked for, also where it is not lent (14); each step from there is refused too. */
+machirsun_cursor machirsun_cursor_at(const uint32_t *nodes, size_t nodes_len, uint32_t at);
+
+/* The cursor one node further along its run. At an end it is done and stays; where the next node is not lent (14) it stays too. */
+machirsun_cursor machirsun_cursor_step(const uint32_t *nodes, size_t nodes_len, uint32_t at);
+
+typedef struct machirsun_index {
+    uint32_t refusal;
+    bool found;
+    uint32_t number;
+} machirsun_index;
+
+/* The number of a word among the words from the start, from 0. Not found: no such word, the empty word, or start 0. */
+machirsun_index machirsun_word_index(const uint32_t *nodes, size_t nodes_len, const uint32_t *counts, size_t counts_len, uint32_t start,
+                                     const uint8_t *word, size_t word_len);
+
+typedef struct machirsun_word {
+    uint32_t refusal;
+    bool found;
+    size_t tiles;
+} machirsun_word;
+
+/* Puts the tiles of the word with a number among the words from the start, and answers how many. Not found: there are fewer words. After
+ * that or a refusal the tiles already put stay; the rest of the word buffer is as before. */
+machirsun_word machirsun_word_by_index(const uint32_t *nodes, size_t nodes_len, const uint32_t *counts, size_t counts_len,
+                                       uint32_t start, uint32_t number, uint8_t *word, size_t word_len);
+
+/* ---- Letter and alpha sets: bit t of a set stands for tile t -------------------------------------------------------------------- */
+
+/* Writes for each node all tiles, and the accepting tiles, from it to its run's end, or to the last node where no end comes. Answers
+ * just the number of the refusal (11), or 0; after 11 nothing is written. */
+uint32_t machirsun_letter_bits(const uint32_t *nodes, size_t nodes_len, uint64_t *letter_bits, size_t letter_bits_len,
+                               uint64_t *accepting_bits, size_t accepting_bits_len);
+
+typedef struct machirsun_accepts {
+    uint32_t refusal;
+    bool accepts;
+} machirsun_accepts;
+
+/* Whether the letters of a tally, in ascending order, spell a word. Entry t of the tally says how many letters of tile t there are; entry 0
+ * is unread. Order: 17, 14. */
+machirsun_accepts machirsun_accepts_alpha(const uint32_t *nodes, size_t nodes_len, const uint8_t *tally, size_t tally_len);
+
+typedef struct machirsun_cross_set {
+    uint32_t refusal;
+    uint64_t tiles;
+} machirsun_cross_set;
+
+/* The tiles that make a word with the letters of a tally, all in ascending order; bit 0 is always set. Order: 17, 14. */
+machirsun_cross_set machirsun_alpha_cross_set(const uint32_t *nodes, size_t nodes_len, const uint8_t *tally, size_t tally_len);
+
+/* ---- Files for other programs ----------------------------------------------------------------------------------------------------
+ *
+ * A file has the words from the start: node 0's arc, for a Macondo GADDAG node 1's. Labels are one code point a tile, the blank's
+ * (tile 0) first; D800 to DFFF, and 110000 and above (hexadecimal), mean "not one code point". The work list has at least 8 x N
+ * numbers; what is in these afterwards is free. A refusal writes no byte of the file.
+ */
+
+/* written: the file's length in bytes. */
+typedef struct machirsun_file {
+    uint32_t refusal;
+    uint32_t arc;
+    size_t written;
+} machirsun_file;
+
+/* Writes a Macondo file; the name is bytes, copied. Order: 10, 8, 9, 18, 19, 21, 24, 11 for the work list, 22, 23, 25, 11 for the file. */
+machirsun_file machirsun_to_macondo(const uint32_t *nodes, size_t nodes_len, const uint32_t *labels, size_t labels_len,
+                                    const uint8_t *name, size_t name_len, uint32_t format, uint32_t *work, size_t work_len,
+                                    uint8_t *file, size_t file_len);
+
+/* Writes an LXD file; title and date are code points. Order: 10, 8, 9, 20 and 19 for the title, 20 and 19 for the date, 21, 11 for the
+ * work list, 22, 23, 13, 25, 11 for the file. */
+machirsun_file machirsun_to_lxd(const uint32_t *nodes, size_t nodes_len, const uint32_t *labels, size_t labels_len,
+                                const uint32_t *title, size_t title_len, const uint32_t *date, size_t date_len, uint32_t *work,
+                                size_t work_len, uint8_t *file, size_t file_len);
+
+#ifdef __cplusplus
+}
+#endif
+
+#endif

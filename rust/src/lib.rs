@@ -1,0 +1,316 @@
+//! Machirsun: word graphs loaded, counted, looked up and exported, over the proved library `libhost.a`.
+//!
+//! The calls are those of `include/machirsun.h`, with slices for buffers and [`Refusal`] for the refusals' numbers. Nothing is
+//! allocated here: the caller lends every buffer.
+
+mod ffi;
+mod refusal;
+
+pub use refusal::Refusal;
+
+/// The layout of a file's nodes.
+#[derive(Clone, Copy, Debug, PartialEq, Eq)]
+pub enum Layout {
+    /// Tile bits 24-31, accepts 23, end 22, arc 0-21.
+    Kwg,
+    /// Arc bits 8-31, accepts 7, end 6, tile 0-5.
+    Kbwg,
+}
+
+impl Layout {
+    fn number(self) -> u32 {
+        match self {
+            Layout::Kwg => 0,
+            Layout::Kbwg => 1,
+        }
+    }
+}
+
+/// The kind of a Macondo file: a DAWG starts at node 0's arc, a GADDAG at node 1's.
+#[derive(Clone, Copy, Debug, PartialEq, Eq)]
+pub enum Format {
+    Dawg,
+    Gaddag,
+}
+
+impl Format {
+    fn number(self) -> u32 {
+        match self {
+            Format::Dawg => 0,
+            Format::Gaddag => 1,
+        }
+    }
+}
+
+fn refused(number: u32, node: usize, tile: u8, arc: u32) -> Result<(), Refusal> {
+    match number {
+        0 => Ok(()),
+        _ => Err(Refusal::of(number, node, tile, arc)),
+    }
+}
+
+fn plain(number: u32) -> Result<(), Refusal> {
+    refused(number, 0, 0, 0)
+}
+
+/// The state of a load, by value: it holds no reference to the nodes.
+#[derive(Clone, Copy, Debug, PartialEq, Eq)]
+pub struct Loader(ffi::Loader);
+
+/// What a feed answered, and the state after it.
+#[derive(Clone, Copy, Debug, PartialEq, Eq)]
+pub struct Fed {
+    pub loader: Loader,
+    pub answer: Result<(), Refusal>,
+}
+
+impl Loader {
+    /// Announces a file of so many bytes. Lend the same nodes to each call of the load: at least one for each 4 bytes, and 2.
+    pub fn begin(announced: usize, layout: Layout, nodes: &[u32]) -> Result<Loader, Refusal> {
+        let begun = unsafe {
+            ffi::machirsun_begin(announced, layout.number(), nodes.as_ptr(), nodes.len())
+        };
+        plain(begun.refusal)?;
+        Ok(Loader(begun.loader))
+    }
+
+    /// The next piece of the file, of any length, also cut inside a node. A piece that is too long is not taken; a node that does not
+    /// fit stops the load, and each later call repeats that refusal.
+    pub fn feed(self, piece: &[u8], nodes: &mut [u32]) -> Fed {
+        let fed = unsafe {
+            ffi::machirsun_feed(
+                self.0,
+                piece.as_ptr(),
+                piece.len(),
+                nodes.as_mut_ptr(),
+                nodes.len(),
+            )
+        };
+        Fed {
+            loader: Loader(fed.loader),
+            answer: refused(fed.refusal, fed.node, fed.tile, fed.arc),
+        }
+    }
+
+    /// The end of the file: the number of its nodes, which stand at the front of the lent ones.
+    pub fn finish(self, nodes: &mut [u32]) -> Result<usize, Refusal> {
+        let finished = unsafe { ffi::machirsun_finish(self.0, nodes.as_mut_ptr(), nodes.len()) };
+        refused(finished.refusal, finished.node, finished.tile, finished.arc)?;
+        Ok(finished.nodes)
+    }
+
+    /// The length that was announced.
+    pub fn announced(&self) -> usize {
+        self.0.announced
+    }
+
+    /// How many bytes are taken.
+    pub fn taken(&self) -> usize {
+        self.0.taken
+    }
+}
+
+/// Puts the nodes of a file's bytes into another layout, where they stand. A node that does not fit stops it, with the nodes before
+/// rewritten; a part node at the end stays.
+pub fn repack(bytes: &mut [u8], from: Layout, to: Layout) -> Result<(), Refusal> {
+    let repacked = unsafe {
+        ffi::machirsun_repack(bytes.as_mut_ptr(), bytes.len(), from.number(), to.number())
+    };
+    refused(repacked.refusal, repacked.node, repacked.tile, repacked.arc)
+}
+
+/// Puts the number of words from each of the N nodes into the first N counts. The work list has at least 2 × N numbers, which
+/// are free afterwards.
+pub fn count_words(nodes: &[u32], counts: &mut [u32], work: &mut [u32]) -> Result<(), Refusal> {
+    let counted = unsafe {
+        ffi::machirsun_count_words(
+            nodes.as_ptr(),
+            nodes.len(),
+            counts.as_mut_ptr(),
+            counts.len(),
+            work.as_mut_ptr(),
+            work.len(),
+        )
+    };
+    refused(counted.refusal, counted.node as usize, 0, counted.arc)
+}
+
+/// The place of the first node with the tile in the run that the arc of the node at a place leads to.
+pub fn seek(nodes: &[u32], place: u32, tile: u8) -> Result<Option<u32>, Refusal> {
+    let sought = unsafe { ffi::machirsun_seek(nodes.as_ptr(), nodes.len(), place, tile) };
+    plain(sought.refusal)?;
+    Ok(sought.found.then_some(sought.place))
+}
+
+/// A cursor along one run.
+#[derive(Clone, Copy, Debug)]
+pub struct RunCursor<'a> {
+    nodes: &'a [u32],
+    at: u32,
+}
+
+impl<'a> RunCursor<'a> {
+    /// A cursor at a lent node.
+    pub fn at(nodes: &'a [u32], at: u32) -> Result<RunCursor<'a>, Refusal> {
+        let made = unsafe { ffi::machirsun_cursor_at(nodes.as_ptr(), nodes.len(), at) };
+        plain(made.refusal)?;
+        Ok(RunCursor { nodes, at: made.at })
+    }
+
+    /// The place of the node that the cursor is at.
+    pub fn place(&self) -> u32 {
+        self.at
+    }
+
+    /// Moves to the next node and answers its place; at an end the cursor stays, and there is none.
+    pub fn step(&mut self) -> Result<Option<u32>, Refusal> {
+        let moved =
+            unsafe { ffi::machirsun_cursor_step(self.nodes.as_ptr(), self.nodes.len(), self.at) };
+        self.at = moved.at;
+        plain(moved.refusal)?;
+        Ok((!moved.done).then_some(moved.at))
+    }
+}
+
+/// The number of a word among the words from the start, from 0.
+pub fn word_index(
+    nodes: &[u32],
+    counts: &[u32],
+    start: u32,
+    word: &[u8],
+) -> Result<Option<u32>, Refusal> {
+    let index = unsafe {
+        ffi::machirsun_word_index(
+            nodes.as_ptr(),
+            nodes.len(),
+            counts.as_ptr(),
+            counts.len(),
+            start,
+            word.as_ptr(),
+            word.len(),
+        )
+    };
+    plain(index.refusal)?;
+    Ok(index.found.then_some(index.number))
+}
+
+/// Puts the tiles of the word with a number among the words from the start, and answers how many. There is none where there are
+/// fewer words.
+pub fn word_by_index(
+    nodes: &[u32],
+    counts: &[u32],
+    start: u32,
+    number: u32,
+    word: &mut [u8],
+) -> Result<Option<usize>, Refusal> {
+    let put = unsafe {
+        ffi::machirsun_word_by_index(
+            nodes.as_ptr(),
+            nodes.len(),
+            counts.as_ptr(),
+            counts.len(),
+            start,
+            number,
+            word.as_mut_ptr(),
+            word.len(),
+        )
+    };
+    plain(put.refusal)?;
+    Ok(put.found.then_some(put.tiles))
+}
+
+/// Writes for each node all tiles, and the accepting tiles, from it to its run's end; bit t stands for tile t.
+pub fn letter_bits(
+    nodes: &[u32],
+    letter_bits: &mut [u64],
+    accepting_bits: &mut [u64],
+) -> Result<(), Refusal> {
+    plain(unsafe {
+        ffi::machirsun_letter_bits(
+            nodes.as_ptr(),
+            nodes.len(),
+            letter_bits.as_mut_ptr(),
+            letter_bits.len(),
+            accepting_bits.as_mut_ptr(),
+            accepting_bits.len(),
+        )
+    })
+}
+
+/// Whether the letters of a tally, in ascending order, spell a word. Entry t says how many letters of tile t there are; entry 0 is
+/// unread.
+pub fn accepts_alpha(nodes: &[u32], tally: &[u8]) -> Result<bool, Refusal> {
+    let answer = unsafe {
+        ffi::machirsun_accepts_alpha(nodes.as_ptr(), nodes.len(), tally.as_ptr(), tally.len())
+    };
+    plain(answer.refusal)?;
+    Ok(answer.accepts)
+}
+
+/// The tiles that make a word with the letters of a tally, all in ascending order; bit 0 is always set.
+pub fn alpha_cross_set(nodes: &[u32], tally: &[u8]) -> Result<u64, Refusal> {
+    let answer = unsafe {
+        ffi::machirsun_alpha_cross_set(nodes.as_ptr(), nodes.len(), tally.as_ptr(), tally.len())
+    };
+    plain(answer.refusal)?;
+    Ok(answer.tiles)
+}
+
+/// Writes the words as a Macondo file and answers its length. Labels are one code point a tile, the blank's first; the work list has
+/// at least 8 × N numbers, which are free afterwards.
+pub fn to_macondo(
+    nodes: &[u32],
+    labels: &[u32],
+    name: &[u8],
+    format: Format,
+    work: &mut [u32],
+    file: &mut [u8],
+) -> Result<usize, Refusal> {
+    let answer = unsafe {
+        ffi::machirsun_to_macondo(
+            nodes.as_ptr(),
+            nodes.len(),
+            labels.as_ptr(),
+            labels.len(),
+            name.as_ptr(),
+            name.len(),
+            format.number(),
+            work.as_mut_ptr(),
+            work.len(),
+            file.as_mut_ptr(),
+            file.len(),
+        )
+    };
+    refused(answer.refusal, 0, 0, answer.arc)?;
+    Ok(answer.written)
+}
+
+/// Writes the words as an LXD file and answers its length. Labels, title and date are code points; the work list has at least 8 × N
+/// numbers, which are free afterwards.
+pub fn to_lxd(
+    nodes: &[u32],
+    labels: &[u32],
+    title: &[u32],
+    date: &[u32],
+    work: &mut [u32],
+    file: &mut [u8],
+) -> Result<usize, Refusal> {
+    let answer = unsafe {
+        ffi::machirsun_to_lxd(
+            nodes.as_ptr(),
+            nodes.len(),
+            labels.as_ptr(),
+            labels.len(),
+            title.as_ptr(),
+            title.len(),
+            date.as_ptr(),
+            date.len(),
+            work.as_mut_ptr(),
+            work.len(),
+            file.as_mut_ptr(),
+            file.len(),
+        )
+    };
+    refused(answer.refusal, 0, 0, answer.arc)?;
+    Ok(answer.written)
+}
