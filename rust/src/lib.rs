@@ -3,7 +3,7 @@
 //! The calls are those of `include/machirsun.h`, with slices for buffers and [`Refusal`] for the refusals' numbers. Nothing is
 //! allocated here: the caller lends every buffer.
 
-mod ffi;
+pub mod ffi;
 mod refusal;
 
 pub use refusal::Refusal;

@@ -40,8 +40,8 @@ fn main() {
             );
             return;
         };
-        // Much of a module is of no use to the oracle; the sources stay as they
-        // are, so it is allowed here.
+        // Much of a module is of no use here; the sources stay as they are, so
+        // it is allowed.
         lines += &format!(
             "#[allow(dead_code)]\n#[path = {:?}]\npub mod {module};\n",
             file.to_str().expect("the path is not UTF-8")
