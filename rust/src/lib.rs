@@ -1,7 +1,7 @@
 //! Machirsun: word graphs loaded, counted, looked up and exported, over the proved library `libhost.a`.
 //!
 //! The calls are those of `include/machirsun.h`, with slices for buffers and [`Refusal`] for the refusals' numbers. Nothing is
-//! allocated here: the caller lends every buffer.
+//! allocated here: the caller lends every buffer. Each function only hands its buffers on, and so is inlined.
 
 pub mod ffi;
 mod refusal;
@@ -18,6 +18,7 @@ pub enum Layout {
 }
 
 impl Layout {
+    #[inline]
     fn number(self) -> u32 {
         match self {
             Layout::Kwg => 0,
@@ -34,6 +35,7 @@ pub enum Format {
 }
 
 impl Format {
+    #[inline]
     fn number(self) -> u32 {
         match self {
             Format::Dawg => 0,
@@ -42,6 +44,7 @@ impl Format {
     }
 }
 
+#[inline]
 fn refused(number: u32, node: usize, tile: u8, arc: u32) -> Result<(), Refusal> {
     match number {
         0 => Ok(()),
@@ -49,6 +52,7 @@ fn refused(number: u32, node: usize, tile: u8, arc: u32) -> Result<(), Refusal> 
     }
 }
 
+#[inline]
 fn plain(number: u32) -> Result<(), Refusal> {
     refused(number, 0, 0, 0)
 }
@@ -66,6 +70,7 @@ pub struct Fed {
 
 impl Loader {
     /// Announces a file of so many bytes. Lend the same nodes to each call of the load: at least one for each 4 bytes, and 2.
+    #[inline]
     pub fn begin(announced: usize, layout: Layout, nodes: &[u32]) -> Result<Loader, Refusal> {
         let begun = unsafe {
             ffi::machirsun_begin(announced, layout.number(), nodes.as_ptr(), nodes.len())
@@ -76,6 +81,7 @@ impl Loader {
 
     /// The next piece of the file, of any length, also cut inside a node. A piece that is too long is not taken; a node that does not
     /// fit stops the load, and each later call repeats that refusal.
+    #[inline]
     pub fn feed(self, piece: &[u8], nodes: &mut [u32]) -> Fed {
         let fed = unsafe {
             ffi::machirsun_feed(
@@ -93,6 +99,7 @@ impl Loader {
     }
 
     /// The end of the file: the number of its nodes, which stand at the front of the lent ones.
+    #[inline]
     pub fn finish(self, nodes: &mut [u32]) -> Result<usize, Refusal> {
         let finished = unsafe { ffi::machirsun_finish(self.0, nodes.as_mut_ptr(), nodes.len()) };
         refused(finished.refusal, finished.node, finished.tile, finished.arc)?;
@@ -100,11 +107,13 @@ impl Loader {
     }
 
     /// The length that was announced.
+    #[inline]
     pub fn announced(&self) -> usize {
         self.0.announced
     }
 
     /// How many bytes are taken.
+    #[inline]
     pub fn taken(&self) -> usize {
         self.0.taken
     }
@@ -112,6 +121,7 @@ impl Loader {
 
 /// Puts the nodes of a file's bytes into another layout, where they stand. A node that does not fit stops it, with the nodes before
 /// rewritten; a part node at the end stays.
+#[inline]
 pub fn repack(bytes: &mut [u8], from: Layout, to: Layout) -> Result<(), Refusal> {
     let repacked = unsafe {
         ffi::machirsun_repack(bytes.as_mut_ptr(), bytes.len(), from.number(), to.number())
@@ -121,6 +131,7 @@ pub fn repack(bytes: &mut [u8], from: Layout, to: Layout) -> Result<(), Refusal>
 
 /// Puts the number of words from each of the N nodes into the first N counts. The work list has at least 2 × N numbers, which
 /// are free afterwards.
+#[inline]
 pub fn count_words(nodes: &[u32], counts: &mut [u32], work: &mut [u32]) -> Result<(), Refusal> {
     let counted = unsafe {
         ffi::machirsun_count_words(
@@ -136,6 +147,7 @@ pub fn count_words(nodes: &[u32], counts: &mut [u32], work: &mut [u32]) -> Resul
 }
 
 /// The place of the first node with the tile in the run that the arc of the node at a place leads to.
+#[inline]
 pub fn seek(nodes: &[u32], place: u32, tile: u8) -> Result<Option<u32>, Refusal> {
     let sought = unsafe { ffi::machirsun_seek(nodes.as_ptr(), nodes.len(), place, tile) };
     plain(sought.refusal)?;
@@ -151,6 +163,7 @@ pub struct RunCursor<'a> {
 
 impl<'a> RunCursor<'a> {
     /// A cursor at a lent node.
+    #[inline]
     pub fn at(nodes: &'a [u32], at: u32) -> Result<RunCursor<'a>, Refusal> {
         let made = unsafe { ffi::machirsun_cursor_at(nodes.as_ptr(), nodes.len(), at) };
         plain(made.refusal)?;
@@ -158,11 +171,13 @@ impl<'a> RunCursor<'a> {
     }
 
     /// The place of the node that the cursor is at.
+    #[inline]
     pub fn place(&self) -> u32 {
         self.at
     }
 
     /// Moves to the next node and answers its place; at an end the cursor stays, and there is none.
+    #[inline]
     pub fn step(&mut self) -> Result<Option<u32>, Refusal> {
         let moved =
             unsafe { ffi::machirsun_cursor_step(self.nodes.as_ptr(), self.nodes.len(), self.at) };
@@ -173,6 +188,7 @@ impl<'a> RunCursor<'a> {
 }
 
 /// The number of a word among the words from the start, from 0.
+#[inline]
 pub fn word_index(
     nodes: &[u32],
     counts: &[u32],
@@ -196,6 +212,7 @@ pub fn word_index(
 
 /// Puts the tiles of the word with a number among the words from the start, and answers how many. There is none where there are
 /// fewer words.
+#[inline]
 pub fn word_by_index(
     nodes: &[u32],
     counts: &[u32],
@@ -220,6 +237,7 @@ pub fn word_by_index(
 }
 
 /// Writes for each node all tiles, and the accepting tiles, from it to its run's end; bit t stands for tile t.
+#[inline]
 pub fn letter_bits(
     nodes: &[u32],
     letter_bits: &mut [u64],
@@ -239,6 +257,7 @@ pub fn letter_bits(
 
 /// Whether the letters of a tally, in ascending order, spell a word. Entry t says how many letters of tile t there are; entry 0 is
 /// unread.
+#[inline]
 pub fn accepts_alpha(nodes: &[u32], tally: &[u8]) -> Result<bool, Refusal> {
     let answer = unsafe {
         ffi::machirsun_accepts_alpha(nodes.as_ptr(), nodes.len(), tally.as_ptr(), tally.len())
@@ -248,6 +267,7 @@ pub fn accepts_alpha(nodes: &[u32], tally: &[u8]) -> Result<bool, Refusal> {
 }
 
 /// The tiles that make a word with the letters of a tally, all in ascending order; bit 0 is always set.
+#[inline]
 pub fn alpha_cross_set(nodes: &[u32], tally: &[u8]) -> Result<u64, Refusal> {
     let answer = unsafe {
         ffi::machirsun_alpha_cross_set(nodes.as_ptr(), nodes.len(), tally.as_ptr(), tally.len())
@@ -258,6 +278,7 @@ pub fn alpha_cross_set(nodes: &[u32], tally: &[u8]) -> Result<u64, Refusal> {
 
 /// Writes the words as a Macondo file and answers its length. Labels are one code point a tile, the blank's first; the work list has
 /// at least 8 × N numbers, which are free afterwards.
+#[inline]
 pub fn to_macondo(
     nodes: &[u32],
     labels: &[u32],
@@ -287,6 +308,7 @@ pub fn to_macondo(
 
 /// Writes the words as an LXD file and answers its length. Labels, title and date are code points; the work list has at least 8 × N
 /// numbers, which are free afterwards.
+#[inline]
 pub fn to_lxd(
     nodes: &[u32],
     labels: &[u32],

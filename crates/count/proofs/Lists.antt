@@ -1,11 +1,10 @@
 -- Lists kept from a place on, and lists whose first numbers are set to 0.
-use mathlib.Core.Path.{_≡_, refl, sym, ap, ap₂, _∙_}
+use mathlib.Core.Path.{_≡_, refl, sym, ap, _∙_}
 use mathlib.Core.List.{List, _++_}
-use Prim.Native.Nat.{ℕ, suc, _+_, _-_, _≤_, _<_}
+use Prim.Native.Nat.{ℕ, _+_, _-_, _≤_, _<_}
 use native.Mathlib.Omega.{arith}
-use native.Mathlib.Numerals.{add-one}
-use lib.ListN.{length, getD, set, drop, replicate, length-append, length-drop, length-set, length-replicate, getD-replicate, replicate-append-replicate, List·getD-append}
-use lib.Seq.{drop-cons, drop-drop, drop-at, drop-set-lt, set-at, append-snoc}
+use lib.ListN.{length, set, drop, replicate, length-set, length-replicate}
+use lib.Seq.{drop-drop, drop-at, drop-set-lt}
 use Rattle.laws.specs.Cleared.{cleared, cleared-length}
 use Rattle.graph.specs.Lent.{Kept}
 

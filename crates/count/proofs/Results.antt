@@ -8,7 +8,6 @@ use Prim.Native.Nat.{ℕ, _*_, _≤_, _<_}
 use native.Mathlib.Nat.{not-suc-le-zero}
 use native.Mathlib.Omega.{arith}
 use lib.ListN.{length, getD, drop}
-use Rattle.laws.specs.Cases.{some≢none}
 use Rattle.node.specs.Answers.{Answer, gives, refused, firstOf}
 use Rattle.node.specs.Nodes.{KBWG}
 use Rattle.graph.specs.Runs.{Graph}
@@ -17,9 +16,9 @@ use Rattle.graph.specs.LoopLaws.{reach-inside}
 use Rattle.laws.specs.Cleared.{cleared}
 use Rattle.graph.specs.TableLaws.{begins-with-table}
 use Rattle.graph.specs.Counting.{table, Loopless, countRow, Counted, unfit, loop, many, all}
-use Rattle.graph.specs.Lent.{Kept, WorkKept, work-untouched}
+use Rattle.graph.specs.Lent.{WorkKept, work-untouched}
 use Rattle.count.specs.Walk.{mark, isMet, isDone, Walk, AllDone, LoopFound, ReachesIs}
-use Rattle.count.proofs.Lists.{kept-all, cleared-of-kept}
+use Rattle.count.proofs.Lists.{cleared-of-kept}
 use Rattle.count.proofs.Rows.{counts-room}
 use Rattle.count.proofs.Tally.{tally-zero}
 

@@ -1,5 +1,4 @@
 // The counts, from the first on.
-ghost use mathlib.Core.Path.{_≡_};
 ghost use Prim.Native.Nat.{_≤_};
 ghost use lib.ListN.{length};
 ghost use Rattle.count.specs.Said.{limit};

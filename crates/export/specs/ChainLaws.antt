@@ -1,24 +1,24 @@
 -- Chains of runs that end: what the test of document 01's refusal 22 tells. The idea: where no chain from a node has over k runs, no
 -- chain has more runs than there are nodes to go to, because a run whose chains are shorter cannot lead to it.
-use mathlib.Core.Path.{_≡_, refl, sym, ap, ap₂, _∙_, subst}
+use mathlib.Core.Path.{_≡_, sym, ap, _∙_, subst}
 use mathlib.Core.Bool.{Bool, true, false, _&&_, not, true≢false}
-use mathlib.Core.Logic.{⊎-elim}
-use mathlib.Core.List.{List, [], _∷_, _++_, map, List·Memᴰ, List·Memᴰ·head, List·Memᴰ·tail, List·Memᴰ·not-nil, List·Memᴰ·cases-cons, List·Memᴰ·eq-of-singleton}
+use mathlib.Core.Logic.{_≢_, ⊎-elim}
+use mathlib.Core.List.{List, [], _∷_, map, List·Memᴰ, List·Memᴰ·not-nil, List·Memᴰ·cases-cons}
 use Prim.Native.Nat.{ℕ, zero, suc, _+_, _-_, _≤_, _<_}
 use native.Mathlib.Nat.{zero-add, suc-add}
 use native.Mathlib.Omega.{arith}
-use lib.Dec.{eqb}
-use borrow.Author.Tests.{not-true}
-use lib.ListN.{length, drop}
+use borrow.Author.Tests.{not-true, ne-eqb}
+use lib.ListN.{length}
 use Rattle.laws.specs.Cases.{split, and-left, and-right}
 use Rattle.laws.specs.Lists.{kept}
 use Rattle.laws.specs.Members.{in-map, map-in, in-kept, kept-in, some-of, none-of, kept-length, kept-le, kept-less}
 use Rattle.laws.specs.Without.{below, length-below, in-below}
-use Rattle.node.specs.Nodes.{KBWG, arc, isEnd}
+use Rattle.node.specs.Nodes.{KBWG, arc}
 use Rattle.graph.specs.Runs.{Graph, node, run}
-use Rattle.graph.specs.Words.{Word, inOrder, spelled, wordsWithin, words}
+use Rattle.graph.specs.Words.{inOrder, spelled, wordsWithin, words}
 use Rattle.graph.specs.ChecksLaws.{Closed}
 use Rattle.graph.specs.RunLaws.{in-graph}
+use Rattle.graph.specs.WordsEquation.{in-order-ext, spelled-ext, Short, stable}
 use Rattle.export.specs.Starts.{runOf, hasArc, deeper}
 use Rattle.export.specs.BlocksLaws.{Low}
 
@@ -60,7 +60,7 @@ module _ (g : Graph) where
       let has = r .2 in
       ap (deeper g k) (r .3) ∙ (rw has at a)
 
-  shallow-over : (k p : ℕ) → ((q : ℕ) → List·Memᴰ q (arcsFrom p) → deeper g k q ≡ false) → deeper g (suc k) p ≡ false
+  pub shallow-over : (k p : ℕ) → ((q : ℕ) → List·Memᴰ q (arcsFrom p) → deeper g k q ≡ false) → deeper g (suc k) p ≡ false
   unfolding deeper
   shallow-over k p h =
       split (deeper g (suc k) p)
@@ -76,7 +76,7 @@ module _ (g : Graph) where
   unfolding deeper
   none-deeper p e = true≢false e
 
-  shallow-more : (k p : ℕ) → deeper g k p ≡ false → deeper g (suc k) p ≡ false
+  pub shallow-more : (k p : ℕ) → deeper g k p ≡ false → deeper g (suc k) p ≡ false
   shallow-more zero p e = absurd (none-deeper p e)
   shallow-more (suc k) p e = shallow-over (suc k) p (λ q m. shallow-more k q (shallow-arc k p q e m))
 
@@ -123,27 +123,17 @@ module _ (g : Graph) where
       rw (length-below (length g)) at b
 
 -- ---- then more turns give no more words
-spelled-same : (f h : ℕ → List Word) (v : ℕ) → (hasArc v ≡ true → f (arc KBWG v) ≡ h (arc KBWG v)) → spelled KBWG f v ≡ spelled KBWG h v
-unfolding spelled
-spelled-same f h v e = split (eqb (arc KBWG v) 0) (λ z. rw (z, spelled)) (λ z. rw (z, spelled, e (ap not z)))
-
-in-order-same : (f h : ℕ → List Word) (l : List ℕ) → ((v : ℕ) → List·Memᴰ v l → f v ≡ h v) → inOrder f l ≡ inOrder h l
-unfolding inOrder
-in-order-same f h [] e = refl
-in-order-same f h (v ∷ l) e = ap₂ _++_ (e v (List·Memᴰ·head refl)) (in-order-same f h l (λ w m. e w (List·Memᴰ·tail m)))
-
 module _ (g : Graph) where
-  words-more : (k p : ℕ) → deeper g k p ≡ false → wordsWithin KBWG (suc k) g p ≡ wordsWithin KBWG k g p
-  unfolding wordsWithin
-  words-more zero p e = absurd (none-deeper g p e)
-  words-more (suc k) p e =
-      in-order-same (spelled KBWG (λ q. wordsWithin KBWG (suc k) g q)) (spelled KBWG (λ q. wordsWithin KBWG k g q)) (runOf g p)
-      (λ v m. spelled-same (λ q. wordsWithin KBWG (suc k) g q) (λ q. wordsWithin KBWG k g q) v
-      (λ h. words-more k (arc KBWG v) (shallow-arc g k p (arc KBWG v) e (arc-from g p v m h))))
+  has-arc : (v : ℕ) → arc KBWG v ≢ 0 → hasArc v ≡ true
+  has-arc v n = ap not (ne-eqb (arc KBWG v) 0 n)
+
+  shallow-short : (k p : ℕ) → deeper g k p ≡ false → Short KBWG g k p
+  shallow-short zero p e = absurd (none-deeper g p e)
+  shallow-short (suc k) p e = λ v m n. shallow-short k (arc KBWG v) (shallow-arc g k p (arc KBWG v) e (arc-from g p v m (has-arc v n)))
 
   words-by : (d k p : ℕ) → deeper g k p ≡ false → wordsWithin KBWG (d + k) g p ≡ wordsWithin KBWG k g p
   words-by zero k p e = rw zero-add
-  words-by (suc d) k p e = rw suc-add (words-more (d + k) p (shallow-by g d k p e) ∙ words-by d k p e)
+  words-by (suc d) k p e = rw suc-add (stable KBWG g (d + k) p (shallow-short (d + k) p (shallow-by g d k p e)) ∙ words-by d k p e)
 
   words-from : (k j p : ℕ) → k ≤ j → deeper g k p ≡ false → wordsWithin KBWG j g p ≡ wordsWithin KBWG k g p
   words-from k j p h e = let i : j ≡ (j - k) + k = omega arith in ap (λ n. wordsWithin KBWG n g p) i ∙ words-by (j - k) k p e
@@ -162,6 +152,6 @@ module _ (g : Graph) where
   shallow-equation c zero p h e = absurd (none-deeper g p e)
   shallow-equation c (suc k) p h e =
       sym (words-within c (suc k) p h e)
-      ∙ in-order-same (spelled KBWG (λ q. wordsWithin KBWG k g q)) (spelled KBWG (words KBWG g)) (runOf g p)
-      (λ v m. spelled-same (λ q. wordsWithin KBWG k g q) (words KBWG g) v
-      (λ a. let i = arc-from g p v m a in words-within c k (arc KBWG v) (arcs-inside g c p (arc KBWG v) i) (shallow-arc g k p (arc KBWG v) e i)))
+      ∙ in-order-ext (spelled KBWG (λ q. wordsWithin KBWG k g q)) (spelled KBWG (words KBWG g)) (runOf g p)
+      (λ v m. spelled-ext KBWG (λ q. wordsWithin KBWG k g q) (words KBWG g) v
+      (λ n. let i = arc-from g p v m (has-arc v n) in words-within c k (arc KBWG v) (arcs-inside g c p (arc KBWG v) i) (shallow-arc g k p (arc KBWG v) e i)))

@@ -10,3 +10,5 @@ pub mod PlacesLaws
 pub mod Survey
 pub mod SurveyLaws
 pub mod ReachLaws
+pub mod Depths
+pub mod DepthsLaws

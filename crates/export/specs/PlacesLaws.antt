@@ -1,19 +1,19 @@
 -- The record of blocks as it grows, for blocks of any sizes and children in any order: what it holds stays, and a block that is pushed
 -- stands after the others.
 use mathlib.Core.Path.{_≡_, refl, ap, sym, _∙_, subst}
-use mathlib.Core.Logic.{_≢_, ⊎-elim, _⊎_, inl, inr}
+use mathlib.Core.Logic.{_≢_, ⊎-elim, _⊎_}
 use mathlib.Core.Bool.{Bool, true, false, _||_, true≢false}
-use mathlib.Core.List.{List, [], _∷_, _++_, map}
+use mathlib.Core.List.{List, [], _∷_, _++_}
 use Prim.Native.Nat.{ℕ, zero, suc, _+_, _-_, _≤_, _<_}
-use native.Mathlib.Numerals.{add-one, sub-one}
-use native.Mathlib.Nat.{eq-or-lt-of-le, add-assoc}
+use native.Mathlib.Numerals.{add-one}
+use native.Mathlib.Nat.{eq-or-lt-of-le}
 use native.Mathlib.Omega.{arith}
-use lib.ListN.{length, drop, take, getD, set, length-set, length-drop, length-append}
-use lib.Seq.{getD-set-same, getD-set-other, drop-set-lt, drop-set-add, take-suc-set}
+use lib.ListN.{length, drop, take, getD, set, length-drop}
+use lib.Seq.{getD-set-same, getD-set-other, drop-set-lt, drop-set-add, take-suc-set, take-set-le}
 use lib.Dec.{eqb}
 use borrow.Author.Tests.{eq-eqb, ne-eqb, eqb-true, eqb-false}
 use Rattle.laws.specs.Cases.{split}
-use Rattle.laws.specs.Lists.{member, joinAll}
+use Rattle.laws.specs.Lists.{member}
 use Rattle.export.specs.Blocks.{each, met, blockAt, total}
 use Rattle.export.specs.declared.places.Place.the-variants.{Numbered, Unnumbered}
 use Rattle.export.specs.declared.places.Tally.{Tally}
@@ -130,12 +130,6 @@ module _ (size : ℕ → ℕ) where
       (λ e. absurd (true≢false (sym (rw e) ∙ h)))
       (λ e. let a = at-new (base + size x) o p (rw e at h) in rw (e, blockAt) (omega arith))
 
-  -- the blocks' contents one after the other are as long as their sizes together
-  pub total-length : {A : Type 0} (block : ℕ → List A) → ((q : ℕ) → length (block q) ≡ size q) → (o : List ℕ) → length (joinAll (map block o)) ≡ total size o
-  unfolding total
-  total-length block e [] = refl
-  total-length block e (q ∷ o) = let a = e q in let b = total-length block e o in let l = length-append (block q) (joinAll (map block o)) in omega arith
-
 -- ---- a block pushed
 module _ {n : ℕ} {size : ℕ → ℕ} {base : ℕ} {w : List ℕ} {t : Tally} {o : List ℕ} (p : ℕ) (h : Holds n size base w t o) (l : p < n) (room : n + n ≤ length w) (fresh : member p o ≡ false) where
   few : t .blocks < n
@@ -169,6 +163,21 @@ module _ {n : ℕ} {size : ℕ → ℕ} {base : ℕ} {w : List ℕ} {t : Tally} 
         let j : member q o ≡ true = split (member q o) (λ k. k) (λ k. absurd (true≢false (sym e ∙ in-snoc q o p ∙ ap (λ x. x || eqb q p) k ∙ i))) in
         entry q m ∙ getD-set-other w p q (t .nodes + 1) 0 (eqb-false q p i) ∙ h .old q m j ∙ ap (λ x. x + 1) (sym (at-old size base o p q j)));
   })
+
+-- entries after the record change nothing in it
+pub holds-past : {n : ℕ} {size : ℕ → ℕ} {base : ℕ} {w : List ℕ} {t : Tally} {o : List ℕ} (i v : ℕ) → n + n ≤ i → Holds n size base w t o → Holds n size base (set w i v) t o
+holds-past {n} {size} {base} {w} {t} {o} i v b h = record {
+  order =
+      let j : i ≡ n + (i - n) = omega arith in
+      let few = used-le n w in
+      let many = h .many in
+      ap (λ x. take (t .blocks) (drop n (set w x v))) j ∙ ap (take (t .blocks)) (drop-set-add n w (i - n) v)
+      ∙ take-set-le (t .blocks) (drop n w) (i - n) v (omega arith) ∙ h .order;
+  many = used-above n w i v (omega arith) ∙ h .many;
+  sum = h .sum;
+  new = λ q m e. getD-set-other w i q v 0 (λ z. omega arith) ∙ h .new q m e;
+  old = λ q m e. getD-set-other w i q v 0 (λ z. omega arith) ∙ h .old q m e;
+}
 
 -- an entry says whether its run is numbered
 module _ {n : ℕ} {size : ℕ → ℕ} {base : ℕ} {w : List ℕ} {t : Tally} {o : List ℕ} (h : Holds n size base w t o) (p : ℕ) (l : p < n) where
@@ -220,12 +229,3 @@ holds-none n size base w t h e f = record {
   new = λ p l m. h p l;
   old = λ p l m. absurd (true≢false (sym m));
 }
-
--- ---- places are below the end of the file
-pub place-below : (size : ℕ → ℕ) (l : List ℕ) (at q : ℕ) → member q l ≡ true → blockAt size at l q + size q ≤ at + total size l
-unfolding blockAt total
-place-below size [] at q m = absurd (true≢false (sym m))
-place-below size (x ∷ l) at q m =
-    split (eqb q x)
-    (λ e. let i : q ≡ x = eqb-true q x e in rw (e, blockAt) (rw i (omega arith)))
-    (λ e. let r = place-below size l (at + size x) q (rw e at m) in rw (e, blockAt) (omega arith))

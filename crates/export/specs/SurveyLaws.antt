@@ -24,7 +24,7 @@ use Rattle.export.specs.declared.survey.Surveyed.{Surveyed}
 use Rattle.export.specs.declared.survey.Surveyed.the-variants.{Within, TooDeep}
 
 -- ---- numbers and tests
-ltb-max : (k a b : ℕ) → ltb k a || ltb k b ≡ ltb k (max a b)
+pub ltb-max : (k a b : ℕ) → ltb k a || ltb k b ≡ ltb k (max a b)
 ltb-max k a b =
     split (ltb k a)
     (λ t. let h = ltb-true k a t in rw t (sym (lt-ltb k (max a b) (omega arith))))
@@ -32,13 +32,13 @@ ltb-max k a b =
     (λ u. let h = ltb-true k b u in u ∙ sym (lt-ltb k (max a b) (omega arith)))
     (λ u. let h = ltb-false k a t in let j = ltb-false k b u in u ∙ sym (le-ltb k (max a b) (omega arith)))))
 
-ltb-suc : (k a : ℕ) → ltb k a ≡ ltb (suc k) (a + 1)
+pub ltb-suc : (k a : ℕ) → ltb k a ≡ ltb (suc k) (a + 1)
 ltb-suc k a =
     split (ltb k a)
     (λ t. let h = ltb-true k a t in t ∙ sym (lt-ltb (suc k) (a + 1) (omega arith)))
     (λ t. let h = ltb-false k a t in t ∙ sym (le-ltb (suc k) (a + 1) (omega arith)))
 
-or-assoc : (a b c : Bool) → (a || b) || c ≡ a || (b || c)
+pub or-assoc : (a b c : Bool) → (a || b) || c ≡ a || (b || c)
 or-assoc true b c = refl
 or-assoc false b c = refl
 
@@ -69,7 +69,7 @@ module _ (g : Graph) (i : ℕ) (h : i < length g) where
       (λ e. rw (run-ends e) (simp length-append (rw e (omega arith))))
       (λ e. rw (run-goes-on e) (simp length-append (rw e (omega arith))))
 
-by-arc : (f : ℕ → ℕ) (v : ℕ) → byArc KBWG f v ≡ whereThere (hasArc v) (f (arc KBWG v))
+pub by-arc : (f : ℕ → ℕ) (v : ℕ) → byArc KBWG f v ≡ whereThere (hasArc v) (f (arc KBWG v))
 by-arc f v =
     split (eqb (arc KBWG v) 0)
     (λ z. no-arc KBWG f v (eqb-true (arc KBWG v) 0 z) ∙ ap (λ b. whereThere (not b) (f (arc KBWG v))) (sym z))

@@ -9,5 +9,7 @@ pub use latin1::byte_of;
 pub use latin1::no_byte;
 pub use places::Place;
 pub use places::Tally;
+pub use places::depth_of;
+pub use places::keep_depth;
 pub use places::place_of;
 pub use places::push_block;

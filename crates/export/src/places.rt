@@ -1,9 +1,10 @@
 // The record of blocks already numbered, in a work list: for each node 0, or the place of its block and 1; then, from n on, the blocks
-// in the order of their places.
+// in the order of their places; and from 2n on, for each node whose block's arcs are all followed, the runs in the longest chain from it.
 ghost use mathlib.Core.Path.{_≡_};
-ghost use Prim.Native.Nat.{_+_, _≤_, _<_};
-ghost use lib.ListN.{length, set};
+ghost use Prim.Native.Nat.{_+_, _*_, _≤_, _<_};
+ghost use lib.ListN.{length, getD, set};
 ghost use Rattle.export.specs.Places.{placeAt};
+ghost use Rattle.export.specs.Depths.{depthAt};
 
 // What the record says of a node: where its block stands.
 pub enum Place {
@@ -42,4 +43,20 @@ pub fn push_block(n: usize, work: &mut [u32], p: usize, t: Tally, size: u32) -> 
         blocks: t.blocks + 1,
         nodes: t.nodes + size,
     }
+}
+
+// The runs in the longest chain from node p, 0 while they are not known; the work list must have an entry for them.
+pub fn depth_of(n: usize, work: &[u32], p: usize) -> u32
+    requires { ⌜ (p < n) × (3 * n ≤ length (now work)) ⌝ }
+    ensures { λ r. ⌜ r ≡ getD (now (work .entry)) (depthAt n p) 0 ⌝ }
+{
+    work[2 * n + p]
+}
+
+// Keeps the runs in the longest chain from node p; the work list must have an entry for them.
+pub fn keep_depth(n: usize, work: &mut [u32], p: usize, depth: u32)
+    requires { ⌜ (p < n) × (3 * n ≤ length (now work)) ⌝ }
+    ensures { λ _. ⌜ now (work .exit) ≡ set (now (work .entry)) (depthAt n p) depth ⌝ }
+{
+    work[2 * n + p] = depth;
 }

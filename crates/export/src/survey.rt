@@ -6,16 +6,18 @@
 // room for the tables, which must be right.
 ghost use mathlib.Core.Path.{_≡_};
 ghost use mathlib.Core.Bool.{true, false, _||_};
-ghost use Prim.Native.Nat.{_+_, _*_, _<_, _≤_, min, max};
+ghost use Prim.Native.Nat.{_+_, _*_, _<_, _≤_, min};
 ghost use lib.ListN.{length};
-ghost use Rattle.node.specs.Nodes.{KBWG, tile, arc, flag};
+ghost use Rattle.node.specs.Nodes.{KBWG, tile, arc};
 ghost use Rattle.graph.specs.ChecksLaws.{Fit};
 ghost use Rattle.export.specs.Latin1.{noByte};
 ghost use Rattle.export.specs.Starts.{hasArc, unlabelled};
 ghost use Rattle.export.specs.Survey.{most, nothing, joined, entryOf, entered, afterOf, within, LastIs, Tables, Answers, SurveyIs};
 use crate::latin1::no_byte;
+use graph::larger;
 use lists::clear;
 use node::Node24;
+use node::bit;
 
 // What is known of a run: the runs in the longest chain from it, itself included, its words (at most 4,294,967,295), and whether a label
 // that can be reached has no byte.
@@ -41,20 +43,8 @@ fn nothing() -> Findings
     }
 }
 
-fn flag(b: bool) -> u32
-    ensures { λ r. ⌜ r ≡ flag b ⌝ }
-{
-    if b { 1 } else { 0 }
-}
-
-fn larger(a: u32, b: u32) -> u32
-    ensures { λ r. ⌜ r ≡ max a b ⌝ }
-{
-    if a < b { b } else { a }
-}
-
 // The sum, or 4,294,967,295 where it is larger.
-fn capped_sum(a: u32, b: u32) -> u32
+pub fn capped_sum(a: u32, b: u32) -> u32
     ensures { λ r. ⌜ r ≡ min (a + b) most ⌝ }
 {
     if 4294967295 - b < a {
@@ -85,7 +75,7 @@ fn join_node(labels: &[u32], node: u32, child: Findings, rest: Findings) -> Find
     ensures { λ r. ⌜ r ≡ joined (now (labels .entry)) node child rest ⌝ }
 {
     let t = Node24(node).tile() as usize;
-    let own = capped_sum(flag(Node24(node).accepts()), child.words);
+    let own = capped_sum(bit(Node24(node).accepts()), child.words);
     Findings {
         runs: larger(child.runs + 1, rest.runs),
         words: capped_sum(own, rest.words),
@@ -114,7 +104,7 @@ fn keep(work: &mut [u32], n: usize, q: usize, run: Findings)
 {
     work[q] = run.runs;
     work[n + q] = run.words;
-    work[2 * n + q] = flag(run.wide);
+    work[2 * n + q] = bit(run.wide);
 }
 
 // The last node of the run from p before one that is known, or the run's last.

@@ -3,17 +3,16 @@ use mathlib.Core.Path.{_≡_, refl, sym, ap, ap₂, _∙_}
 use mathlib.Core.Bool.{Bool, true, false}
 use mathlib.Core.Logic.{_≢_}
 use mathlib.Core.List.{List, [], _∷_, _++_, map, append-nil}
-use Prim.Native.Nat.{ℕ, zero, suc, _+_, _≤_, _<_, min}
+use Prim.Native.Nat.{ℕ, suc, _+_, _<_, min}
 use native.Mathlib.Omega.{arith}
 use lib.Dec.{eqb}
 use borrow.Author.Tests.{eqb-false, eq-eqb, ne-eqb}
-use lib.ListN.{length, getD, drop, length-append, length-map}
+use lib.ListN.{length, length-append, length-map}
 use lib.Seq.{drop-cons}
 use Rattle.laws.specs.Cases.{split}
 use Rattle.node.specs.Nodes.{Places, tile, arc, accepts, isEnd, flag}
 use Rattle.graph.specs.Runs.{Graph, node, run}
 use Rattle.graph.specs.Words.{Word, inOrder, spelled, words, count}
-use Rattle.graph.specs.Counting.{table}
 use Rattle.graph.specs.Loops.{Step, by-arc, by-run, once, Clear}
 use Rattle.graph.specs.WordsEquation.{clear-below, words-equation}
 

@@ -16,19 +16,19 @@ use Rattle.graph.specs.Runs.{Graph, node, run}
 use Rattle.graph.specs.Words.{Word, inOrder, spelled, wordsWithin, words}
 use Rattle.graph.specs.Loops.{Step, by-arc, by-run, Reach, once, then, Clear}
 
+pub in-order-ext : (f h : ℕ → List Word) (l : List ℕ) → ((v : ℕ) → List·Memᴰ v l → f v ≡ h v) → inOrder f l ≡ inOrder h l
+unfolding inOrder
+in-order-ext f h [] e = refl
+in-order-ext f h (v ∷ l) e = ap₂ _++_ (e v (List·Memᴰ·head refl)) (in-order-ext f h l (λ w m. e w (List·Memᴰ·tail m)))
+
 module _ (y : Places) where
   -- ---- enough fuel
-  spelled-ext : (f h : ℕ → List Word) (v : ℕ) → (arc y v ≢ 0 → f (arc y v) ≡ h (arc y v)) → spelled y f v ≡ spelled y h v
+  pub spelled-ext : (f h : ℕ → List Word) (v : ℕ) → (arc y v ≢ 0 → f (arc y v) ≡ h (arc y v)) → spelled y f v ≡ spelled y h v
   unfolding spelled
   spelled-ext f h v e =
       split (eqb (arc y v) 0)
       (λ z. rw (z, spelled))
       (λ z. rw (z, spelled, e (eqb-false (arc y v) 0 z)))
-
-  inOrder-ext : (f h : ℕ → List Word) (l : List ℕ) → ((v : ℕ) → List·Memᴰ v l → f v ≡ h v) → inOrder f l ≡ inOrder h l
-  unfolding inOrder
-  inOrder-ext f h [] e = refl
-  inOrder-ext f h (v ∷ l) e = ap₂ _++_ (e v (List·Memᴰ·head refl)) (inOrder-ext f h l (λ w m. e w (List·Memᴰ·tail m)))
 
   -- every path from p follows fewer than k arcs, or leaves the graph by the last of k
   abbrev pub Short : Graph → ℕ → ℕ → Type 0
@@ -43,11 +43,11 @@ module _ (y : Places) where
   short-outside g zero p h = h
   short-outside g (suc k) p h = λ v m n. absurd (List·Memᴰ·not-nil (rw (no-run g p h) at m))
 
-  stable : (g : Graph) (k p : ℕ) → Short g k p → wordsWithin y (suc k) g p ≡ wordsWithin y k g p
+  pub stable : (g : Graph) (k p : ℕ) → Short g k p → wordsWithin y (suc k) g p ≡ wordsWithin y k g p
   unfolding wordsWithin inOrder
   stable g zero p s = rw (no-run g p s)
   stable g (suc k) p s =
-      inOrder-ext (spelled y (λ q. wordsWithin y (suc k) g q)) (spelled y (λ q. wordsWithin y k g q)) (run y (drop p g))
+      in-order-ext (spelled y (λ q. wordsWithin y (suc k) g q)) (spelled y (λ q. wordsWithin y k g q)) (run y (drop p g))
       (λ v m. spelled-ext (λ q. wordsWithin y (suc k) g q) (λ q. wordsWithin y k g q) v (λ n. stable g k (arc y v) (s v m n)))
 
   -- ---- no loop: no path is long

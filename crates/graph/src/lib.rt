@@ -20,7 +20,8 @@ pub enum GraphCheck {
     NoEnd,
 }
 
-fn larger(a: u32, b: u32) -> u32
+// The larger of two numbers.
+pub fn larger(a: u32, b: u32) -> u32
     ensures { λ r. ⌜ r ≡ max a b ⌝ }
 {
     if a < b { b } else { a }

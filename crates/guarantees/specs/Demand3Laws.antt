@@ -1,23 +1,22 @@
 -- Demand 3 holds. The idea: each sentence is a law of the crate that owns its subject; here is what joins them, that a call's answer with
 -- a number in it came past every check of its row.
-use mathlib.Core.Path.{_≡_, refl, sym, ap, _∙_, subst}
+use mathlib.Core.Path.{_≡_, refl, ap, _∙_, subst}
 use mathlib.Core.Bool.{Bool, true, false}
-use mathlib.Core.List.{List, [], _∷_, _++_}
+use mathlib.Core.List.{List, [], _∷_}
 use mathlib.Core.Option.{Option, none, some}
 use Prim.Native.Nat.{ℕ, _≤_, _<_, _/_, max}
 use native.Mathlib.Omega.{arith}
 use lib.Dec.{eqb}
-use lib.ListN.{length, take, drop, set, length-set}
+use lib.ListN.{length, take, drop, length-set}
 use lib.Seq.{length-take-le, take-at}
-use Rattle.laws.specs.Cases.{split, split-option}
 use Rattle.laws.specs.Lists.{All}
 use Rattle.node.specs.Answers.{Answer, gives, nothing, refused, Row, firstOf}
-use Rattle.node.specs.RowLaws.{row-answer, rows-passed, row-passed}
+use Rattle.node.specs.RowLaws.{row-answer, rows-passed}
 use Rattle.node.specs.declared.Layout.{Layout}
 use Rattle.graph.specs.Runs.{Graph}
 use Rattle.load.specs.Repacking.{Misfit, misfitAnswer, misfitOf}
 use Rattle.load.specs.Loading.{soundRow, finishRow, finishes, finish}
-use Rattle.load.specs.StateLaws.{Sound, sound}
+use Rattle.load.specs.StateLaws.{sound}
 use Rattle.load.specs.declared.loader.Loader.{Loader}
 use Rattle.pieces.specs.Pieces.{loadPieces, fedPieces}
 use Rattle.pieces.specs.PiecesLaws.{loads-as-whole, loads-however-cut}
@@ -25,7 +24,7 @@ use Rattle.numbers.specs.Numbered.{Lent, Numbered}
 use Rattle.numbers.specs.NumberedLaws.{numbered, counted-lent}
 use Rattle.export.specs.Starts.{start}
 use Rattle.export.specs.ChainLaws.{shallow-equation}
-use Rattle.export.specs.Written.{Written, written}
+use Rattle.export.specs.Written.{written}
 use Rattle.macondo_file.specs.File.{Format, dawg, gaddag, marks, macondoFile}
 use Rattle.macondo_file.specs.Row.{macondoRow, toMacondo}
 use Rattle.macondo_file.specs.RowLaws.{accepted-checks, accepted-walk}

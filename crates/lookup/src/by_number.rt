@@ -1,6 +1,9 @@
 // The word of a number.
 ghost use mathlib.Core.Path.{_≡_};
+ghost use Prim.Native.Nat.{_+_, _^_, _<_};
+ghost use lib.Dec.{ltb};
 ghost use lib.ListN.{length};
+ghost use Rattle.node.specs.Nodes.{KBWG, acceptsBit};
 ghost use Rattle.lookup.specs.Walks.{wordsHere, wordFrom, wordByIndex};
 ghost use Rattle.lookup.specs.Said.{here, Put};
 
@@ -18,25 +21,36 @@ pub enum Here {
     OutOfRange,
 }
 
-// The words of node v, at place p, by the counts from it and from the node after it.
+// The words of node v, at place p, by the counts from it and from the node after it, whose place must be a number.
 fn words_here(counts: &[u32], v: u32, p: usize) -> Here
+    requires { ⌜ p + 1 < 2 ^ 64 ⌝ }
     ensures { λ r. ⌜ here r ≡ wordsHere (now (counts .entry)) v p ⌝ }
 {
-    if counts.len() <= p {
-        return Here::NotLent;
-    }
-    let own = counts[p];
     if v / 64 % 2 == 1 {
-        return Here::Words(own);
+        if counts.len() <= p {
+            return Here::NotLent;
+        }
+        return Here::Words(counts[p]);
     }
     if counts.len() <= p + 1 {
         return Here::NotLent;
     }
+    let own = counts[p];
     let next = counts[p + 1];
     if own < next {
         return Here::OutOfRange;
     }
     Here::Words(own - next)
+}
+
+// Whether the word with number idx ends at node v: the first of its words is its tile alone, if it accepts.
+fn ends_at(v: u32, idx: u32) -> bool
+    ensures { λ r. ⌜ r ≡ ltb idx (acceptsBit KBWG v) ⌝ }
+{
+    if idx != 0 {
+        return false;
+    }
+    v / 128 % 2 == 1
 }
 
 fn word_from(nodes: &[u32], counts: &[u32], p: usize, idx: u32, word: &mut [u8]) -> WordByIndex
@@ -48,7 +62,7 @@ fn word_from(nodes: &[u32], counts: &[u32], p: usize, idx: u32, word: &mut [u8])
     while p < nodes.len() {
         let v = nodes[p];
         let accepts = v / 128 % 2;
-        if idx < accepts {
+        if ends_at(v, idx) {
             if word.len() <= n {
                 return WordByIndex::BufferFull;
             }

@@ -83,7 +83,7 @@ module _ (g : Graph) (labels w : List ℕ) (words : ℕ) (t : Tally) (h : Planne
   ready = record { fit = h .found .sound; labelled = h .found .labelled; room = let r = h .room in omega arith; places = places }
 
   -- ---- the record's order
-  pub blocks-room : length g + t .blocks ≤ length w
+  pub blocks-room : length g + t .blocks < length w
   blocks-room = let a = used-le (length g) w in let b = h .held .runs .many in let r = h .room in omega arith
 
   pub order-inside : (p : ℕ) → List·Memᴰ p (take (t .blocks) (drop (length g) w)) → p < length g

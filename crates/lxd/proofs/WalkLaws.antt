@@ -1,21 +1,22 @@
--- The checks of the walk by what the survey, the numbering and the file's length tell, and what is left by the first of them that
+-- The checks of the walk by what the labels, the survey, the numbering and the file's length tell, and what is left by the first of them that
 -- refuses, or by none.
-use mathlib.Core.Path.{_≡_, sym, ap, ap₂, _∙_}
+use mathlib.Core.Path.{_≡_, refl, sym, ap, ap₂, _∙_}
 use mathlib.Core.Bool.{true, false}
 use mathlib.Core.Logic.{_≢_}
 use mathlib.Core.List.{List, [], _∷_, _++_}
 use mathlib.Core.Option.{none}
-use Prim.Native.Nat.{ℕ, _+_, _*_, _^_, _≤_, _<_}
+use Prim.Native.Nat.{ℕ, zero, suc, _+_, _*_, _^_, _≤_, _<_}
 use native.Mathlib.Omega.{arith}
 use lib.Dec.{eqb, ltb, leb}
-use lib.ListN.{length, drop}
+use lib.ListN.{length, getD, drop}
 use lib.Seq.{sets}
 use borrow.Author.Tests.{lt-ltb, le-ltb, lt-leb}
+use Rattle.laws.specs.Cases.{or-false-left, or-false-right}
 use Rattle.laws.specs.Lists.{someOf}
 use Rattle.laws.specs.Sets.{sets-front}
 use Rattle.endian.specs.Bytes.{nodeBytes}
 use Rattle.node.specs.Answers.{gives, Row, firstOf}
-use Rattle.node.specs.Nodes.{KBWG}
+use Rattle.node.specs.Nodes.{KBWG, tile}
 use Rattle.graph.specs.Runs.{Graph}
 use Rattle.graph.specs.Words.{count}
 use Rattle.graph.specs.ChecksLaws.{Fit}
@@ -23,15 +24,18 @@ use Rattle.export.specs.Starts.{start, unlabelled}
 use Rattle.export.specs.Blocks.{met, total}
 use Rattle.export.specs.ChainLaws.{arcsFrom}
 use Rattle.export.specs.Written.{written}
-use Rattle.export.specs.Survey.{most, wide, Surveys}
-use Rattle.export.specs.ReachLaws.{survey-wide, survey-many, survey-count}
+use Rattle.export.specs.Latin1.{byteOf, noByte}
+use Rattle.export.specs.Survey.{most, wide, wideWithin, Surveys, SurveyIs}
+use Rattle.export.specs.ReachLaws.{all-fail, survey-wide, survey-many, survey-count}
 use Rattle.export.specs.declared.survey.Findings.{Findings}
+use Rattle.export.specs.declared.survey.Surveyed.{Surveyed}
 use Rattle.export.specs.declared.places.Tally.{Tally}
 use Rattle.lxd_file.specs.File.{field, runs, lxdNodes, lxdFile}
 use Rattle.lxd_file.specs.FileLaws.{length-file}
 use Rattle.lxd_file.specs.Row.{reached, walkRow}
 use Rattle.lxd_file.specs.RunsLaws.{size, reached-size, start-inside}
-use Rattle.lxd_blocks.specs.Numbered.{Held}
+use Rattle.lxd_blocks.specs.Numbered.{Held, Numbered}
+use Rattle.lxd_blocks.specs.declared.numbering.Walked.{Walked}
 use Rattle.lxd.specs.Header.{header}
 use Rattle.lxd.specs.Said.{afterChecks}
 use Rattle.lxd.specs.Planned.{Found, Planned, nodeCount}
@@ -39,8 +43,25 @@ use Rattle.lxd.proofs.HeaderLaws.{written-after, length-header, header-
 use Rattle.lxd.proofs.PlannedLaws.{total-nodes, count-nodes}
 use Rattle.lxd.proofs.RowLaws.{StopsAt, answerAt, stops-at, all-pass}
 
+-- ---- by the labels alone: 23
+has-byte : (labels : List ℕ) (t : ℕ) → someOf noByte labels ≡ false → noByte (getD labels t 0) ≡ false
+unfolding byteOf
+has-byte [] t e = refl
+has-byte (c ∷ labels) zero e = or-false-left (noByte c) (someOf noByte labels) e
+has-byte (c ∷ labels) (suc t) e = has-byte labels t (or-false-right (noByte c) (someOf noByte labels) e)
+
 module _ (g : Graph) (labels : List ℕ) where
+  pub all-have-bytes : someOf noByte labels ≡ false → someOf (wide labels) (reached g) ≡ false
+  all-have-bytes e = all-fail (wide labels) (reached g) (λ v m. has-byte labels (tile KBWG v) e)
+
   -- ---- by the survey: 23 and 13
+  -- what it answers of the start, and finds
+  abbrev pub Answers : Surveyed → Type 0
+  Answers = SurveyIs g labels 64 (start g 0)
+
+  abbrev pub Finds : Findings → Type 0
+  Finds = Surveys g labels 64 (start g 0)
+
   module _ (sound : Fit g) (f : Findings) (surveys : Surveys g labels 64 (start g 0) f) where
     pub wide-label : someOf (wide labels) (reached g) ≡ f .wide
     unfolding runs
@@ -61,19 +82,30 @@ module _ (g : Graph) (labels : List ℕ) where
           few = omega arith;
         }
 
-  -- ---- by the numbering: 25
+  -- ---- by the numbering: 22, 13 and 25
+  -- what a survey would find, but for labels without a byte
+  pub surveys-too : {w₀ w o : List ℕ} {f : Walked} → Numbered g w₀ w o true (start g 0) 64 f
+      → Surveys g labels 64 (start g 0) (record { runs = f .runs; words = f .words; wide = wideWithin g labels 64 (start g 0) })
+  surveys-too {f = f} n =
+      record {
+        deep = n .counted .depth 64 ∙ le-ltb 64 (f .runs) (n .ends);
+        runs = n .counted .depth;
+        words = n .counted .spelt 64 (n .ends);
+        wide = refl;
+      }
+
   module _ (words : ℕ) (h : Found g labels words) where
     pub few-words : leb most (count KBWG g (start g 0)) ≡ false
     few-words = let l : count KBWG g (start g 0) < most = let e = h .counted in let f = h .few in omega arith in lt-leb _ _ l
 
-    pub plan : {w : List ℕ} {t : Tally} → length g + length g ≤ length w → Held g w t (met (arcsFrom g) 64 [] (start g 0))
+    pub plan : {w : List ℕ} {t : Tally} → length g + length g < length w → Held g w t (met (arcsFrom g) 64 [] (start g 0))
         → Planned g labels w words t
     unfolding runs
     plan r k = record { found = h; room = r; held = k }
 
-  pub many-nodes : 2 ^ 22 < 2 + total (size g) (met (arcsFrom g) 64 [] (start g 0)) → ltb (2 ^ 22) (2 + length (reached g)) ≡ true
+  pub many-nodes : 2 ^ 22 < 2 + total (size g) (met (arcsFrom g) 64 [] (start g 0)) → 2 ^ 22 < 2 + length (reached g)
   unfolding runs
-  many-nodes m = let l : 2 ^ 22 < 2 + length (reached g) = let e = reached-size g in omega arith in lt-ltb _ _ l
+  many-nodes m = let e = reached-size g in omega arith
 
 module _ (g : Graph) (labels title date lent : List ℕ) where
   abbrev file : List ℕ

@@ -1,8 +1,8 @@
--- What is known before the runs are numbered, and before the file is written.
+-- What is known before the file is written.
 use mathlib.Core.Path.{_≡_}
 use mathlib.Core.Bool.{true, false}
 use mathlib.Core.List.{List}
-use Prim.Native.Nat.{ℕ, _+_, _≤_, _<_}
+use Prim.Native.Nat.{ℕ, _+_, _<_}
 use lib.Dec.{eqb}
 use lib.ListN.{length, getD}
 use Rattle.laws.specs.Lists.{someOf}
@@ -17,7 +17,7 @@ use Rattle.lxd_file.specs.File.{runs}
 use Rattle.lxd_file.specs.Row.{reached}
 use Rattle.lxd_blocks.specs.Numbered.{Held}
 
--- what the survey found where it refuses nothing: so many words
+-- what the walk tells where its checks up to the words refuse nothing: so many words
 pub record Found (g : Graph) (labels : List ℕ) (words : ℕ) : Type 0 where
   pub sound : Fit g
   pub labelled : unlabelled g labels ≡ false
@@ -29,7 +29,7 @@ pub record Found (g : Graph) (labels : List ℕ) (words : ℕ) : Type 0 where
 -- the same with the runs in the record
 pub record Planned (g : Graph) (labels w : List ℕ) (words : ℕ) (t : Tally) : Type 0 where
   pub found : Found g labels words
-  pub room : length g + length g ≤ length w
+  pub room : length g + length g < length w
   pub held : Held g w t (runs g)
 
 -- "With no words, node 2 is .. the last"

@@ -1,4 +1,5 @@
 -- What the call's answers say, and what its checks refuse by.
+use mathlib.Core.Path.{_≡_}
 use mathlib.Core.List.{List, [], _∷_}
 use mathlib.Core.Option.{Option, none, some}
 use Prim.Native.Nat.{ℕ}
@@ -37,6 +38,10 @@ writtenAs r bytes = record { answer = said r; bytes = bytes }
 -- what it answers and leaves past the checks before the walk
 abbrev pub afterChecks : Graph → List ℕ → List ℕ → List ℕ → List ℕ → Written
 afterChecks g labels title date lent = written (firstOf (walkRow g labels title date (length lent))) (lxdFile g labels title date) lent
+
+-- its refusal, whatever the texts and the file are
+abbrev pub WalkRefuses : Graph → List ℕ → Lxd → Type 0
+WalkRefuses g labels r = (title date : List ℕ) (lentFile : ℕ) → firstOf (walkRow g labels title date lentFile) ≡ some (said r)
 
 abbrev pub refusal : Checked → Option Answer
 refusal Passed = none

@@ -18,7 +18,7 @@ pub(crate) enum Checked {
 }
 
 // Whether some code point of a text has no byte.
-fn lacks_byte(text: &[u32]) -> bool
+pub(crate) fn lacks_byte(text: &[u32]) -> bool
     ensures { λ r. ⌜ r ≡ someOf noByte (now (text .entry)) ⌝ }
 {
     let mut i: usize = 0;

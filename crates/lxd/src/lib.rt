@@ -5,16 +5,18 @@ mod header;
 
 ghost use mathlib.Core.Path.{_≡_};
 ghost use mathlib.Core.Bool.{false};
-ghost use Prim.Native.Nat.{_*_, _≤_, _<_};
+ghost use Prim.Native.Nat.{_+_, _*_, _^_, _≤_, _<_};
 ghost use lib.ListN.{length};
+ghost use Rattle.laws.specs.Lists.{someOf};
 ghost use Rattle.graph.specs.ChecksLaws.{Fit};
 ghost use Rattle.graph.specs.Lent.{WorkKept};
 ghost use Rattle.export.specs.Starts.{start, unlabelled};
-ghost use Rattle.lxd_file.specs.Row.{checkRow, toLxd};
-ghost use Rattle.lxd.specs.Planned.{Found};
-ghost use Rattle.lxd.specs.Said.{writtenAs, afterChecks};
+ghost use Rattle.export.specs.Survey.{wide};
+ghost use Rattle.lxd_file.specs.Row.{reached, checkRow, toLxd};
+ghost use Rattle.lxd.specs.Said.{writtenAs, afterChecks, WalkRefuses};
 use checks::Checked;
 use checks::check;
+use checks::lacks_byte;
 use export::Tally;
 use export::survey::Surveyed;
 use export::survey::survey;
@@ -50,18 +52,40 @@ fn start(nodes: &[u32]) -> usize
     Node24(nodes[0]).arc_index() as usize
 }
 
-// Numbers the runs and writes the file, for a survey that refused nothing and found so many words. The work list must be 8 × N long.
-fn write_surveyed(
+// Why no file is written that has too many nodes: chains and words are asked before them. The graph must have passed 10, 8, 9 and 21, no
+// label that is reached may lack a byte, and the work list must be 8 × N long.
+fn refuse_too_many(nodes: &[u32], labels: &[u32], work: &mut [u32]) -> Lxd
+    requires { ⌜ Fit (now nodes) ⌝ }
+    requires { ⌜ unlabelled (now nodes) (now labels) ≡ false ⌝ }
+    requires { ⌜ 8 * length (now nodes) ≤ length (now work) ⌝ }
+    requires { ⌜ someOf (wide (now labels)) (reached (now nodes)) ≡ false ⌝ }
+    requires { ⌜ 2 ^ 22 < 2 + length (reached (now nodes)) ⌝ }
+    ensures { λ r. ⌜ WalkRefuses (now (nodes .entry)) (now (labels .entry)) r ⌝ }
+{
+    let surveyed = survey(nodes, labels, work, start(nodes));
+    let Surveyed::Within(found) = surveyed else {
+        return Lxd::ChainTooLong;
+    };
+    if found.words == 4294967295 {
+        return Lxd::TooManyWords;
+    }
+    Lxd::TooManyNodes
+}
+
+// Numbers the runs and writes the file. The graph must have passed 10, 8, 9 and 21, no label that is reached may lack a byte, and the
+// work list must be 8 × N long.
+fn write_numbered(
     nodes: &[u32],
     labels: &[u32],
     title: &[u32],
     date: &[u32],
     work: &mut [u32],
-    words: u32,
     file: &mut [u8],
 ) -> Lxd
-    requires { ⌜ Found (now nodes) (now labels) words ⌝ }
+    requires { ⌜ Fit (now nodes) ⌝ }
+    requires { ⌜ unlabelled (now nodes) (now labels) ≡ false ⌝ }
     requires { ⌜ 8 * length (now nodes) ≤ length (now work) ⌝ }
+    requires { ⌜ someOf (wide (now labels)) (reached (now nodes)) ≡ false ⌝ }
     ensures { λ r. ⌜ writtenAs r (now (file .exit)) ≡ afterChecks (now (nodes .entry)) (now (labels .entry)) (now (title .entry)) (now (date .entry)) (now (file .entry)) ⌝ }
 {
     clear(work, nodes.len());
@@ -70,13 +94,29 @@ fn write_surveyed(
         nodes: 2,
     };
     let numbered = number_run(nodes, work, start(nodes), none, 64);
-    let Numbering::Done(t) = numbered else {
-        return Lxd::TooManyNodes;
-    };
-    write_file(nodes, labels, title, date, work, words, t, file)
+    match numbered {
+        Numbering::TooDeep => Lxd::ChainTooLong,
+        Numbering::TooMany => refuse_too_many(nodes, labels, work),
+        Numbering::Done(walked) => {
+            if walked.words == 4294967295 {
+                return Lxd::TooManyWords;
+            }
+            write_file(
+                nodes,
+                labels,
+                title,
+                date,
+                work,
+                walked.words,
+                walked.tally,
+                file,
+            )
+        }
+    }
 }
 
-// Surveys the graph and writes the file. The graph must have passed 10, 8, 9 and 21, and the work list must be 8 × N long.
+// Writes the file. Only where some label has no byte are the labels that are reached looked at, by the survey. The graph must have passed
+// 10, 8, 9 and 21, and the work list must be 8 × N long.
 fn write_checked(
     nodes: &[u32],
     labels: &[u32],
@@ -90,17 +130,16 @@ fn write_checked(
     requires { ⌜ 8 * length (now nodes) ≤ length (now work) ⌝ }
     ensures { λ r. ⌜ writtenAs r (now (file .exit)) ≡ afterChecks (now (nodes .entry)) (now (labels .entry)) (now (title .entry)) (now (date .entry)) (now (file .entry)) ⌝ }
 {
-    let surveyed = survey(nodes, labels, work, start(nodes));
-    let Surveyed::Within(found) = surveyed else {
-        return Lxd::ChainTooLong;
-    };
-    if found.wide {
-        return Lxd::LetterNotLatin1;
+    if lacks_byte(labels) {
+        let surveyed = survey(nodes, labels, work, start(nodes));
+        let Surveyed::Within(found) = surveyed else {
+            return Lxd::ChainTooLong;
+        };
+        if found.wide {
+            return Lxd::LetterNotLatin1;
+        }
     }
-    if found.words == 4294967295 {
-        return Lxd::TooManyWords;
-    }
-    write_surveyed(nodes, labels, title, date, work, found.words, file)
+    write_numbered(nodes, labels, title, date, work, file)
 }
 
 // Writes the LXD file of the words from node 0's arc.

@@ -1,52 +1,77 @@
 -- What numbering answers: through an arc, by a run, and along a run's nodes, where what is left to meet gives what the whole run meets.
 use mathlib.Core.Path.{_≡_, refl, sym, ap, _∙_, subst}
 use mathlib.Core.Logic.{_≢_}
-use mathlib.Core.Bool.{true, false}
-use mathlib.Core.List.{List, [], _∷_, _++_, map}
-use Prim.Native.Nat.{ℕ, suc, _+_, _-_, _^_, _≤_, _<_}
+use mathlib.Core.Bool.{true, false, _&&_}
+use mathlib.Core.List.{List, [], _∷_, _++_, map, List·Memᴰ, List·Memᴰ·head, List·Memᴰ·tail}
+use Prim.Native.Nat.{ℕ, suc, _+_, _-_, _*_, _^_, _≤_, _<_, max}
 use native.Mathlib.Omega.{arith}
-use lib.Dec.{eqb}
+use lib.Dec.{eqb, ltb}
 use lib.ListN.{length, getD, set}
-use borrow.Author.Tests.{eqb-true, eqb-false}
-use Rattle.laws.specs.Cases.{split}
+use borrow.Author.Tests.{eqb-true, eqb-false, ne-eqb, ltb-false}
+use Rattle.laws.specs.Cases.{split, and-left, and-right}
 use Rattle.laws.specs.Lists.{kept, member}
 use Rattle.node.specs.Nodes.{KBWG, arc, isEnd}
 use Rattle.graph.specs.Runs.{Graph, node}
-use Rattle.export.specs.Starts.{runOf, hasArc}
+use Rattle.export.specs.Starts.{runOf, hasArc, deeper}
 use Rattle.export.specs.Blocks.{each, met, total}
-use Rattle.export.specs.Places.{placeAt, orderIn, metBy}
-use Rattle.export.specs.PlacesLaws.{used-lt, met-none, met-old, met-new, by-none, by-arc, total-snoc, all-total, fresh-of, stale-of, place-some, push-holds}
-use Rattle.export.specs.declared.places.Place.the-variants.{Numbered}
+use Rattle.export.specs.Places.{orderIn, metBy}
+use Rattle.export.specs.PlacesLaws.{used-lt, met-old, met-new, by-none, by-arc, total-snoc, all-total, fresh-of, stale-of, push-holds}
 use Rattle.export.specs.declared.places.Tally.{Tally}
-use Rattle.export.specs.ChainLaws.{arcsFrom}
+use Rattle.export.specs.ChainLaws.{arcsFrom, arc-from}
+use Rattle.export.specs.Depths.{depthAt, Below, NoneBut}
+use Rattle.export.specs.DepthsLaws.{loop-deep, below-arc, deep-by-arc}
 use Rattle.lxd_file.specs.RunsLaws.{size}
-use Rattle.lxd_blocks.specs.Numbered.{Held, NumberedAs}
-use Rattle.lxd_blocks.specs.NumberedLaws.{held-as, held-here}
+use Rattle.lxd_blocks.specs.Numbered.{wordsAt, passed, closed, lookedUp, Held, Known, Recorded, Numbered, NumberedAs}
+use Rattle.lxd_blocks.specs.NumberedLaws.{held-as, held-here, held-past}
+use Rattle.lxd_blocks.specs.declared.numbering.Walked.{Walked}
 use Rattle.lxd_blocks.specs.declared.numbering.Numbering.{Numbering}
 use Rattle.lxd_blocks.proofs.RunLaws.{run-last, run-more, run-first}
+use Rattle.lxd_blocks.proofs.CountedLaws.{counted-none, Passing, passing-starts, passing-node, passing-all}
+use Rattle.lxd_blocks.proofs.KnownLaws.{ended-known, ended-followed}
 
 module _ (g : Graph) where
   -- the runs met from the arcs of nodes, with so many runs left in the chain
   abbrev pub walk : ℕ → List ℕ → List ℕ → List ℕ
   walk left seen vs = each (met (arcsFrom g) left) seen (map (arc KBWG) (kept hasArc vs))
 
-  -- ---- an arc, and a run, that meet nothing new
-  module _ {w : List ℕ} {t : Tally} {o : List ℕ} (h : Held g w t o) (left p : ℕ) where
-    pub no-arc : p ≡ 0 → Held g w t (metBy (arcsFrom g) left o p)
-    no-arc e = held-as g (sym (by-none (arcsFrom g) left o p e)) h
+  -- ---- an arc
+  module _ {w : List ℕ} {t : Tally} (r : Recorded g w t) (left : ℕ) where
+    abbrev here : List ℕ
+    here = orderIn (length g) w t
 
-    pub arc-known : {x : ℕ} → p < length g → p ≢ 0 → placeAt w p ≡ Numbered x → Held g w t (metBy (arcsFrom g) left o p)
-    arc-known {x} l e k =
-        let old = stale-of (h .runs) p l (place-some w p x k) in
-        held-as g (sym (by-arc (arcsFrom g) left o p e ∙ met-old (arcsFrom g) left o p old)) h
+    pub no-arc : (v : ℕ) → arc KBWG v ≡ 0
+        → Numbered g w w (metBy (arcsFrom g) left here (arc KBWG v)) (hasArc v) (arc KBWG v) left (record { tally = t; runs = 0; words = 0 })
+    no-arc v z =
+        record {
+          held = held-as g (sym (by-none (arcsFrom g) left here (arc KBWG v) z)) (r .held);
+          known = r .known;
+          followed = λ q l f. f;
+          counted = counted-none g v z;
+          ends = omega arith;
+        }
 
-    pub chain-used : left ≡ 0 → Held g w t (met (arcsFrom g) left o p)
-    chain-used e = held-as g (sym (met-none (arcsFrom g) o p left e)) h
+    -- to a run that is numbered already
+    pub known-run : (q : ℕ) → q < length g → getD w q 0 ≢ 0 → Below g w q
+        → NumberedAs g w w (met (arcsFrom g) left here q) true q left (lookedUp (length g) w q t left)
+    known-run q l n b =
+        split (eqb (getD w (depthAt (length g) q) 0) 0)
+        (λ z. rw (z, lookedUp) (loop-deep g w q b l (n, eqb-true _ _ z) left))
+        (λ z.
+        let c = r .known q l n (eqb-false _ _ z) in
+        split (ltb left (getD w (depthAt (length g) q) 0))
+        (λ d. rw (z, d, lookedUp) (c .depth left ∙ d))
+        (λ d. rw (z, d, lookedUp) (record {
+          held = held-as g (sym (met-old (arcsFrom g) left here q (stale-of (r .held .runs) q l n))) (r .held);
+          known = r .known;
+          followed = λ p m f. f;
+          counted = c;
+          ends = ltb-false _ _ d;
+        })))
 
-  pub arc-new : (w o : List ℕ) (left p : ℕ) (r : Numbering) {q : ℕ} → q ≡ p → q ≢ 0 → NumberedAs g w (met (arcsFrom g) left o q) r
-      → NumberedAs g w (metBy (arcsFrom g) left o p) r
-  arc-new w o left p r e n h =
-      subst (λ x. NumberedAs g w x r) (ap (met (arcsFrom g) left o) e ∙ sym (by-arc (arcsFrom g) left o p (λ z. n (e ∙ z)))) h
+  pub arc-run : (w₀ w o : List ℕ) (left v : ℕ) (r : Numbering) {q : ℕ} → q ≡ arc KBWG v → q ≢ 0
+      → NumberedAs g w₀ w (met (arcsFrom g) left o q) true q left r
+      → NumberedAs g w₀ w (metBy (arcsFrom g) left o (arc KBWG v)) (hasArc v) (arc KBWG v) left r
+  arc-run w₀ w o left v r {q} e n h = rw (← e, by-arc (arcsFrom g) left o q n, ne-eqb q 0 n) h
 
   -- ---- a run that is new
   module _ {w : List ℕ} {t : Tally} {o : List ℕ} (h : Held g w t o) (p : ℕ) (l : p < length g) (new : getD w p 0 ≡ 0) where
@@ -68,11 +93,11 @@ module _ (g : Graph) where
         let k = h .within in
         subst (λ x. 2 ^ 22 < 2 + total (size g) x) (sym (met-new (arcsFrom g) left o p e fresh)) (omega arith)
 
-    pub run-pushed : (w′ : List ℕ) (t′ : Tally) (s : ℕ) → length g + length g ≤ length w → s ≡ size g p → s ≤ 2 ^ 22 - t .nodes
+    pub run-pushed : (w′ : List ℕ) (t′ : Tally) (s : ℕ) → 4 * length g ≤ length w → s ≡ size g p → s ≤ 2 ^ 22 - t .nodes
         → (w′ ≡ set (set w p (t .nodes + 1)) (length g + t .blocks) p) × (t′ .blocks ≡ t .blocks + 1) × (t′ .nodes ≡ t .nodes + s)
         → Held g w′ t′ (o ++ p ∷ [])
     run-pushed w′ t′ s room e d a = record {
-      runs = push-holds p (h .runs) l room fresh w′ t′ s e a;
+      runs = push-holds p (h .runs) l (omega arith) fresh w′ t′ s e a;
       within = let k = h .within in let z = a .2 in omega arith;
     }
 
@@ -84,39 +109,106 @@ module _ (g : Graph) where
       (λ e. rw (e, kept) (ap (λ x. walk left x vs) (sym (by-none (arcsFrom g) left o (arc KBWG v) (eqb-true _ _ e)))))
       (λ e. rw (e, kept) (ap (λ x. walk left x vs) (sym (by-arc (arcsFrom g) left o (arc KBWG v) (eqb-false _ _ e)))))
 
-  -- the runs met before node `at` of the run from p are held, and what is left gives what is met from all its nodes after those of o
-  pub record Along (left : ℕ) (o : List ℕ) (p : ℕ) (w : List ℕ) (t : Tally) (at : ℕ) : Type 0 where
+  -- the runs met before node `at` of the run from p are held, and what is left gives what is met from all its nodes after those of o;
+  -- w₀ is the work list as p was numbered
+  pub record Along (left : ℕ) (o : List ℕ) (p : ℕ) (w₀ w : List ℕ) (f : Walked) (at : ℕ) : Type 0 where
     pub inside : at < length g
-    pub held : Held g w t (orderIn (length g) w t)
-    pub rest : walk left (orderIn (length g) w t) (runOf g at) ≡ walk left o (runOf g p)
+    pub held : Held g w (f .tally) (orderIn (length g) w (f .tally))
+    pub rest : walk left (orderIn (length g) w (f .tally)) (runOf g at) ≡ walk left o (runOf g p)
+    pub own : (v : ℕ) → List·Memᴰ v (runOf g at) → List·Memᴰ v (runOf g p)
+    pub known : Known g w
+    pub followed : NoneBut g p w₀ w
+    pub passing : Passing g p (f .runs) (f .words) (runOf g at)
+    pub ends : f .runs ≤ left
 
-  pub along-starts : {left p : ℕ} {w : List ℕ} {t : Tally} → p < length g → Held g w t (orderIn (length g) w t)
-      → Along left (orderIn (length g) w t) p w t p
-  along-starts l h = record { inside = l; held = h; rest = refl }
+  pub along-starts : {left p : ℕ} {w : List ℕ} {t : Tally} → p < length g → Held g w t (orderIn (length g) w t) → Known g w
+      → Along left (orderIn (length g) w t) p w w (record { tally = t; runs = 0; words = 0 }) p
+  along-starts {p = p} l h k =
+      record {
+        inside = l;
+        held = h;
+        rest = refl;
+        own = λ v m. m;
+        known = k;
+        followed = λ q m n f. f;
+        passing = passing-starts g p;
+        ends = omega arith;
+      }
 
-  module _ {left : ℕ} {o : List ℕ} {p : ℕ} {w : List ℕ} {t : Tally} {at : ℕ} (k : Along left o p w t at) where
+  module _ {left : ℕ} {o : List ℕ} {p : ℕ} {w₀ w : List ℕ} {f : Walked} {at : ℕ} (k : Along left o p w₀ w f at) where
     abbrev seen : List ℕ
-    seen = orderIn (length g) w t
+    seen = orderIn (length g) w (f .tally)
+
+    abbrev v : ℕ
+    v = node g at
 
     abbrev next : List ℕ
-    next = metBy (arcsFrom g) left (orderIn (length g) w t) (arc KBWG (node g at))
+    next = metBy (arcsFrom g) left (orderIn (length g) w (f .tally)) (arc KBWG (node g at))
 
-    pub along-goes : {w′ : List ℕ} {t′ : Tally} → isEnd KBWG (node g at) ≡ false → suc at < length g → Held g w′ t′ next
-        → Along left o p w′ t′ (at + 1)
-    along-goes e l h = record {
-      inside = omega arith;
-      held = held-here g h;
-      rest = ap (λ x. walk left x (runOf g (at + 1))) (h .runs .order)
-          ∙ sym (ap (walk left seen) (run-more g at (k .inside) e) ∙ walk-node left seen (node g at) (runOf g (at + 1))) ∙ k .rest;
-    }
+    -- ---- what the arc of the node at hand leads to
+    arc-own : hasArc v ≡ true → List·Memᴰ (arc KBWG v) (arcsFrom g p)
+    arc-own has = let r = run-first g at (k .inside) in arc-from g p v (k .own v (subst (List·Memᴰ v) (sym (r .1)) (List·Memᴰ·head refl))) has
 
-    pub along-ends : {w′ : List ℕ} {t′ : Tally} → isEnd KBWG (node g at) ≡ true → Held g w′ t′ next
-        → Held g w′ t′ (walk left o (runOf g p))
-    along-ends e h = held-as g (sym (ap (walk left seen) (run-last g at (k .inside) e) ∙ walk-node left seen (node g at) []) ∙ k .rest) h
+    -- below p, and with it below what was followed when p was entered
+    pub along-below : (was : List ℕ) → NoneBut g p was w₀ → Below g was p → hasArc v ≡ true → Below g w (arc KBWG v)
+    along-below was n b has = below-arc g was w p (arc KBWG v) b (λ q l m f. n q l m (k .followed q l m f)) (arc-own has)
+
+    pub along-deep : hasArc v && deeper g left (arc KBWG v) ≡ true → deeper g (suc left) p ≡ true
+    along-deep d = deep-by-arc g left p (arc KBWG v) (arc-own (and-left (hasArc v) _ d)) (and-right (hasArc v) _ d)
 
     pub along-over : 2 ^ 22 < 2 + total (size g) next → 2 ^ 22 < 2 + total (size g) (walk left o (runOf g p))
     along-over h =
         let r = run-first g at (k .inside) in
-        let e = ap (walk left seen) (r .1) ∙ walk-node left seen (node g at) (r .0) in
+        let e = ap (walk left seen) (r .1) ∙ walk-node left seen v (r .0) in
         let m = all-total (size g) (arcsFrom g) left next (map (arc KBWG) (kept hasArc (r .0))) in
         subst (λ x. 2 ^ 22 < 2 + total (size g) x) (sym e ∙ k .rest) (omega arith)
+
+    -- ---- past it
+    module _ {w′ : List ℕ} {child : Walked} (c : Numbered g w w′ next (hasArc v) (arc KBWG v) left child) where
+      still : NoneBut g p w₀ w′
+      still q l n x = k .followed q l n (c .followed q l x)
+
+      within : max (f .runs) (child .runs) ≤ left
+      within = let a = k .ends in let b = c .ends in omega arith
+
+      pub along-goes : {sum : Walked} → sum ≡ passed v f child → isEnd KBWG v ≡ false → suc at < length g → Along left o p w₀ w′ sum (at + 1)
+      along-goes i e l =
+          let more = run-more g at (k .inside) e in
+          subst (λ x. Along left o p w₀ w′ x (at + 1)) (sym i)
+          (record {
+            inside = omega arith;
+            held = held-here g (c .held);
+            rest = ap (λ x. walk left x (runOf g (at + 1))) (c .held .runs .order)
+                ∙ sym (ap (walk left seen) more ∙ walk-node left seen v (runOf g (at + 1))) ∙ k .rest;
+            own = λ u m. k .own u (subst (List·Memᴰ u) (sym more) (List·Memᴰ·tail m));
+            known = c .known;
+            followed = still;
+            passing = passing-node g (subst (Passing g p (f .runs) (f .words)) more (k .passing)) (c .counted);
+            ends = within;
+          })
+
+      -- the last node passed, and what is found kept
+      module _ (e : isEnd KBWG v ≡ true) (was : List ℕ) (b : NoneBut g p was w₀) (l : p < length g) (room : 4 * length g ≤ length w′) where
+        abbrev whole : Walked
+        whole = closed (passed v f child)
+
+        kept-whole : Numbered g was (set (set w′ (depthAt (length g) p) (whole .runs)) (wordsAt (length g) p) (whole .words))
+            (walk left o (runOf g p)) true p (suc left) whole
+        kept-whole =
+            let last = run-last g at (k .inside) e in
+            let found = passing-all g (passing-node g (subst (Passing g p (f .runs) (f .words)) last (k .passing)) (c .counted)) in
+            let order = sym (ap (walk left seen) last ∙ walk-node left seen v []) ∙ k .rest in
+            let some : whole .runs ≢ 0 = λ z. omega arith in
+            record {
+              held = held-past g (wordsAt (length g) p) (whole .words) (omega arith)
+                  (held-past g (depthAt (length g) p) (whole .runs) (omega arith) (held-as g order (c .held)));
+              known = ended-known g w′ p l room (whole .runs) (whole .words) some found (c .known);
+              followed = ended-followed g w′ p l room (whole .runs) (whole .words) some was (λ q m n x. b q m n (still q m n x));
+              counted = found;
+              ends = let a = within in omega arith;
+            }
+
+        pub along-ends : {sum r : Walked} {w″ o′ : List ℕ} {turns : ℕ} → sum ≡ passed v f child
+            → (r ≡ closed sum) × (w″ ≡ set (set w′ (depthAt (length g) p) (closed sum .runs)) (wordsAt (length g) p) (sum .words))
+            → walk left o (runOf g p) ≡ o′ → suc left ≡ turns → Numbered g was w″ o′ true p turns r
+        along-ends i j x y = rw (j .0, j .1, i, ← x, ← y) kept-whole

@@ -1,10 +1,10 @@
--- The file's nodes as they are written one by one: a child by its entry in the record, a run node by node, and the record's order run by
--- run.
+-- The file's nodes as they are written one by one: a child by its entry in the record, and the nodes of all runs in the record's order.
 use mathlib.Core.Path.{_≡_, refl, sym, ap, _∙_}
 use mathlib.Core.Logic.{_≢_}
 use mathlib.Core.Bool.{Bool, true, false}
 use mathlib.Core.List.{List, [], _∷_, _++_, map, append-assoc, map-append, List·Memᴰ, List·Memᴰ·head, List·Memᴰ·tail, Memᴰ·cast}
-use Prim.Native.Nat.{ℕ, zero, suc, _+_, _≤_, _<_}
+use Prim.Native.Nat.{ℕ, zero, suc, _+_, _*_, _≤_, _<_}
+use native.Mathlib.Nat.{suc-mul}
 use native.Mathlib.Omega.{arith}
 use native.Mathlib.Numerals.{add-one}
 use lib.ListN.{length, getD, take, drop, length-append, length-drop, drop-of-length-le}
@@ -63,73 +63,129 @@ unfolding nodeBytes
 numbers-append [] b = refl
 numbers-append (v ∷ a) b = ap (toBytes v ++_) (numbers-append a b) ∙ sym (append-assoc (toBytes v) (nodeBytes a) (nodeBytes b))
 
+-- ---- a node written: what is left then, after it, is what was left
+module _ (file whole : List ℕ) (at end v : ℕ) (rest after : List ℕ) (e : rest ≡ toBytes v ++ after) where
+  pub step-length : at + length rest ≡ end → at + 4 + length after ≡ end
+  step-length h = let l = ap length e ∙ length-append (toBytes v) after in omega arith
+
+  pub step-written : sets file at rest ≡ whole → sets (sets file at (toBytes v)) (at + 4) after ≡ whole
+  step-written h = sym (sets-append file at (toBytes v) after) ∙ ap (sets file at) (sym e) ∙ h
+
 module _ (g : Graph) (labels w : List ℕ) where
-  -- ---- a run, node by node
-  module _ (p : ℕ) (inside : p < length g) where
-    abbrev own : List ℕ
-    own = toBytes (nodeIn labels w (node g p))
-
-    module _ (e : isEnd KBWG (node g p) ≡ true) where
-      pub last-bytes : runBytes g labels w p ≡ own
-      unfolding nodeBytes
-      last-bytes = ap (bytesIn labels w) (run-last g p inside e)
-
-    module _ (e : isEnd KBWG (node g p) ≡ false) where
-      more-bytes : runBytes g labels w p ≡ own ++ runBytes g labels w (p + 1)
-      unfolding nodeBytes
-      more-bytes = ap (bytesIn labels w) (run-more g p inside e)
-
-      pub more-length : length (runBytes g labels w p) ≡ 4 + length (runBytes g labels w (p + 1))
-      more-length = ap length more-bytes ∙ length-append own (runBytes g labels w (p + 1))
-
-      pub more-written : (l : List ℕ) (at : ℕ)
-          → sets (sets l at own) (at + 4) (runBytes g labels w (p + 1)) ≡ sets l at (runBytes g labels w p)
-      more-written l at = sym (ap (sets l at) more-bytes ∙ sets-append l at own (runBytes g labels w (p + 1)))
-
-    -- at least one node
-    pub some-bytes : 4 ≤ length (runBytes g labels w p)
-    unfolding nodeBytes
-    some-bytes = let r = run-first g p inside in rw (r .1) (omega arith)
-
-  -- ---- the record's order, run by run
   order-bytes : (p : ℕ) (ps : List ℕ) → orderBytes g labels w (p ∷ ps) ≡ runBytes g labels w p ++ orderBytes g labels w ps
   order-bytes p ps =
       ap nodeBytes (map-append (nodeIn labels w) (runOf g p) (joinAll (map (runOf g) ps)))
       ∙ numbers-append (map (nodeIn labels w) (runOf g p)) (map (nodeIn labels w) (joinAll (map (runOf g) ps)))
 
-  module _ (k : ℕ) (room : length g + k ≤ length w) where
-    abbrev pub order : List ℕ
+  module _ (k : ℕ) where
+    -- the first k runs of the record, and the bytes of those from run i on
+    abbrev order : List ℕ
     order = take k (drop (length g) w)
 
-    pub order-length : length order ≡ k
-    order-length = length-take-le k (drop (length g) w) (simp length-drop (omega arith))
+    abbrev from : ℕ → List ℕ
+    from i = orderBytes g labels w (drop i order)
 
-    module _ (i : ℕ) (h : i < k) where
-      abbrev here : ℕ
-      here = getD w (length g + i) 0
+    -- ---- what is left to write at node p of run i: the rest of the run, and the runs after it
+    abbrev left : ℕ → ℕ → List ℕ
+    left i p = runBytes g labels w p ++ from (i + 1)
 
-      abbrev after : List ℕ
-      after = orderBytes g labels w (drop (i + 1) order)
+    module _ (i p : ℕ) (inside : p < length g) where
+      left-last : isEnd KBWG (node g p) ≡ true → left i p ≡ toBytes (nodeIn labels w (node g p)) ++ from (i + 1)
+      unfolding nodeBytes
+      left-last e = ap (λ vs. bytesIn labels w vs ++ from (i + 1)) (run-last g p inside e)
 
-      order-at : getD order i 0 ≡ here
-      order-at = getD-take k (drop (length g) w) i 0 h ∙ getD-drop (length g) w i 0
+      left-more : isEnd KBWG (node g p) ≡ false → left i p ≡ toBytes (nodeIn labels w (node g p)) ++ left i (p + 1)
+      unfolding nodeBytes
+      left-more e =
+          ap (λ vs. bytesIn labels w vs ++ from (i + 1)) (run-more g p inside e)
+          ∙ append-assoc (toBytes (nodeIn labels w (node g p))) (runBytes g labels w (p + 1)) (from (i + 1))
 
-      pub order-in : List·Memᴰ here order
-      order-in = let l = order-length in Memᴰ·cast (sym order-at) (in-at order i (omega arith))
+      -- at least one node
+      pub left-some : 4 ≤ length (left i p)
+      unfolding nodeBytes
+      left-some =
+          let r = run-first g p inside in
+          let l = length-append (runBytes g labels w p) (from (i + 1)) in
+          let s : 4 ≤ length (runBytes g labels w p) = rw (r .1) (omega arith) in
+          omega arith
 
-      order-next : orderBytes g labels w (drop i order) ≡ runBytes g labels w here ++ after
-      order-next =
-          let l = order-length in
-          let e : drop i order ≡ getD order i 0 ∷ drop (i + 1) order = rw (add-one, drop-cons order i 0 (omega arith)) in
-          ap (orderBytes g labels w) e ∙ order-bytes (getD order i 0) (drop (i + 1) order) ∙ ap (λ q. runBytes g labels w q ++ after) order-at
+    -- the bytes before `at` are written, and what is left gives the whole
+    pub record Writing (file₀ file : List ℕ) (at i p : ℕ) : Type 0 where
+      pub size : length file ≡ length file₀
+      pub inside : i < k → p < length g
+      pub fits : i < k → at + length (left i p) ≡ 72 + length (from 0)
+      pub rest : i < k → sets file at (left i p) ≡ sets file₀ 72 (from 0)
+      pub done : k ≤ i → file ≡ sets file₀ 72 (from 0)
 
-      pub next-length : length (orderBytes g labels w (drop i order)) ≡ length (runBytes g labels w here) + length after
-      next-length = ap length order-next ∙ length-append (runBytes g labels w here) after
+    module _ (room : length g + k < length w) (runs : (p : ℕ) → List·Memᴰ p order → p < length g) where
+      order-length : length order ≡ k
+      order-length = length-take-le k (drop (length g) w) (simp length-drop (omega arith))
 
-      pub next-written : (l : List ℕ) (at : ℕ) → sets (sets l at (runBytes g labels w here)) (at + length (runBytes g labels w here)) after
-          ≡ sets l at (orderBytes g labels w (drop i order))
-      next-written l at = sym (ap (sets l at) order-next ∙ sets-append l at (runBytes g labels w here) after)
+      order-at : (i : ℕ) → i < k → getD order i 0 ≡ getD w (length g + i) 0
+      order-at i h = getD-take k (drop (length g) w) i 0 h ∙ getD-drop (length g) w i 0
 
-    pub order-done : (i : ℕ) → k ≤ i → orderBytes g labels w (drop i order) ≡ []
-    unfolding nodeBytes
-    order-done i h = let l : length order ≤ i = let e = order-length in omega arith in ap (orderBytes g labels w) (drop-of-length-le order l)
+      run-none : (i : ℕ) → k ≤ i → from i ≡ []
+      unfolding nodeBytes
+      run-none i h = let l : length order ≤ i = let e = order-length in omega arith in ap (orderBytes g labels w) (drop-of-length-le order l)
+
+      -- where run i begins
+      module _ (i p : ℕ) (e : p ≡ getD w (length g + i) 0) (h : i < k) where
+        run-inside : p < length g
+        run-inside =
+            let l = order-length in
+            runs p (Memᴰ·cast (sym (order-at i h ∙ sym e)) (in-at order i (omega arith)))
+
+        run-left : from i ≡ left i p
+        run-left =
+            let l = order-length in
+            let c : drop i order ≡ getD order i 0 ∷ drop (i + 1) order = rw (add-one, drop-cons order i 0 (omega arith)) in
+            ap (orderBytes g labels w) c ∙ order-bytes (getD order i 0) (drop (i + 1) order) ∙ ap (left i) (order-at i h ∙ sym e)
+
+      pub writing-starts : (file : List ℕ) (p : ℕ) → p ≡ getD w (length g) 0 → Writing file file 72 0 p
+      writing-starts file p e =
+          let z : p ≡ getD w (length g + 0) 0 = e ∙ ap (λ j. getD w j 0) (omega arith) in
+          record {
+            size = refl;
+            inside = run-inside 0 p z;
+            fits = λ h. ap (λ l. 72 + length l) (sym (run-left 0 p z h));
+            rest = λ h. ap (sets file 72) (sym (run-left 0 p z h));
+            done = λ h. ap (sets file 72) (sym (run-none 0 h));
+          }
+
+      module _ {file₀ file file′ : List ℕ} {at i p : ℕ} (h : Writing file₀ file at i p) (l : i < k)
+          (same : length file′ ≡ length file) (e : file′ ≡ sets file at (toBytes (nodeIn labels w (node g p)))) where
+        wrote : (after : List ℕ) → left i p ≡ toBytes (nodeIn labels w (node g p)) ++ after → sets file′ (at + 4) after ≡ sets file₀ 72 (from 0)
+        wrote after c =
+            ap (λ f. sets f (at + 4) after) e
+            ∙ step-written file (sets file₀ 72 (from 0)) at (72 + length (from 0)) (nodeIn labels w (node g p)) (left i p) after c (h .rest l)
+
+        fitted : (after : List ℕ) → left i p ≡ toBytes (nodeIn labels w (node g p)) ++ after → at + 4 + length after ≡ 72 + length (from 0)
+        fitted after c =
+            step-length file (sets file₀ 72 (from 0)) at (72 + length (from 0)) (nodeIn labels w (node g p)) (left i p) after c (h .fits l)
+
+        pub writing-on : isEnd KBWG (node g p) ≡ false → suc p < length g → Writing file₀ file′ (at + 4) i (p + 1)
+        writing-on b n =
+            let c = left-more i p (h .inside l) b in
+            record {
+              size = same ∙ h .size;
+              inside = λ m. omega arith;
+              fits = λ m. fitted (left i (p + 1)) c;
+              rest = λ m. wrote (left i (p + 1)) c;
+              done = λ m. absurd (omega arith);
+            }
+
+        pub writing-over : (q : ℕ) → isEnd KBWG (node g p) ≡ true → q ≡ getD w (length g + i + 1) 0 → Writing file₀ file′ (at + 4) (i + 1) q
+        writing-over q b r =
+            let c = left-last i p (h .inside l) b in
+            let z : q ≡ getD w (length g + (i + 1)) 0 = r ∙ ap (λ j. getD w j 0) (omega arith) in
+            record {
+              size = same ∙ h .size;
+              inside = run-inside (i + 1) q z;
+              fits = λ m. ap (λ x. at + 4 + length x) (sym (run-left (i + 1) q z m)) ∙ fitted (from (i + 1)) c;
+              rest = λ m. ap (sets file′ (at + 4)) (sym (run-left (i + 1) q z m)) ∙ wrote (from (i + 1)) c;
+              done = λ m. ap (sets file′ (at + 4)) (sym (run-none (i + 1) m)) ∙ wrote (from (i + 1)) c;
+            }
+
+-- the measure of the loop: the runs left, then the nodes left in a run
+pub falls : (a b n x y : ℕ) → a ≡ suc b → x ≤ n → b * suc n + x < a * suc n + y
+falls a b n x y e h = let m = ap (_* suc n) e ∙ suc-mul b (suc n) in omega arith

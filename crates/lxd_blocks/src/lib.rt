@@ -4,4 +4,5 @@ mod numbering;
 
 pub use nodes::write_runs;
 pub use numbering::Numbering;
+pub use numbering::Walked;
 pub use numbering::number_run;

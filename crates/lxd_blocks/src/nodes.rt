@@ -4,20 +4,15 @@ ghost use mathlib.Core.List.{List·Memᴰ};
 ghost use Prim.Native.Nat.{ℕ, _+_, _^_, _≤_, _<_};
 ghost use lib.ListN.{length, take, drop};
 ghost use lib.Seq.{sets};
-ghost use Rattle.node.specs.Nodes.{KBWG, tile, arc, flag, values, packed};
+ghost use Rattle.node.specs.Nodes.{KBWG, tile, arc, values, packed};
 ghost use Rattle.lxd_file.specs.File.{LXD};
-ghost use Rattle.lxd_blocks.specs.Placed.{childIn, nodeIn, runBytes, orderBytes, Ready};
+ghost use Rattle.lxd_blocks.specs.Placed.{childIn, nodeIn, orderBytes, Ready};
 use endian::write_le_u32;
 use export::Place;
 use export::byte_of;
 use export::place_of;
 use node::Node24;
-
-fn bit(b: bool) -> u32
-    ensures { λ r. ⌜ (r ≡ flag b) × (r ≤ 1) ⌝ }
-{
-    if b { 1 } else { 0 }
-}
+use node::bit;
 
 // A node of the file; the child's place must have no more than 22 bits.
 fn pack(letter: u8, accepts: bool, is_end: bool, child: u32) -> u32
@@ -27,15 +22,16 @@ fn pack(letter: u8, accepts: bool, is_end: bool, child: u32) -> u32
     bit(is_end) * 0x80000000 + bit(accepts) * 0x40000000 + letter as u32 * 0x400000 + child
 }
 
-// Where the run that an arc leads to stands by the record, which must have an entry for it; arc 0 leads nowhere.
+// Where the run that an arc leads to stands by the record, which must have an entry for it; arc 0 leads nowhere. The entry is read before it
+// is known whether it is asked for, so that the processor has nothing to guess.
 fn child_place(work: &[u32], arc: u32) -> u32
     requires { ⌜ arc < length (now work) ⌝ }
     ensures { λ r. ⌜ r ≡ childIn (now (work .entry)) arc ⌝ }
 {
+    let place = place_of(work, arc as usize);
     if arc == 0 {
         return 0;
     }
-    let place = place_of(work, arc as usize);
     let Place::Numbered(at) = place else {
         return 0;
     };
@@ -58,37 +54,11 @@ fn file_node(labels: &[u32], work: &[u32], node: u32) -> u32
     )
 }
 
-// Writes the run from node `first` to the bytes from `from` on, which must be there, and gives the byte after it.
-fn write_run(
-    nodes: &[u32],
-    labels: &[u32],
-    work: &[u32],
-    first: usize,
-    file: &mut [u8],
-    from: usize,
-) -> usize
-    requires { ⌜ Ready (now nodes) (now labels) (now work) ⌝ }
-    requires { ⌜ first < length (now nodes) ⌝ }
-    requires { ⌜ from + length (runBytes (now nodes) (now labels) (now work) first) ≤ length (now file) ⌝ }
-    ensures { λ r. ⌜ (r ≡ from + length (runBytes (now (nodes .entry)) (now (labels .entry)) (now (work .entry)) first)) × (now (file .exit) ≡ sets (now (file .entry)) from (runBytes (now (nodes .entry)) (now (labels .entry)) (now (work .entry)) first)) ⌝ }
-{
-    let mut p = first;
-    let mut at = from;
-    loop {
-        let node = nodes[p];
-        write_le_u32(file, at, file_node(labels, work, node));
-        at += 4;
-        if Node24(node).is_end() {
-            return at;
-        }
-        p += 1;
-    }
-}
-
-// Writes the first `blocks` runs of the record's order to the bytes from 72 on, which must be there.
+// Writes the first `blocks` runs of the record's order to the bytes from 72 on, which must be there; the record must go on after them. Where
+// the next run begins is read before it is known whether this one ends, so that the processor has nothing to guess.
 pub fn write_runs(nodes: &[u32], labels: &[u32], work: &[u32], blocks: usize, file: &mut [u8])
     requires { ⌜ Ready (now nodes) (now labels) (now work) ⌝ }
-    requires { ⌜ length (now nodes) + blocks ≤ length (now work) ⌝ }
+    requires { ⌜ length (now nodes) + blocks < length (now work) ⌝ }
     requires { ⌜ ((p : ℕ) → List·Memᴰ p (take blocks (drop (length (now nodes)) (now work))) → p < length (now nodes)) ⌝ }
     requires { ⌜ 72 + length (orderBytes (now nodes) (now labels) (now work) (take blocks (drop (length (now nodes)) (now work)))) ≤ length (now file) ⌝ }
     ensures { λ _. ⌜ now (file .exit) ≡ sets (now (file .entry)) 72 (orderBytes (now (nodes .entry)) (now (labels .entry)) (now (work .entry)) (take blocks (drop (length (now (nodes .entry))) (now (work .entry))))) ⌝ }
@@ -96,9 +66,17 @@ pub fn write_runs(nodes: &[u32], labels: &[u32], work: &[u32], blocks: usize, fi
     let n = nodes.len();
     let mut at: usize = 72;
     let mut i: usize = 0;
+    let mut p = work[n] as usize;
     while i < blocks {
-        let p = work[n + i] as usize;
-        at = write_run(nodes, labels, work, p, file, at);
-        i += 1;
+        let node = nodes[p];
+        write_le_u32(file, at, file_node(labels, work, node));
+        at += 4;
+        let next = work[n + i + 1] as usize;
+        if Node24(node).is_end() {
+            i += 1;
+            p = next;
+        } else {
+            p += 1;
+        }
     }
 }

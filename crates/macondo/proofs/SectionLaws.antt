@@ -11,8 +11,7 @@ use Rattle.laws.specs.Sets.{sets-append}
 use Rattle.endian.specs.Bytes.{bigEndian, bigEndians}
 use Rattle.endian.specs.BigLaws.{big-length, bigs-length}
 use Rattle.endian.specs.Putting.{Putting, put-start, put-room, put-next, put-done}
-use Rattle.graph.specs.TableLaws.{table-length, table-at}
-use Rattle.graph.specs.Counting.{table}
+use Rattle.graph.specs.TableLaws.{table-length}
 use Rattle.macondo_file.specs.File.{section, Format, dawg, gaddag, marks}
 use Rattle.letter_sets.specs.Sets.{setAt, setsIn}
 use Rattle.macondo.specs.declared.tables.Counts.{Counts}

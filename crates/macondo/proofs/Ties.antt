@@ -1,7 +1,6 @@
 -- The tables that the walk fills hold what the definitions of the file say. The idea: a block's entry in the record of blocks is its
 -- number and 1, and the blocks and their sets stand in the order of the definition; so what is read block after block is the file's.
 use mathlib.Core.Path.{_≡_, refl, sym, ap, ap₂, _∙_, subst}
-use mathlib.Core.Bool.{false}
 use mathlib.Core.List.{List, [], _∷_, _++_, map, List·Memᴰ, List·Memᴰ·head, List·Memᴰ·tail}
 use Prim.Native.Nat.{ℕ, zero, suc, _+_, _-_, _*_, _≤_, _<_}
 use native.Mathlib.Omega.{arith}
@@ -14,11 +13,11 @@ use Rattle.laws.specs.Lists.{member, joinAll}
 use Rattle.laws.specs.Members.{member-mem, mem-member}
 use Rattle.node.specs.Nodes.{KBWG, tile, arc}
 use Rattle.graph.specs.Runs.{Graph}
-use Rattle.export.specs.Starts.{start, deeper}
 use Rattle.export.specs.BlocksLaws.{block-within}
 use Rattle.graph.specs.RunLaws.{in-graph}
 use Rattle.export.specs.ChainLaws.{arc-from, arcs-inside}
 use Rattle.export.specs.PlacesLaws.{used-le}
+use Rattle.export.specs.declared.places.Tally.{Tally}
 use Rattle.macondo_file.specs.Alphabet.{letters}
 use Rattle.macondo_file.specs.File.{section, Format, marks, arcsOf, setOf, blocks, sets, blockNumber, blockOf, macondoNodes, macondoFile}
 use Rattle.macondo_file.specs.ReadingLaws.{file-length}
@@ -29,7 +28,7 @@ use Rattle.macondo_blocks.specs.Blocks.{sizeOf}
 use Rattle.letter_sets.specs.Letters.{Ranks, Small}
 use Rattle.letter_sets.specs.Sets.{setsIn}
 use Rattle.macondo.specs.declared.tables.Counts.{Counts}
-use Rattle.macondo.specs.Tables.{arcIn, blockIn, nodesFrom, fileIn, Tables, Filled}
+use Rattle.macondo.specs.Tables.{arcIn, blockIn, nodesFrom, fileIn, BlocksIn, Tables, Filled}
 use Rattle.macondo.proofs.Rows.{ready}
 
 -- ---- lists
@@ -62,15 +61,20 @@ nodes-over g labels ranks w number (p ∷ l) j h =
     let e : suc j + k ≡ j + suc k = omega arith in
     rw e (h (suc k) (omega arith))))
 
--- ---- what the walk leaves in the work list: first the record of blocks, then the sets
+-- ---- what the walk leaves in the work list: first the record of blocks
+pub nodes-count : {g : Graph} {labels : List ℕ} {f : Format} {w : List ℕ} {t : Tally} → BlocksIn g labels f w t → t .nodes ≡ length (macondoNodes g labels f)
+unfolding blocks
+nodes-count {g} {labels} {f} b = let a = b .holds .sum in let n = nodes-length g labels f in omega arith
+
+-- then the sets
 module _ {g : Graph} {labels name : List ℕ} {lentWork : ℕ} (c : Checked g labels name lentWork) (f : Format)
-    {w : List ℕ} {k : Counts} (t : Tables g labels (start g (marks f .root)) w k) where
+    {w : List ℕ} {k : Counts} (t : Tables g labels f w k) where
   order : take (k .blocks) (drop (length g) (t .recorded)) ≡ blocks g labels f
   unfolding blocks
-  order = t .holds .order
+  order = t .first .holds .order
 
   blocks-within : k .blocks ≤ length g
-  blocks-within = let a = used-le (length g) (t .recorded) in let b = t .holds .many in omega arith
+  blocks-within = let a = used-le (length g) (t .recorded) in let b = t .first .holds .many in omega arith
 
   many : length (blocks g labels f) ≡ k .blocks
   many =
@@ -124,10 +128,6 @@ module _ {g : Graph} {labels name : List ℕ} {lentWork : ℕ} (c : Checked g la
         omega arith
 
   -- ---- places
-  pub nodes-count : k .nodes ≡ length (macondoNodes g labels f)
-  unfolding blocks
-  nodes-count = let a = t .holds .sum in let b = nodes-length g labels f in omega arith
-
   place-most : (q : ℕ) → q < length g → getD w q 0 ≤ k .nodes
   unfolding blocks
   place-most q h =
@@ -135,26 +135,26 @@ module _ {g : Graph} {labels name : List ℕ} {lentWork : ℕ} (c : Checked g la
       let l = blocks g labels f in
       split (member q l)
       (λ m.
-      let o = t .holds .old q h m in
+      let o = t .first .holds .old q h m in
       let b = block-within (sizeOf g labels) l 0 q (member-mem q l m) in
-      let s = t .holds .sum in
+      let s = t .first .holds .sum in
       omega arith)
-      (λ m. let n = t .holds .new q h m in omega arith)
+      (λ m. let n = t .first .holds .new q h m in omega arith)
 
   -- ---- the file's length
   pub size-is : (text : List ℕ)
       → 17 + length text + 4 * (length labels - 1) + 8 * k .sets + 4 * k .nodes ≡ length (macondoFile g labels f text)
   size-is text =
       let a = sets-count in
-      let b = nodes-count in
+      let b = nodes-count (t .first) in
       let d = file-length g labels f text in
       omega arith
 
-  -- ---- the nodes, where every chain ends
-  module _ (shallow : deeper g 64 (start g (marks f .root)) ≡ false) (ranks : List ℕ) (ranked : Ranks labels ranks) where
+  -- ---- the nodes
+  module _ (ranks : List ℕ) (ranked : Ranks labels ranks) where
     number-of : (q : ℕ) → q < length g → List·Memᴰ q (blocks g labels f) → getD (t .recorded) q 0 ≡ blockNumber g labels f q + 1
     unfolding blocks
-    number-of q h m = t .holds .old q h (mem-member q (blocks g labels f) m)
+    number-of q h m = t .first .holds .old q h (mem-member q (blocks g labels f) m)
 
     arc-same : (p v : ℕ) → List·Memᴰ p (blocks g labels f) → List·Memᴰ v (arcsOf g labels p) → arcIn ranks w v ≡ arcNode g labels f v
     unfolding arcIn
@@ -163,7 +163,7 @@ module _ {g : Graph} {labels name : List ℕ} {lentWork : ℕ} (c : Checked g la
         let child = arc-from g p v (a .0) (a .1) in
         let q = arc KBWG v in
         let inside : q < length g = arcs-inside g (c .sound .steps) p q child in
-        let o = number-of q inside (child-block c f shallow p q m child) in
+        let o = number-of q inside (child-block c f (t .first .shallow) p q m child) in
         let kept = t .numbered .kept q (omega arith) in
         let place : getD w q 0 - 1 ≡ blockNumber g labels f q = omega arith in
         ap₂ (λ l b. l * 16777216 + b) (ranked (tile KBWG v) (c .labelled v (in-graph KBWG g p v (a .0)))) place
@@ -196,7 +196,7 @@ module _ {g : Graph} {labels name : List ℕ} {lentWork : ℕ} (c : Checked g la
           places = λ q h. let p = place-most q h in omega arith;
           runs = run-below;
           numbers = number-below;
-          nodes = nodes-count ∙ ap length (sym nodes-are);
+          nodes = nodes-count (t .first) ∙ ap length (sym nodes-are);
         }
 
     pub file-is : (text letters′ : List ℕ) → take (length labels - 1) letters′ ≡ letters labels

@@ -1,15 +1,17 @@
 -- The file's parts as the writer reads them from its tables: a list of ranks by tile, and the work list, which holds for each node the
 -- place of its block and 1, from n on each block's run, from 2n on each block's set number.
 use mathlib.Core.Path.{_≡_}
+use mathlib.Core.Bool.{false}
 use mathlib.Core.List.{List, [], _∷_, _++_, map}
 use Prim.Native.Nat.{ℕ, zero, suc, _+_, _-_, _*_, _≤_, _<_}
 use lib.ListN.{length, getD, take}
 use Rattle.node.specs.Nodes.{KBWG, tile, arc}
 use Rattle.graph.specs.Runs.{Graph}
-use Rattle.export.specs.Blocks.{met}
+use Rattle.export.specs.Starts.{start, deeper}
 use Rattle.export.specs.Places.{Holds}
+use Rattle.export.specs.declared.places.Tally.{Tally}
 use Rattle.macondo_file.specs.File.{Format, marks, section, arcsOf, setOf}
-use Rattle.macondo_blocks.specs.Blocks.{Ready, childrenOf, sizeOf}
+use Rattle.macondo_blocks.specs.Blocks.{Ready, sizeOf, blocksFrom}
 use Rattle.letter_sets.specs.Letters.{Small}
 use Rattle.letter_sets.specs.Sets.{setsIn, Numbered}
 use Rattle.macondo.specs.declared.tables.Counts.{Counts}
@@ -35,11 +37,16 @@ fileIn f name g labels letters ranks w c =
     ++ (section 4 (map (λ t. getD labels t 0) (take (length labels - 1) letters))
     ++ (section 8 (setsIn (length g) w (c .sets)) ++ section 4 (nodesFrom g labels ranks w 0 (c .blocks))))
 
--- What the walk from node s leaves in the work list: the record of the blocks met, and then, over all but that, their sets.
-pub record Tables (g : Graph) (labels : List ℕ) (s : ℕ) (w : List ℕ) (c : Counts) : Type 0 where
+-- What numbering the blocks leaves in the work list: the record of those met from the start, where every chain ends.
+pub record BlocksIn (g : Graph) (labels : List ℕ) (f : Format) (w : List ℕ) (t : Tally) : Type 0 where
+  pub holds : Holds (length g) (sizeOf g labels) 0 w t (blocksFrom g labels (start g (marks f .root)))
+  pub shallow : deeper g 64 (start g (marks f .root)) ≡ false
+
+-- And then, over all but that, their sets.
+pub record Tables (g : Graph) (labels : List ℕ) (f : Format) (w : List ℕ) (c : Counts) : Type 0 where
   pub recorded : List ℕ
   pub room : 2 * length g ≤ length recorded
-  pub holds : Holds (length g) (sizeOf g labels) 0 recorded (record { blocks = c .blocks; nodes = c .nodes }) (met (childrenOf g labels) 64 [] s)
+  pub first : BlocksIn g labels f recorded (record { blocks = c .blocks; nodes = c .nodes })
   pub numbered : Numbered (setOf g labels) (length g) (c .blocks) recorded w (c .sets)
 
 -- What must hold of the tables for the file to be written from them: each block is of a node, and every number fits its bits.

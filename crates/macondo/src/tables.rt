@@ -1,11 +1,6 @@
 // What is numbered before a byte is written: blocks and letter sets, in the work list.
-ghost use Prim.Native.Nat.{_*_, _≤_, _<_};
-ghost use lib.ListN.{length};
-ghost use Rattle.macondo_blocks.specs.Blocks.{Ready};
-ghost use Rattle.letter_sets.specs.Letters.{Ranks, Small};
-ghost use Rattle.macondo.specs.Tables.{Tables};
-use letter_sets::number_sets;
-use macondo_blocks::number_blocks;
+ghost use mathlib.Core.Path.{_≡_};
+ghost use Prim.Native.Nat.{_+_, _-_, _*_, _≤_, _<_};
 
 // The blocks and sets in the work list, and the nodes that the file will have.
 pub struct Counts {
@@ -14,25 +9,10 @@ pub struct Counts {
     pub nodes: u32,
 }
 
-// Numbers the blocks from node s on, and their sets. The graph must have passed the checks before the walk, the ranks be those of the
-// labels, and the work list have 7 numbers a node.
-pub(crate) fn fill_tables(
-    nodes: &[u32],
-    labels: &[u32],
-    ranks: &[u8; 64],
-    work: &mut [u32],
-    s: usize,
-) -> Counts
-    requires { ⌜ Ready (now nodes) (now labels) ⌝ }
-    requires { ⌜ Small (now ranks) × Ranks (now labels) (now ranks) ⌝ }
-    requires { ⌜ (s < length (now nodes)) × (7 * length (now nodes) ≤ length (now work)) ⌝ }
-    ensures { λ r. ⌜ Tables (now (nodes .entry)) (now (labels .entry)) s (now (work .exit)) r ⌝ }
+// The length of a file with a name of so many bytes; there must be a label, and at most 50, and the name must not be too long.
+pub(crate) fn file_size(labels: usize, name: usize, counts: Counts) -> usize
+    requires { ⌜ (0 < labels) × (labels ≤ 50) × (name ≤ 255) ⌝ }
+    ensures { λ r. ⌜ r ≡ 17 + name + 4 * (labels - 1) + 8 * counts .sets + 4 * counts .nodes ⌝ }
 {
-    let tally = number_blocks(nodes, labels, work, s);
-    let sets = number_sets(nodes, ranks, work, tally.blocks as usize);
-    Counts {
-        blocks: tally.blocks,
-        sets,
-        nodes: tally.nodes,
-    }
+    17 + name + 4 * (labels - 1) + 8 * (counts.sets as usize) + 4 * (counts.nodes as usize)
 }

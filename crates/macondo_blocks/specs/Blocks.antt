@@ -2,7 +2,7 @@
 use mathlib.Core.Path.{_≡_}
 use mathlib.Core.Bool.{Bool, true, false}
 use mathlib.Core.List.{List, [], _∷_, _++_, map}
-use Prim.Native.Nat.{ℕ, suc, _+_, _≤_, _<_}
+use Prim.Native.Nat.{ℕ, suc, _*_, _≤_, _<_}
 use lib.Dec.{eqb}
 use lib.ListN.{length, take}
 use lib.Seq.{slice}
@@ -13,12 +13,16 @@ use Rattle.node.specs.Nodes.{KBWG, tile, arc}
 use Rattle.graph.specs.Runs.{Graph, ascends}
 use Rattle.graph.specs.ChecksLaws.{Fit}
 use Rattle.graph.specs.Lent.{Kept}
-use Rattle.export.specs.Starts.{hasArc, unlabelled}
+use Rattle.export.specs.Starts.{hasArc, unlabelled, deeper}
 use Rattle.export.specs.Blocks.{met}
 use Rattle.export.specs.Places.{orderIn, Holds}
+use Rattle.export.specs.Depths.{Depth, Depths, NoneLeft}
 use Rattle.export.specs.declared.places.Tally.{Tally}
 use Rattle.macondo_file.specs.Alphabet.{precedes}
 use Rattle.macondo_file.specs.File.{arcsOf}
+use Rattle.macondo_blocks.specs.declared.blocks.Reached.{Reached}
+use Rattle.macondo_blocks.specs.declared.blocks.Numbering.{Numbering}
+use Rattle.macondo_blocks.specs.declared.blocks.Numbering.the-variants.{Done, TooDeep}
 
 -- the arc order, of nodes by their tiles; a tile as a node without arc and flags is its own tile
 abbrev pub byTile : List ℕ → ℕ → ℕ → Bool
@@ -27,6 +31,11 @@ byTile labels v w = precedes labels (tile KBWG v) (tile KBWG w)
 -- every node's tile has a label
 abbrev pub Labelled : List ℕ → List ℕ → Type 0
 Labelled labels vs = All (λ v. tile KBWG v < length labels) vs
+
+-- the arc order: no entry precedes one that stands before it
+abbrev pub Ordered : List ℕ → List ℕ → Type 0
+Ordered labels [] = Unit
+Ordered labels (v ∷ vs) = All (λ w. byTile labels w v ≡ false) vs × Ordered labels vs
 
 -- where an entry goes among the first `count` of the list: the place of the first that it precedes, or `count`
 pub record Slot (labels list : List ℕ) (count v r : ℕ) : Type 0 where
@@ -59,17 +68,33 @@ sizeOf g labels p = suc (length (arcsOf g labels p))
 abbrev pub blocksFrom : Graph → List ℕ → ℕ → List ℕ
 blocksFrom g labels s = met (childrenOf g labels) 64 [] s
 
--- the work list has room for the record, which holds the blocks numbered so far
+-- the work list has room for the record and the depths; it holds the blocks numbered so far, and how deep they are
 pub record Recorded (g : Graph) (labels : List ℕ) (w : List ℕ) (t : Tally) : Type 0 where
   pub ready : Ready g labels
-  pub room : length g + length g ≤ length w
+  pub room : 3 * length g ≤ length w
   pub holds : Holds (length g) (sizeOf g labels) 0 w t (orderIn (length g) w t)
+  pub depths : Depths g w
 
--- what numbering leaves: the record of the blocks in the list, and the numbers past it as before
+-- what numbering leaves: the record of the blocks in the list, and the numbers past the depths as before
 pub record Numbered (g : Graph) (labels : List ℕ) (w w′ : List ℕ) (t : Tally) (blocks : List ℕ) : Type 0 where
   pub holds : Holds (length g) (sizeOf g labels) 0 w′ t blocks
-  pub past : Kept (length g + length g) w w′
+  pub past : Kept (3 * length g) w w′
 
--- the same of a block and what its arcs lead to, where a record stands and a chain of c runs is left
-abbrev pub NumberedFrom : Graph → List ℕ → List ℕ → Tally → ℕ → ℕ → List ℕ → Tally → Type 0
-NumberedFrom g labels w t c p w′ t′ = Numbered g labels w w′ t′ (met (childrenOf g labels) c (orderIn (length g) w t) p)
+-- the same of a block and what its arcs lead to, where a record stands and a chain of c runs is left: the runs in the longest chain from
+-- it, which are no more; the depths of all blocks that are not being followed; and that no other block is followed than before
+pub record Reaches (g : Graph) (labels w : List ℕ) (t : Tally) (c p : ℕ) (w′ : List ℕ) (r : Reached) : Type 0 where
+  pub numbered : Numbered g labels w w′ (r .tally) (met (childrenOf g labels) c (orderIn (length g) w t) p)
+  pub depth : Depth g p (r .runs)
+  pub within : r .runs ≤ c
+  pub depths : Depths g w′
+  pub left : NoneLeft g w w′
+
+abbrev pub NumberingFrom : Graph → List ℕ → List ℕ → Tally → ℕ → ℕ → List ℕ → Numbering → Type 0
+NumberingFrom g labels w t c p w′ (Done r) = Reaches g labels w t c p w′ r
+NumberingFrom g labels w t c p w′ TooDeep = deeper g c p ≡ true
+
+-- the blocks of a file whose start is node s: "over 64 runs, each reached by an arc of the one before, from the start", or the record of
+-- the blocks and the runs in the longest chain
+abbrev pub NumberingIs : Graph → List ℕ → ℕ → List ℕ → List ℕ → Numbering → Type 0
+NumberingIs g labels s w w′ (Done r) = Numbered g labels w w′ (r .tally) (blocksFrom g labels s) × Depth g s (r .runs) × (deeper g 64 s ≡ false)
+NumberingIs g labels s w w′ TooDeep = deeper g 64 s ≡ true

@@ -1,18 +1,36 @@
-// The numbers of the blocks: "depth first, each before its children", by the arc order. The record of blocks stands in the work list.
+// The numbers of the blocks: "depth first, each before its children", by the arc order. The record of blocks and their depths stand in
+// the work list.
 ghost use mathlib.Core.Path.{_≡_};
-ghost use Prim.Native.Nat.{_+_, _≤_, _<_};
+ghost use Prim.Native.Nat.{_*_, _≤_, _<_};
 ghost use lib.ListN.{length, getD};
-ghost use Rattle.macondo_blocks.specs.Blocks.{blocksFrom, Ready, Recorded, Numbered, NumberedFrom};
+ghost use Rattle.export.specs.Depths.{Below};
+ghost use Rattle.macondo_blocks.specs.Blocks.{Ready, Recorded, NumberingIs, NumberingFrom};
 use crate::arcs::arcs_of;
 use export::Place;
 use export::Tally;
+use export::depth_of;
+use export::keep_depth;
 use export::place_of;
 use export::push_block;
+use graph::larger;
 use lists::clear;
 use node::Node24;
 
+// The tally after a block and what can be reached from it are numbered, and the runs in the longest chain from the block.
+pub struct Reached {
+    pub tally: Tally,
+    pub runs: u32,
+}
+
+// What numbering comes to: an end, or a chain with more runs than are left.
+pub enum Numbering {
+    Done(Reached),
+    TooDeep,
+}
+
 // Numbers the block of node `child`, and what can be reached from it, unless it is numbered already. The work list must hold the
-// record of the blocks numbered so far.
+// record of the blocks numbered so far, and their depths; and every chain from `child` must go on one from each block that is being
+// followed, so that one of these, met again, closes a loop.
 fn number_arc(
     nodes: &[u32],
     labels: &[u32],
@@ -20,18 +38,25 @@ fn number_arc(
     child: usize,
     t: Tally,
     chain_left: u32,
-) -> Tally
+) -> Numbering
     requires { ⌜ Recorded (now nodes) (now labels) (now work) t ⌝ }
-    requires { ⌜ child < length (now nodes) ⌝ }
-    ensures { λ r. ⌜ NumberedFrom (now (nodes .entry)) (now (labels .entry)) (now (work .entry)) t «chain_left» child (now (work .exit)) r ⌝ }
+    requires { ⌜ (child < length (now nodes)) × Below (now nodes) (now work) child ⌝ }
+    ensures { λ r. ⌜ NumberingFrom (now (nodes .entry)) (now (labels .entry)) (now (work .entry)) t «chain_left» child (now (work .exit)) r ⌝ }
 {
     let Place::Numbered(_) = place_of(work, child) else {
         return number_run(nodes, labels, work, child, t, chain_left);
     };
-    t
+    let runs = depth_of(nodes.len(), work, child);
+    if runs == 0 {
+        return Numbering::TooDeep;
+    }
+    if chain_left < runs {
+        return Numbering::TooDeep;
+    }
+    Numbering::Done(Reached { tally: t, runs })
 }
 
-// Numbers the block of node p, which must not be numbered yet, and then what its arcs lead to.
+// Numbers the block of node p, which must not be numbered yet, and then what its arcs lead to. While they are followed its depth is 0.
 fn number_run(
     nodes: &[u32],
     labels: &[u32],
@@ -39,32 +64,44 @@ fn number_run(
     p: usize,
     t: Tally,
     chain_left: u32,
-) -> Tally
+) -> Numbering
     requires { ⌜ Recorded (now nodes) (now labels) (now work) t ⌝ }
-    requires { ⌜ (p < length (now nodes)) × (getD (now work) p 0 ≡ 0) ⌝ }
-    ensures { λ r. ⌜ NumberedFrom (now (nodes .entry)) (now (labels .entry)) (now (work .entry)) t «chain_left» p (now (work .exit)) r ⌝ }
+    requires { ⌜ (p < length (now nodes)) × Below (now nodes) (now work) p ⌝ }
+    requires { ⌜ getD (now work) p 0 ≡ 0 ⌝ }
+    ensures { λ r. ⌜ NumberingFrom (now (nodes .entry)) (now (labels .entry)) (now (work .entry)) t «chain_left» p (now (work .exit)) r ⌝ }
 {
     if chain_left == 0 {
-        return t;
+        return Numbering::TooDeep;
     }
     let mut arcs = [0u32; 64];
     let count = arcs_of(nodes, labels, p, &mut arcs);
     let mut sum = push_block(nodes.len(), work, p, t, count as u32 + 1);
+    keep_depth(nodes.len(), work, p, 0);
+    let mut runs: u32 = 0;
     let mut i = 0;
     while i < count {
         let child = Node24(arcs[i]).arc_index() as usize;
-        sum = number_arc(nodes, labels, work, child, sum, chain_left - 1);
+        let found = number_arc(nodes, labels, work, child, sum, chain_left - 1);
+        let Numbering::Done(reached) = found else {
+            return Numbering::TooDeep;
+        };
+        sum = reached.tally;
+        runs = larger(runs, reached.runs);
         i += 1;
     }
-    sum
+    keep_depth(nodes.len(), work, p, runs + 1);
+    Numbering::Done(Reached {
+        tally: sum,
+        runs: runs + 1,
+    })
 }
 
-// Numbers the blocks from node s on, over a work list that has room for the record, two numbers a node. The graph must have passed
-// the checks before the walk.
-pub fn number_blocks(nodes: &[u32], labels: &[u32], work: &mut [u32], s: usize) -> Tally
+// Numbers the blocks from node s on, unless a chain from it has more than 64 runs, over a work list that has room for the record and
+// the depths, three numbers a node. The graph must have passed the checks before the walk.
+pub fn number_blocks(nodes: &[u32], labels: &[u32], work: &mut [u32], s: usize) -> Numbering
     requires { ⌜ Ready (now nodes) (now labels) ⌝ }
-    requires { ⌜ (s < length (now nodes)) × (length (now nodes) + length (now nodes) ≤ length (now work)) ⌝ }
-    ensures { λ r. ⌜ Numbered (now (nodes .entry)) (now (labels .entry)) (now (work .entry)) (now (work .exit)) r (blocksFrom (now (nodes .entry)) (now (labels .entry)) s) ⌝ }
+    requires { ⌜ (s < length (now nodes)) × (3 * length (now nodes) ≤ length (now work)) ⌝ }
+    ensures { λ r. ⌜ NumberingIs (now (nodes .entry)) (now (labels .entry)) s (now (work .entry)) (now (work .exit)) r ⌝ }
 {
     clear(work, nodes.len());
     number_run(

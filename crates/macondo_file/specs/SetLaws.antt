@@ -1,15 +1,15 @@
 -- A set of letters has just the letters of its block's nodes that end a word, fits in 64 bits, and is read back as those letters.
-use mathlib.Core.Path.{_≡_, refl, sym, ap, _∙_}
+use mathlib.Core.Path.{_≡_, sym, ap, _∙_}
 use mathlib.Core.Bool.{true}
 use mathlib.Core.Logic.{_≢_, ⊎-elim}
-use mathlib.Core.List.{List, [], _∷_, map, List·Memᴰ, List·Memᴰ·head, List·Memᴰ·tail, List·Memᴰ·not-nil, List·Memᴰ·append-cases, List·Memᴰ·eq-of-singleton, Memᴰ·append-left, Memᴰ·append-right}
+use mathlib.Core.List.{List, [], _∷_, map, List·Memᴰ, List·Memᴰ·head, List·Memᴰ·not-nil, List·Memᴰ·append-cases, List·Memᴰ·eq-of-singleton, Memᴰ·append-left, Memᴰ·append-right}
 use Prim.Native.Nat.{ℕ, zero, suc, _^_, _≤_, _<_}
 use native.Mathlib.Omega.{arith}
 use lib.Dec.{eqb}
 use lib.ListN.{length}
 use borrow.Author.Tests.{eqb-true, eqb-false}
 use Rattle.laws.specs.Bits.{hasBit}
-use Rattle.laws.specs.BitSets.{bitSet, bit-set-bit, bit-set-below}
+use Rattle.laws.specs.BitSets.{bit-set-bit, bit-set-below}
 use Rattle.laws.specs.Cases.{split}
 use Rattle.laws.specs.Lists.{kept}
 use Rattle.laws.specs.Members.{member-mem, mem-member, in-map, map-in, in-kept, kept-in}

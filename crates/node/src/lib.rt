@@ -14,7 +14,8 @@ pub enum Packed {
     DoesNotFit { tile: u8, arc_index: u32 },
 }
 
-fn bit(b: bool) -> u32
+// A flag as a number.
+pub fn bit(b: bool) -> u32
     ensures { λ r. ⌜ (r ≡ flag b) × (r ≤ 1) ⌝ }
 {
     if b { 1 } else { 0 }

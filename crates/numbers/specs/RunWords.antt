@@ -15,7 +15,7 @@ use Rattle.node.specs.Nodes.{tile, arc, accepts, acceptsBit, KBWG, isEnd}
 use Rattle.graph.specs.Runs.{Graph, node, run}
 use Rattle.graph.specs.Words.{Word, spelled, inOrder, words, count}
 use Rattle.graph.specs.WordsEquation.{words-equation}
-use Rattle.graph.specs.Counting.{table, Loopless}
+use Rattle.graph.specs.Counting.{Loopless}
 use Rattle.graph.specs.LoopLaws.{clear-where-loopless}
 use Rattle.graph.specs.CountLaws.{words-end as words-at-end, words-on as words-before-end}
 use Rattle.graph.specs.ChecksLaws.{Closed}

@@ -1,8 +1,8 @@
 -- Lists of numbers, of bytes and of words are the same where their lengths are and each entry is; an answer agrees where the stored one is
 -- the same. Assumes nothing.
-use Prim.Native.Nat.{ℕ, _+_, _-_, _≤_, _<_}
+use Prim.Native.Nat.{ℕ, _-_, _≤_, _<_}
 use native.Mathlib.Omega.{arith}
-use mathlib.Core.Path.{_≡_, refl, ap, sym, _∙_}
+use mathlib.Core.Path.{_≡_, refl, ap, _∙_}
 use mathlib.Core.Bool.{Bool, true, false}
 use mathlib.Core.List.{List, _∷_, []}
 use lib.ListN.{length, getD, take, drop, length-drop}

@@ -1,5 +1,5 @@
 -- What the contracts on answers cite: the form of a stored answer, and what it means that an answer is the stored one. Assumes nothing.
-use Prim.Native.Nat.{ℕ, _+_, _-_, _≤_, _<_}
+use Prim.Native.Nat.{ℕ, _+_, _-_, _^_, _≤_, _<_}
 use mathlib.Core.Path.{_≡_}
 use mathlib.Core.Bool.{Bool, true, false}
 use mathlib.Core.List.{List}
@@ -22,6 +22,13 @@ pub record Answered (case : List ℕ) (at kind : ℕ) (limits : List ℕ) (more 
   pub there : at < length case
   pub of-kind : getD case at 0 ≡ kind
   pub rest : Shaped case (at + 1) limits more most
+
+-- the number that an answer starts with, which of an empty one is the highest that there is, and the number after it
+abbrev pub kindOf : List ℕ → ℕ
+kindOf stored = getD stored 0 (2 ^ 64 - 1)
+
+abbrev pub secondOf : List ℕ → ℕ
+secondOf stored = getD stored 1 0
 
 pub record Decides (answer : Bool) (fact : Type 0) : Type 0 where
   pub sound : answer ≡ true → fact

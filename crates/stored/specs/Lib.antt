@@ -1,4 +1,6 @@
 pub mod Lines
+pub mod LineLaws
 pub mod Inputs
 pub mod Answers
 pub mod Lent
+pub mod Tally

@@ -1,13 +1,30 @@
--- What the contracts on lines cite: a number with one digit more, and how much of the room a line's numbers fill. Assumes nothing.
-use Prim.Native.Nat.{ℕ, _+_, _*_, _-_, _^_, _≤_}
+-- What the contracts on lines cite: a line with one byte more, what a whole line is, and the numbers of the room that either completes.
+-- Assumes nothing.
+use Prim.Native.Nat.{ℕ, _+_, _*_, _-_, _^_}
 use mathlib.Core.Bool.{Bool, true, false}
 use mathlib.Core.List.{List}
-use lib.ListN.{length}
-use lib.Dec.{ltb, leb}
+use lib.ListN.{set}
+use lib.Dec.{ltb, leb, eqb}
+use Rattle.stored.specs.Inputs.{pick}
+use Rattle.stored.specs.declared.lines.Line.{Line}
 use Rattle.stored.specs.declared.lines.Part.{Part}
-use Rattle.stored.specs.declared.lines.Part.the-variants.{Number, Spoilt}
+use Rattle.stored.specs.declared.lines.Part.the-variants.{Start, Number, Blank, Spoilt}
 use Rattle.stored.specs.declared.lines.Ended.{Ended}
-use Rattle.stored.specs.declared.lines.Ended.the-variants.{Comment, Case, Malformed}
+use Rattle.stored.specs.declared.lines.Ended.the-variants.{Case, Malformed}
+
+abbrev pub lineOf : ℕ → Part → Line
+lineOf count part = record { count = count; part = part }
+
+-- the line of which no byte has come yet
+abbrev pub emptyLine : Line
+emptyLine = lineOf 0 Start
+
+abbrev pub isStart : Part → Bool
+isStart Start = true
+isStart (Number value) = false
+isStart Blank = false
+isStart Part.Comment = false
+isStart Spoilt = false
 
 abbrev pub orSpoilt : Bool → Part → Part
 orSpoilt true p = p
@@ -18,8 +35,38 @@ abbrev pub withDigit : ℕ → ℕ → Part
 withDigit value byte =
     orSpoilt (leb 48 byte) (orSpoilt (leb byte 57) (orSpoilt (ltb (value * 10 + (byte - 48)) (2 ^ 64)) (Number (value * 10 + (byte - 48)))))
 
--- a case has a number at least, and no more than there is room for
-abbrev pub Fills : Ended → List ℕ → Type 0
-Fills Comment numbers = Unit {0}
-Fills (Case count) numbers = (1 ≤ count) × (count ≤ length numbers)
-Fills Malformed numbers = Unit {0}
+-- byte 35 starts a comment
+abbrev pub firstPart : ℕ → Part
+firstPart byte = pick (eqb byte 35) Part.Comment (withDigit 0 byte)
+
+-- after a number and a blank, where there is room for the number
+abbrev pub afterBlank : ℕ → ℕ → Line
+afterBlank room count = pick (ltb count room) (lineOf (count + 1) Blank) (lineOf count Spoilt)
+
+-- the line of so many numbers and a part, with one byte more; byte 32 is a blank
+abbrev pub withByte : ℕ → ℕ → Part → ℕ → Line
+withByte room count Start byte = lineOf count (firstPart byte)
+withByte room count (Number value) byte = pick (eqb byte 32) (afterBlank room count) (lineOf count (withDigit value byte))
+withByte room count Blank byte = lineOf count (withDigit 0 byte)
+withByte room count Part.Comment byte = lineOf count Part.Comment
+withByte room count Spoilt byte = lineOf count Spoilt
+
+-- what the whole line is: a case ends in a number that there is room for
+abbrev pub ended : ℕ → ℕ → Part → Ended
+ended room count Start = Malformed
+ended room count (Number value) = pick (ltb count room) (Case (count + 1)) Malformed
+ended room count Blank = Malformed
+ended room count Part.Comment = Ended.Comment
+ended room count Spoilt = Malformed
+
+-- the room's numbers with the one that the line ends in, where it ends in one and there is room for it, at its place
+abbrev pub completed : ℕ → Part → List ℕ → List ℕ
+completed count Start numbers = numbers
+completed count (Number value) numbers = set numbers count value
+completed count Blank numbers = numbers
+completed count Part.Comment numbers = numbers
+completed count Spoilt numbers = numbers
+
+-- a blank completes the number before it, no other byte does
+abbrev pub completedBy : ℕ → ℕ → Part → List ℕ → List ℕ
+completedBy byte count part numbers = pick (eqb byte 32) (completed count part numbers) numbers

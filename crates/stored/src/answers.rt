@@ -1,7 +1,7 @@
 // Answers: the form of a stored one, and whether it is the one that a call gave.
 ghost use mathlib.Core.Path.{_≡_};
 ghost use mathlib.Core.List.{_∷_};
-ghost use Rattle.stored.specs.Answers.{limitAt, Shaped, Answered, Decides, Agrees, HasAt, verdictOf};
+ghost use Rattle.stored.specs.Answers.{limitAt, Shaped, Answered, Decides, Agrees, HasAt, verdictOf, kindOf, secondOf};
 ghost use Prim.Native.Nat.{_≤_};
 ghost use lib.ListN.{length};
 
@@ -80,7 +80,9 @@ fn limit_at(limits: &[u64], at: usize, most: u64) -> u64
 }
 
 // The number that an answer starts with, which says its kind.
-pub fn kind_of(stored: &[u64]) -> u64 {
+pub fn kind_of(stored: &[u64]) -> u64
+    ensures { λ r. ⌜ r ≡ kindOf (now (stored .entry)) ⌝ }
+{
     if stored.len() == 0 {
         u64::MAX
     } else {
@@ -89,7 +91,9 @@ pub fn kind_of(stored: &[u64]) -> u64 {
 }
 
 // The number after it, which may be a length.
-pub fn second_of(stored: &[u64]) -> usize {
+pub fn second_of(stored: &[u64]) -> usize
+    ensures { λ r. ⌜ r ≡ secondOf (now (stored .entry)) ⌝ }
+{
     if stored.len() < 2 {
         0
     } else {

@@ -1,5 +1,4 @@
 // Lists that are lent to a call: what they hold until it writes them.
-ghost use mathlib.Core.Path.{_≡_};
 ghost use Rattle.stored.specs.Answers.{Decides};
 ghost use Rattle.stored.specs.Lent.{Untouched};
 

@@ -1,7 +1,9 @@
 // A line of the input, read byte by byte: unsigned decimal numbers parted by single blanks, or a
 // comment. The bytes of a line may come in any number of pieces.
 ghost use mathlib.Core.Path.{_≡_};
-ghost use Rattle.stored.specs.Lines.{withDigit, Fills};
+ghost use lib.ListN.{length, set};
+ghost use lib.Dec.{ltb};
+ghost use Rattle.stored.specs.Lines.{emptyLine, isStart, firstPart, withDigit, withByte, ended, completed, completedBy};
 
 // The most numbers that a line may hold.
 pub const ROOM: usize = 32768;
@@ -29,7 +31,9 @@ pub enum Ended {
     Malformed,
 }
 
-pub fn empty() -> Line {
+pub fn empty() -> Line
+    ensures { λ r. ⌜ r ≡ emptyLine ⌝ }
+{
     Line {
         count: 0,
         part: Part::Start,
@@ -37,28 +41,42 @@ pub fn empty() -> Line {
 }
 
 // The line with one byte more, which is not a line's end.
-pub fn add_byte(line: Line, byte: u8, numbers: &mut [u64]) -> Line {
+pub fn add_byte(line: Line, byte: u8, numbers: &mut [u64]) -> Line
+    ensures { λ r. ⌜ r ≡ withByte (length (now (numbers .entry))) (line .count) (line .part) byte ⌝ }
+    ensures { λ _. ⌜ now (numbers .exit) ≡ completedBy byte (line .count) (line .part) (now (numbers .entry)) ⌝ }
+{
     let count = line.count;
     let part = line.part;
-    if byte == b' ' {
-        if let Part::Number(value) = part {
-            return after_number(count, value, numbers);
-        }
-    }
-    Line {
-        count,
-        part: next_part(part, byte),
+    match part {
+        Part::Start => Line {
+            count,
+            part: first_part(byte),
+        },
+        Part::Number(value) => after_number(count, value, byte, numbers),
+        Part::Blank => Line {
+            count,
+            part: with_digit(0, byte),
+        },
+        Part::Comment => line,
+        Part::Spoilt => line,
     }
 }
 
 // A line that ends in a blank, or holds nothing at all, is no case.
 pub fn end(line: Line, numbers: &mut [u64]) -> Ended
-    ensures { λ r. ⌜ Fills r (now (numbers .exit)) ⌝ }
+    ensures { λ r. ⌜ r ≡ ended (length (now (numbers .entry))) (line .count) (line .part) ⌝ }
+    ensures { λ _. ⌜ now (numbers .exit) ≡ completed (line .count) (line .part) (now (numbers .entry)) ⌝ }
 {
     let count = line.count;
     let part = line.part;
     match part {
-        Part::Number(value) => keep(count, value, numbers),
+        Part::Number(value) => {
+            if keep(count, value, numbers) {
+                Ended::Case(count + 1)
+            } else {
+                Ended::Malformed
+            }
+        }
         Part::Comment => Ended::Comment,
         Part::Start => Ended::Malformed,
         Part::Blank => Ended::Malformed,
@@ -67,22 +85,16 @@ pub fn end(line: Line, numbers: &mut [u64]) -> Ended
 }
 
 // Whether no byte of the line has come yet.
-pub fn is_empty(line: Line) -> bool {
+pub fn is_empty(line: Line) -> bool
+    ensures { λ r. ⌜ r ≡ isStart (line .part) ⌝ }
+{
     let part = line.part;
     if let Part::Start = part { true } else { false }
 }
 
-fn next_part(part: Part, byte: u8) -> Part {
-    match part {
-        Part::Start => first_part(byte),
-        Part::Number(value) => with_digit(value, byte),
-        Part::Blank => with_digit(0, byte),
-        Part::Comment => part,
-        Part::Spoilt => part,
-    }
-}
-
-fn first_part(byte: u8) -> Part {
+fn first_part(byte: u8) -> Part
+    ensures { λ r. ⌜ r ≡ firstPart byte ⌝ }
+{
     if byte == b'#' {
         Part::Comment
     } else {
@@ -108,26 +120,38 @@ fn with_digit(value: u64, byte: u8) -> Part
     }
 }
 
-fn after_number(count: usize, value: u64, numbers: &mut [u64]) -> Line {
-    let Ended::Case(kept) = keep(count, value, numbers) else {
+// A blank completes the number. Any other byte can only be its next digit.
+fn after_number(count: usize, value: u64, byte: u8, numbers: &mut [u64]) -> Line
+    ensures { λ r. ⌜ r ≡ withByte (length (now (numbers .entry))) count (Part.Number value) byte ⌝ }
+    ensures { λ _. ⌜ now (numbers .exit) ≡ completedBy byte count (Part.Number value) (now (numbers .entry)) ⌝ }
+{
+    if byte != b' ' {
         return Line {
             count,
-            part: Part::Spoilt,
+            part: with_digit(value, byte),
         };
-    };
-    Line {
-        count: kept,
-        part: Part::Blank,
+    }
+    if keep(count, value, numbers) {
+        Line {
+            count: count + 1,
+            part: Part::Blank,
+        }
+    } else {
+        Line {
+            count,
+            part: Part::Spoilt,
+        }
     }
 }
 
-// Puts a complete number after the line's others. A line with more numbers than room is malformed.
-fn keep(count: usize, value: u64, numbers: &mut [u64]) -> Ended
-    ensures { λ r. ⌜ Fills r (now (numbers .exit)) ⌝ }
+// Puts a complete number after the line's others, and answers whether there was room for it.
+fn keep(count: usize, value: u64, numbers: &mut [u64]) -> bool
+    ensures { λ r. ⌜ r ≡ ltb count (length (now (numbers .entry))) ⌝ }
+    ensures { λ _. ⌜ now (numbers .exit) ≡ set (now (numbers .entry)) count value ⌝ }
 {
     if numbers.len() <= count {
-        return Ended::Malformed;
+        return false;
     }
     numbers[count] = value;
-    Ended::Case(count + 1)
+    true
 }

@@ -1,7 +1,9 @@
 // What the lines so far came to.
 use crate::answers::Verdict;
 use libc::STDOUT_FILENO;
+ghost use mathlib.Core.Path.{_≡_};
 ghost use Prim.Native.Nat.{_<_};
+ghost use Rattle.stored.specs.Tally.{oneMore, newTally, withLine, withMalformed, withDifference, withCase, judgedAs};
 
 // One more than the highest number that a call may have.
 pub const CALLS: usize = 32;
@@ -16,7 +18,9 @@ pub struct Tally {
 }
 
 impl Tally {
-    pub fn new() -> Tally {
+    pub fn new() -> Tally
+        ensures { λ r. ⌜ r ≡ newTally ⌝ }
+    {
         Tally {
             line: 1,
             cases: [0; CALLS],
@@ -25,19 +29,25 @@ impl Tally {
         }
     }
 
-    pub fn next_line(mut self) -> Tally {
+    pub fn next_line(mut self) -> Tally
+        ensures { λ r. ⌜ r ≡ withLine self ⌝ }
+    {
         self.line = one_more(self.line);
         self
     }
 
-    pub fn malformed(mut self) -> Tally {
+    pub fn malformed(mut self) -> Tally
+        ensures { λ r. ⌜ r ≡ withMalformed self ⌝ }
+    {
         self.malformed = one_more(self.malformed);
         report(self.line, b" malformed\n");
         self
     }
 
     // A call that has no place in the tally makes its line malformed, so that no case goes uncounted.
-    pub fn judged(self, call: u64, verdict: Verdict) -> Tally {
+    pub fn judged(self, call: u64, verdict: Verdict) -> Tally
+        ensures { λ r. ⌜ r ≡ judgedAs call verdict self ⌝ }
+    {
         let call = call as usize;
         if CALLS <= call {
             return self.malformed();
@@ -51,12 +61,15 @@ impl Tally {
 
     fn case(mut self, call: usize) -> Tally
         requires { do ⌜ call < (← ⟦CALLS⟧) ⌝ }
+        ensures { λ r. ⌜ r ≡ withCase call self ⌝ }
     {
         self.cases[call] = one_more(self.cases[call]);
         self
     }
 
-    fn difference(mut self) -> Tally {
+    fn difference(mut self) -> Tally
+        ensures { λ r. ⌜ r ≡ withDifference self ⌝ }
+    {
         self.differences = one_more(self.differences);
         report(self.line, b" differs\n");
         self
@@ -83,6 +96,8 @@ fn print_number(before: &[u8], number: u64, after: &[u8]) {
 }
 
 // A count that stands at the highest number stays there: it never wraps to none.
-fn one_more(count: u64) -> u64 {
+fn one_more(count: u64) -> u64
+    ensures { λ r. ⌜ r ≡ oneMore count ⌝ }
+{
     if count < u64::MAX { count + 1 } else { count }
 }

@@ -1,5 +1,4 @@
 -- `count_words` meets its contract: each refusal by its condition of the row, and past them what `count_checked` gives.
-use native.Mathlib.Omega.{arith}
 use mathlib.Core.Path.{_≡_, refl, sym, ap, _∙_}
 use mathlib.Core.Option.{none, some}
 use mathlib.Core.List.{List}

@@ -1,4 +1,3 @@
-use native.Mathlib.Omega.{arith}
 use mathlib.Core.Path.{_≡_, sym, ap, _∙_}
 use Rattle.node.specs.Answers.{firstOf}
 use Rattle.graph.specs.Checks.{refusal, graphRow}

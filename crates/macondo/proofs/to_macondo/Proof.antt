@@ -68,7 +68,7 @@ at-labels : (c : tie.After-enum-told) → firstOf (row (c .before .before .befor
 at-labels c = rows-pass (graphRow (g (c .before .before .before .before .before .before .before .before))) (drop 3 (row (c .before .before .before .before .before .before .before .before))) (judged (c .before .before) (c .enum-told .given .1))
 
 at-name : (c : tie.Else2) → firstOf (row (c .before .before .before .before .before .before .before .before .before .before)) ≡ firstOf (drop 4 (row (c .before .before .before .before .before .before .before .before .before .before)))
-at-name c = at-labels (c .before .before) ∙ row-passes _ _ _ (rw (ne-eqb _ _ (c .before .if1 .left), le-ltb _ _ (c .if2 .left)))
+at-name c = at-labels (c .before .before) ∙ row-passes _ _ _ (rw (ne-eqb _ _ (c .before .if1 .left), le-ltb 50 (length (labels (c .before .before .before .before .before .before .before .before .before .before))) (omega (arith, c .if2 .left))))
 
 at-tiles : (c : tie.Else3) → firstOf (row (c .before .before .before .before .before .before .before .before .before .before .before)) ≡ firstOf (drop 5 (row (c .before .before .before .before .before .before .before .before .before .before .before)))
 at-tiles c = at-name (c .before) ∙ row-passes _ _ _ (le-ltb _ _ (c .if3 .left))
@@ -114,7 +114,7 @@ returns-4 : tie.Need-returns-4
 returns-4 c = refused (c .before .before .before .before .before .before .before .before .before) M.LabelCount (at-labels (c .before) ∙ row-refuses _ _ _ (rw (eq-eqb _ _ (c .if1 .taken))))
 
 returns-5 : tie.Need-returns-5
-returns-5 c = let s = c .before .before .before .before .before .before .before .before .before .before in refused s M.LabelCount (at-labels (c .before .before) ∙ row-refuses _ _ _ (rw (lt-ltb _ _ (c .if2 .taken)) (or-true (eqb (length (labels s)) 0))))
+returns-5 c = let s = c .before .before .before .before .before .before .before .before .before .before in refused s M.LabelCount (at-labels (c .before .before) ∙ row-refuses _ _ _ (rw (lt-ltb 50 (length (labels s)) (omega (arith, c .if2 .taken))) (or-true (eqb (length (labels s)) 0))))
 
 returns-6 : tie.Need-returns-6
 returns-6 c = refused (c .before .before .before .before .before .before .before .before .before .before .before) M.NameTooLong (at-name (c .before) ∙ row-refuses _ _ _ (lt-ltb _ _ (c .if3 .taken)))

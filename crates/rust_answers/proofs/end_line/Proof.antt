@@ -1,5 +1,6 @@
 -- `end_line` is safe: a case fills at least one place of the room, and no more than there are. Assumes nothing.
 use borrow.Author.Needs.{needs}
+use Rattle.stored.specs.LineLaws.{ended-fills}
 use Rattle.rust_answers.proofs.end_line.Statement.{statement}
 use Rattle.rust_answers.proofs.end_line.Tie as tie
 
@@ -25,7 +26,9 @@ enum-known-count : tie.Need-enum-known-count
 enum-known-count c = search needs
 
 judged-requires : tie.Need-judged-requires
-judged-requires c κs = rw (c .before .before .count .given .1) at (c .before .before .before .before .before .before .end .ensures)
+judged-requires c κs = let whole = c .before .before .before .before .before .before in
+    let a = whole .before .before .before .args in
+    rw (c .before .before .count .given .1) at (ended-fills (a .line) (a .numbers .now) (whole .end .ensures .0) (whole .end .ensures .1))
 
 next-line-requires-3 : tie.Need-next-line-requires-3
 next-line-requires-3 c κs = search needs

@@ -13,8 +13,8 @@ use Rattle.export.proofs.survey.join_node.Reads as reads
 use Rattle.export.proofs.survey.join_node.Lts as lts
 use Rattle.export.proofs.survey.any_wide.Reads as any-wide-reads
 use Rattle.export.proofs.survey.capped_sum.Reads as capped-sum-reads
-use Rattle.export.proofs.survey.flag.Reads as flag-reads
-use Rattle.export.proofs.survey.larger.Reads as larger-reads
+use Rattle.node.proofs.bit.Reads as bit-reads
+use Rattle.graph.proofs.larger.Reads as larger-reads
 use Rattle.node.proofs.Node24.accepts.Reads as accepts-reads
 use Rattle.node.proofs.Node24.tile.Reads as tile-reads
 
@@ -27,8 +27,8 @@ cast-t c = search needs
 accepts-requires : tie.Need-accepts-requires
 accepts-requires c κs = search needs
 
-flag-requires : tie.Need-flag-requires
-flag-requires c κs = search needs
+bit-requires : tie.Need-bit-requires
+bit-requires c κs = search needs
 
 capped-sum-requires : tie.Need-capped-sum-requires
 capped-sum-requires c κs = search needs
@@ -53,7 +53,7 @@ any-wide-requires c κs = search needs
 
 returns : tie.Need-returns
 returns c = let s = c .before .before .before .before .before .before .before .before .before .before .args in
-    let own = c .before .before .before .before .before .before .flag .ensures ∙ ap flag (c .before .before .before .before .before .before .before .accepts .ensures) in
+    let own = c .before .before .before .before .before .before .bit .ensures .0 ∙ ap flag (c .before .before .before .before .before .before .before .accepts .ensures) in
     let below = c .before .before .before .before .before .capped-sum .ensures ∙ ap (λ (x : ℕ). min (x + s .child .words) most) own in
     let words = c .before .before .capped-sum2 .ensures ∙ ap (λ (x : ℕ). min (x + s .rest .words) most) below in
     let label = ap (λ (t : ℕ). noByte (getD (s .labels .now) t 0) || (s .child .wide || s .rest .wide)) (c .before .before .before .before .before .before .before .before .tile .ensures) in
@@ -66,7 +66,7 @@ join-node-spec =
     tile-requires
     cast-t
     accepts-requires
-    flag-requires
+    bit-requires
     capped-sum-requires
     add-larger
     larger-requires

@@ -8,7 +8,7 @@ use Rattle.export.proofs.survey.keep.Statement.{statement}
 use Rattle.export.proofs.survey.keep.Tie as tie
 use Rattle.export.proofs.survey.keep.Reads as reads
 use Rattle.export.proofs.survey.keep.Lts as lts
-use Rattle.export.proofs.survey.flag.Reads as flag-reads
+use Rattle.node.proofs.bit.Reads as bit-reads
 
 mul-work : tie.Need-mul-work
 mul-work c = search needs
@@ -25,8 +25,8 @@ mul-work-2 c = search needs
 slice-write-work-2 : tie.Need-slice-write-work-2
 slice-write-work-2 c = simp length-set (omega arith)
 
-flag-requires : tie.Need-flag-requires
-flag-requires c κs = search needs
+bit-requires : tie.Need-bit-requires
+bit-requires c κs = search needs
 
 mul-work-3 : tie.Need-mul-work-3
 mul-work-3 c = search needs
@@ -44,7 +44,7 @@ same-length : tie.Need-same-length
 same-length c = search needs
 
 returns : tie.Need-returns
-returns c = let s = c .before .before .args in ap (λ (v : ℕ). set (set (set (s .work .now) (s .q) (s .run .runs)) (s .n + s .q) (s .run .words)) (2 * s .n + s .q) v) (c .flag .ensures)
+returns c = let s = c .before .before .args in ap (λ (v : ℕ). set (set (set (s .work .now) (s .q) (s .run .runs)) (s .n + s .q) (s .run .words)) (2 * s .n + s .q) v) (c .bit .ensures .0)
 
 pub keep-spec : {M : Type 1} → statement M
 keep-spec =
@@ -55,7 +55,7 @@ keep-spec =
     add-work
     mul-work-2
     slice-write-work-2
-    flag-requires
+    bit-requires
     mul-work-3
     add-work-2
     mul-work-4

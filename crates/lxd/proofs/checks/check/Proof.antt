@@ -1,5 +1,4 @@
 -- `check` meets its contract: what the graph is refused by, and past that what `check_lists` says.
-use native.Mathlib.Omega.{arith}
 use mathlib.Core.Path.{_≡_, refl, sym, ap, _∙_}
 use mathlib.Core.Option.{some}
 use Rattle.node.specs.Answers.{Answer, firstOf}

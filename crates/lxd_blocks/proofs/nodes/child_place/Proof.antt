@@ -8,12 +8,12 @@ use Rattle.lxd_blocks.proofs.nodes.child_place.Reads as reads
 use Rattle.lxd_blocks.proofs.nodes.child_place.Lts as lts
 use Rattle.export.proofs.place_of.Reads as place-of-reads
 
-returns : tie.Need-returns
-returns c = let a = c .before .before .args in
-    child-none (a .work .now) (a .arc) (c .if1 .taken)
-
 place-of-requires : tie.Need-place-of-requires
 place-of-requires c κs = search needs
+
+returns : tie.Need-returns
+returns c = let a = c .before .before .before .args in
+    child-none (a .work .now) (a .arc) (c .if1 .taken)
 
 enum-known-place : tie.Need-enum-known-place
 enum-known-place c = search needs
@@ -23,14 +23,14 @@ enum-told c = search needs
 
 returns-2 : tie.Need-returns-2
 returns-2 c = let a = c .before .before .before .before .before .args in
-    child-unnumbered (a .work .now) (a .arc) (c .before .before .before .if1 .left) (sym (c .before .before .place-of .ensures) ∙ c .enum-told .given .1)
+    child-unnumbered (a .work .now) (a .arc) (c .before .before .if1 .left) (sym (c .before .before .before .place-of .ensures) ∙ c .enum-told .given .1)
 
 returns-3 : tie.Need-returns-3
 returns-3 c = let a = c .before .before .before .before .before .before .args in
-    let some = c .before .before .before .before .if1 .left in
+    let some = c .before .before .before .if1 .left in
     let place = c .before .place .given in
-    child-numbered (a .work .now) (a .arc) some (place .0 .0) (sym (c .before .before .before .place-of .ensures) ∙ place .1)
+    child-numbered (a .work .now) (a .arc) some (place .0 .0) (sym (c .before .before .before .before .place-of .ensures) ∙ place .1)
 
 pub child-place-spec : {M : Type 1} → statement M
 child-place-spec =
-    tie.close (tie.spec returns place-of-requires enum-known-place enum-told returns-2 returns-3)
+    tie.close (tie.spec place-of-requires returns enum-known-place enum-told returns-2 returns-3)

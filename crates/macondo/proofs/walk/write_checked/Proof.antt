@@ -1,31 +1,31 @@
--- `write_checked` meets its contract: the survey and the labels decide the checks 22 and 23, and past them what `write_from` gives.
+-- `write_checked` meets its contract: the numbering and the labels decide the checks 22 and 23, and past them what `write_numbered` gives.
 use native.Mathlib.Omega.{arith}
-use mathlib.Core.Path.{_≡_, sym, ap, _∙_, subst}
-use mathlib.Core.Bool.{false}
+use mathlib.Core.Path.{sym, ap, _∙_, subst}
 use mathlib.Core.List.{List}
 use Prim.Native.Nat.{ℕ, _<_}
 use lib.ListN.{length}
 use Rattle.node.specs.Answers.{Row}
 use Rattle.node.specs.RowLaws.{row-refuses, row-passes}
-use Rattle.export.specs.Starts.{start, deeper}
-use Rattle.export.specs.Survey.{SurveyIs}
+use Rattle.export.specs.Starts.{start}
 use Rattle.export.specs.Written.{written}
 use Rattle.macondo_file.specs.File.{Format, marks, macondoFile}
 use Rattle.macondo_file.specs.Row.{walkRow}
 use Rattle.macondo_file.specs.RowLaws.{Checked}
 use Rattle.macondo_file.specs.BlockLaws.{start-inside}
+use Rattle.macondo_blocks.specs.Blocks.{NumberingIs}
 use Rattle.macondo.specs.declared.Macondo.the-variants as M
 use Rattle.macondo.specs.Said.{formatOf}
-use Rattle.macondo.proofs.Rows.{refused-by, all-labelled}
+use Rattle.macondo.specs.Tables.{BlocksIn}
+use Rattle.macondo.proofs.Rows.{refused-by, ready}
 use borrow.Author.Needs.{needs}
 use Rattle.macondo.proofs.walk.write_checked.Statement.{statement}
 use Rattle.macondo.proofs.walk.write_checked.Tie as tie
 use Rattle.macondo.proofs.walk.write_checked.Reads as reads
 use Rattle.macondo.proofs.walk.write_checked.Lts as lts
-use Rattle.export.proofs.survey.survey.Reads as survey-reads
 use Rattle.macondo.proofs.checks.lacks_code_point.Reads as lacks-code-point-reads
 use Rattle.macondo.proofs.walk.start_of.Reads as start-of-reads
-use Rattle.macondo.proofs.walk.write_from.Reads as write-from-reads
+use Rattle.macondo.proofs.walk.write_numbered.Reads as write-numbered-reads
+use Rattle.macondo_blocks.proofs.number_blocks.Reads as number-blocks-reads
 
 module _ (s : tie.Start) where
   abbrev f : Format
@@ -34,41 +34,48 @@ module _ (s : tie.Start) where
   abbrev g : List ℕ
   g = s .args .nodes .now
 
+  abbrev labels : List ℕ
+  labels = s .args .labels .now
+
   abbrev row : Row
-  row = walkRow g (s .args .labels .now) (s .args .name .now) f (length (s .args .file .now))
+  row = walkRow g labels (s .args .name .now) f (length (s .args .file .now))
 
   abbrev whole : List ℕ
-  whole = macondoFile g (s .args .labels .now) f (s .args .name .now)
+  whole = macondoFile g labels f (s .args .name .now)
 
-inside : (c : tie.After-start-of) → c .start-of .result < length (g (c .before .before .before .before .before .before))
-inside c = subst (_< length (g (c .before .before .before .before .before .before))) (sym (c .start-of .ensures)) (start-inside (c .before .before .before .before .before .before .pre) (f (c .before .before .before .before .before .before)))
+-- what numbering answers, said of the start
+answered : (c : tie.After-number-blocks) → let s = c .before .before .before .before .before .before .before .before in
+    NumberingIs (g s) (labels s) (start (g s) (marks (f s) .root)) (s .args .work .now) (c .number-blocks .last .1 .1 .0) (c .number-blocks .result)
+answered c = let s = c .before .before .before .before .before .before .before .before in
+    subst (λ x. NumberingIs (g s) (labels s) x (s .args .work .now) (c .number-blocks .last .1 .1 .0) (c .number-blocks .result)) (c .before .before .start-of .ensures) (c .number-blocks .ensures)
 
--- where the survey ends within 64 runs
-shallow : (c : tie.After-enum-told) → deeper (g (c .before .before .before .before .before .before .before .before .before .before .before .before)) 64 (c .before .before .before .before .before .before .start-of .result) ≡ false
-shallow c = subst (SurveyIs (g (c .before .before .before .before .before .before .before .before .before .before .before .before)) (c .before .before .before .before .before .before .before .before .before .before .before .before .args .labels .now) 64 (c .before .before .before .before .before .before .start-of .result)) (c .enum-told .given .1) (c .before .before .before .before .survey .ensures) .deep
-
-deep-passed : (c : tie.After-enum-told) → deeper (g (c .before .before .before .before .before .before .before .before .before .before .before .before)) 64 (start (g (c .before .before .before .before .before .before .before .before .before .before .before .before)) (marks (f (c .before .before .before .before .before .before .before .before .before .before .before .before)) .root)) ≡ false
-deep-passed c = ap (deeper (g (c .before .before .before .before .before .before .before .before .before .before .before .before)) 64) (sym (c .before .before .before .before .before .before .start-of .ensures)) ∙ shallow c
+recorded : (c : tie.After-known-told) → let s = c .before .before .before .before .before .before .before .before .before .before .before .before .before in
+    BlocksIn (g s) (labels s) (f s) (c .before .before .before .before .before .number-blocks .last .1 .1 .0) (c .before .found .given .0 .0 .tally)
+recorded c = let s = c .before .before .before .before .before .before .before .before .before .before .before .before .before in
+    let a = subst (NumberingIs (g s) (labels s) (start (g s) (marks (f s) .root)) (s .args .work .now) (c .before .before .before .before .before .number-blocks .last .1 .1 .0)) (c .before .found .given .1) (answered (c .before .before .before .before .before)) in
+    record { holds = a .0 .holds; shallow = a .2 }
 
 start-of-requires : tie.Need-start-of-requires
 start-of-requires c κs = search needs
 
-survey-requires : tie.Need-survey-requires
-survey-requires c κs = let k = c .before .before .before .before .before .before .before .pre in (k .sound, (all-labelled k, (omega (arith, k .work), inside (c .before))))
+number-blocks-requires : tie.Need-number-blocks-requires
+number-blocks-requires c κs = let s = c .before .before .before .before .before .before .before in
+    let k = s .pre in
+    (ready k, (subst (_< length (g s)) (sym (c .before .start-of .ensures)) (start-inside k (f s)), omega (arith, k .work)))
+
+enum-known-found : tie.Need-enum-known-found
+enum-known-found c = search needs
 
 enum-told : tie.Need-enum-told
 enum-told c = search needs
-
-enum-told-2 : tie.Need-enum-told-2
-enum-told-2 c = search needs
 
 same-length : tie.Need-same-length
 same-length c = search needs
 
 returns : tie.Need-returns
 returns c = let s = c .before .before .before .before .before .before .before .before .before .before .before .before in
-    refused-by (row s) (whole s) (s .args .file .now) M.ChainTooLong (row-refuses _ _ _ (ap (deeper (g s) 64) (sym (c .before .before .before .before .before .before .start-of .ensures))
-    ∙ subst (SurveyIs (g s) (s .args .labels .now) 64 (c .before .before .before .before .before .before .start-of .result)) (c .enum-told2 .given .1) (c .before .before .before .before .survey .ensures)))
+    refused-by (row s) (whole s) (s .args .file .now) M.ChainTooLong
+    (row-refuses _ _ _ (subst (NumberingIs (g s) (labels s) (start (g s) (marks (f s) .root)) (s .args .work .now) (c .before .before .before .before .number-blocks .last .1 .1 .0)) (c .enum-told .given .1) (answered (c .before .before .before .before))))
 
 lacks-code-point-requires : tie.Need-lacks-code-point-requires
 lacks-code-point-requires c κs = search needs
@@ -77,13 +84,13 @@ same-length-2 : tie.Need-same-length-2
 same-length-2 c = search needs
 
 returns-2 : tie.Need-returns-2
-returns-2 c = let s = c .before .before .before .before .before .before .before .before .before .before .before .before .before .before in
+returns-2 c = let s = c .before .before .before .before .before .before .before .before .before .before .before .before .before .before .before in
     refused-by (row s) (whole s) (s .args .file .now) M.NotOneCodePoint
-    (row-passes _ _ _ (deep-passed (c .before .before)) ∙ row-refuses _ _ _ (sym (c .before .lacks-code-point .ensures) ∙ c .if1 .taken))
+    (row-passes _ _ _ (recorded (c .before .before) .shallow) ∙ row-refuses _ _ _ (sym (c .before .lacks-code-point .ensures) ∙ c .if1 .taken))
 
-write-from-requires : tie.Need-write-from-requires
-write-from-requires c κs = let s = c .before .before .before .before .before .before .before .before .before .before .before .before .before .before .before .before in
-    (subst (Checked (g s) (s .args .labels .now) (s .args .name .now)) (sym (c .before .before .before .before .before .before .before .before .survey .kept .1 .1 .0)) (s .pre), (c .before .before .before .before .before .before .before .before .before .before .start-of .ensures, shallow (c .before .before .before .before)))
+write-numbered-requires : tie.Need-write-numbered-requires
+write-numbered-requires c κs = let s = c .before .before .before .before .before .before .before .before .before .before .before .before .before .before .before .before .before in
+    (subst (Checked (g s) (labels s) (s .args .name .now)) (sym (c .before .before .before .before .before .before .before .before .before .number-blocks .kept .1 .1 .0)) (s .pre), recorded (c .before .before .before .before))
 
 same-length-3 : tie.Need-same-length-3
 same-length-3 c = search needs
@@ -92,24 +99,24 @@ same-length-4 : tie.Need-same-length-4
 same-length-4 c = search needs
 
 returns-3 : tie.Need-returns-3
-returns-3 c = let s = c .before .before .before .before .before .before .before .before .before .before .before .before .before .before .before .before .before .before .before .before .before in
-    c .before .before .before .before .write-from .ensures
-    ∙ ap (λ o. written o (whole s) (s .args .file .now)) (sym (row-passes _ _ _ (deep-passed (c .before .before .before .before .before .before .before .before .before)) ∙ row-passes _ _ _ (sym (c .before .before .before .before .before .before .before .before .lacks-code-point .ensures) ∙ c .before .before .before .before .before .before .before .if1 .left)))
+returns-3 c = let s = c .before .before .before .before .before .before .before .before .before .before .before .before .before .before .before .before .before .before .before .before .before .before in
+    c .before .before .before .before .write-numbered .ensures
+    ∙ ap (λ o. written o (whole s) (s .args .file .now)) (sym (row-passes _ _ _ (recorded (c .before .before .before .before .before .before .before .before .before) .shallow) ∙ row-passes _ _ _ (sym (c .before .before .before .before .before .before .before .before .lacks-code-point .ensures) ∙ c .before .before .before .before .before .before .before .if1 .left)))
 
 pub write-checked-spec : {M : Type 1} → statement M
 write-checked-spec =
     tie.close
     (tie.spec
     start-of-requires
-    survey-requires
+    number-blocks-requires
+    enum-known-found
     enum-told
-    enum-told-2
     same-length
     returns
     lacks-code-point-requires
     same-length-2
     returns-2
-    write-from-requires
+    write-numbered-requires
     same-length-3
     same-length-4
     returns-3)

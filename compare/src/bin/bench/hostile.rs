@@ -1,0 +1,158 @@
+//! Graphs that are made to be slow, at N, 2N and 4N nodes: the time for each node must not grow. The Rust has no column here: on the first
+//! kind its time doubles with every run.
+
+use crate::clock::fastest;
+use compare::lexicon::node;
+use machirsun::Format;
+
+const TILES: u32 = 40;
+
+pub fn print() {
+    println!(
+        "{:<36}{:>10}{:>10}{:>10}{:>10}",
+        "ns for each node", "N", "ns, N", "ns, 2N", "ns, 4N"
+    );
+    grows(
+        "count, shared empty runs",
+        [50_000, 100_000, 200_000].map(empty_runs),
+        count,
+    );
+    grows(
+        "count, runs entered everywhere",
+        [1_000, 2_000, 4_000].map(entered_runs),
+        count,
+    );
+    grows(
+        "Macondo, runs entered everywhere",
+        [1_000, 2_000, 4_000].map(entered_runs),
+        macondo,
+    );
+    grows(
+        "LXD, runs entered everywhere",
+        [1_000, 2_000, 4_000].map(entered_runs),
+        lxd,
+    );
+    grows(
+        "Macondo, 15k, 30k, 60k letter sets",
+        [15_000, 30_000, 60_000].map(letter_sets),
+        macondo,
+    );
+}
+
+fn grows(name: &str, graphs: [Vec<u32>; 3], call: fn(&[u32], &mut Lent)) {
+    print!("{name:<36}{:>10}", graphs[0].len());
+    for graph in &graphs {
+        let mut lent = Lent::new(graph.len());
+        let time = fastest(|| call(graph, &mut lent));
+        print!("{:>10.1}", time * 1e9 / graph.len() as f64);
+    }
+    println!();
+}
+
+struct Lent {
+    work: Vec<u32>,
+    counts: Vec<u32>,
+    file: Vec<u8>,
+}
+
+impl Lent {
+    // A run of 40 nodes that is entered everywhere takes some 20 times its nodes in a file.
+    fn new(nodes: usize) -> Self {
+        Self {
+            work: vec![1; 8 * nodes],
+            counts: vec![1; nodes],
+            file: vec![1; 100 * nodes + 4096],
+        }
+    }
+}
+
+fn count(nodes: &[u32], lent: &mut Lent) {
+    machirsun::count_words(nodes, &mut lent.counts, &mut lent.work).expect("the words are counted");
+}
+
+fn labels() -> Vec<u32> {
+    (0x41..0x41 + TILES + 1).collect()
+}
+
+fn macondo(nodes: &[u32], lent: &mut Lent) {
+    machirsun::to_macondo(
+        nodes,
+        &labels(),
+        b"H",
+        Format::Dawg,
+        &mut lent.work,
+        &mut lent.file,
+    )
+    .expect("the file is written");
+}
+
+fn lxd(nodes: &[u32], lent: &mut Lent) {
+    machirsun::to_lxd(nodes, &labels(), &[], &[], &mut lent.work, &mut lent.file)
+        .expect("the file is written");
+}
+
+// A lone node, as the first two of a file.
+fn head(arc: u32) -> u32 {
+    node(0, false, true, arc)
+}
+
+// Runs of two nodes without a word, whose arcs both lead to the next run: each count is 0, which must not be taken for "not counted yet".
+fn empty_runs(nodes: u32) -> Vec<u32> {
+    let mut graph = vec![head(2), head(0)];
+    for at in (2..nodes).step_by(2) {
+        let next = if at + 2 < nodes { at + 2 } else { 0 };
+        graph.push(node(1, false, false, next));
+        graph.push(node(2, false, true, next));
+    }
+    graph
+}
+
+// So many runs of 40 nodes, and beside each as many lone nodes, which lead to each of its nodes: each of these has a run of its own. The start
+// leads to everything through a tree.
+fn entered_runs(runs: u32) -> Vec<u32> {
+    let mut graph = vec![head(0), head(0)];
+    let mut tops = Vec::new();
+    for _ in 0..runs {
+        let first = graph.len() as u32;
+        graph.extend((1..=TILES).map(|tile| node(tile as u8, true, tile == TILES, 0)));
+        tops.push(graph.len() as u32);
+        graph.extend(
+            (1..=TILES).map(|tile| node(tile as u8, false, tile == TILES, first + tile - 1)),
+        );
+    }
+    under_one_start(graph, tops)
+}
+
+// So many runs, each with its own accepting letters. They agree in the letters of the lowest ranks, by which the search in the writer's tree of
+// sets begins.
+fn letter_sets(sets: u32) -> Vec<u32> {
+    let mut graph = vec![head(0), head(0)];
+    let mut tops = Vec::new();
+    for set in 0..sets {
+        tops.push(graph.len() as u32);
+        graph.push(node(1, true, false, 0));
+        for bit in 0..16 {
+            if set >> bit & 1 == 1 {
+                graph.push(node(24 + bit, true, false, 0));
+            }
+        }
+        graph.push(node(TILES as u8, true, true, 0));
+    }
+    under_one_start(graph, tops)
+}
+
+// Runs of arcs, 40 at a time, until one leads to all.
+fn under_one_start(mut graph: Vec<u32>, mut tops: Vec<u32>) -> Vec<u32> {
+    while tops.len() > 1 {
+        let mut above = Vec::new();
+        for group in tops.chunks(TILES as usize) {
+            above.push(graph.len() as u32);
+            for (tile, &to) in (1..).zip(group) {
+                graph.push(node(tile, false, usize::from(tile) == group.len(), to));
+            }
+        }
+        tops = above;
+    }
+    graph[0] = head(tops[0]);
+    graph
+}

@@ -1,0 +1,151 @@
+//! One method a call: lends patterned buffers, asks the engine, 01 and, in the comparison's domain, the Rust, and hands all three to the
+//! report.
+
+mod files;
+mod loading;
+mod numbers;
+mod sets;
+
+pub use files::Fit;
+
+use crate::answer::{Answer, Buffer, Outcome};
+use crate::paper::counting::{TOO_MANY, counts, size_and_shape};
+use crate::random::Random;
+use crate::report::{Call, Report};
+use crate::rust_side::{self, Alphabets, Refused};
+
+/// A graph with what all calls on it share.
+pub struct Graph {
+    pub nodes: Vec<u32>,
+    // The nodes once more, to see whether a call wrote to what it may only read.
+    copy: Vec<u32>,
+    // As the Rust has it, where it loads.
+    rust: Option<rust_side::Graph>,
+    // The number of words from each node from which no loop is reached, where it loads.
+    settled: Vec<Option<u64>>,
+    /// The graph's own counts, where counting refuses nothing.
+    pub counts: Option<Vec<u32>>,
+}
+
+impl Graph {
+    pub fn new(nodes: Vec<u32>) -> Self {
+        let loads = size_and_shape(&nodes) == 0;
+        let settled = if loads { counts(&nodes) } else { Vec::new() };
+        let few = |count: &Option<u64>| count.filter(|&c| c < TOO_MANY).map(|c| c as u32);
+        let counts: Option<Vec<u32>> = settled.iter().map(few).collect();
+        Self {
+            rust: loads.then(|| rust_side::graph_of(&nodes)),
+            counts: counts.filter(|_| loads),
+            settled,
+            copy: nodes.clone(),
+            nodes,
+        }
+    }
+
+    // The Rust is asked about graphs that load, where 01 refuses nothing: but for counting and the writers, which have others, all
+    // refusals are + ones.
+    fn asked(&self, paper: &Answer) -> Option<&rust_side::Graph> {
+        self.rust.as_ref().filter(|_| paper.refusal == 0)
+    }
+
+    fn told(&self) -> String {
+        let words: Vec<String> = self.nodes.iter().map(|word| format!("{word:x}")).collect();
+        format!("nodes [{}]", words.join(" "))
+    }
+}
+
+/// An error to put into what the engine did, before it is compared.
+pub type Spoil = Box<dyn Fn(Call, &mut Outcome)>;
+
+pub struct Checker {
+    pub report: Report,
+    random: Random,
+    alphabets: Alphabets,
+    spoil: Option<Spoil>,
+}
+
+impl Checker {
+    pub fn new(seed: u64) -> Self {
+        Self {
+            report: Report::default(),
+            random: Random::new(seed),
+            alphabets: Alphabets::default(),
+            spoil: None,
+        }
+    }
+
+    /// For the tests: a checker of an engine with an error.
+    pub fn spoiled(seed: u64, spoil: Spoil) -> Self {
+        Self {
+            spoil: Some(spoil),
+            ..Self::new(seed)
+        }
+    }
+
+    // One call: what the engine did, and what it is held to.
+    fn compare(
+        &mut self,
+        call: Call,
+        mut got: Outcome,
+        paper: Outcome,
+        rust: Option<Outcome>,
+        input: &dyn Fn() -> String,
+    ) -> Outcome {
+        if let Some(spoil) = &self.spoil {
+            spoil(call, &mut got);
+        }
+        self.report.call(call, &got, &paper, rust.as_ref(), input);
+        got
+    }
+
+    // The same for a call that writes no buffer.
+    fn compare_answers(
+        &mut self,
+        call: Call,
+        got: Answer,
+        paper: Answer,
+        rust: Option<Answer>,
+        input: &dyn Fn() -> String,
+    ) -> Answer {
+        let (got, paper, rust) = (Outcome::of(got), Outcome::of(paper), rust.map(Outcome::of));
+        self.compare(call, got, paper, rust, input).answer
+    }
+
+    /// The nodes are lent to be read only: after all calls on a graph they are as before.
+    pub fn nothing_changed(&mut self, graph: &Graph) {
+        let nodes = |list: &[u32]| Outcome::default().with(Buffer::Numbers(list.to_vec()));
+        let (got, expected) = (nodes(&graph.nodes), nodes(&graph.copy));
+        let input = || format!("one of all calls on {}", graph.told());
+        let held_to = "its nodes unchanged";
+        self.report
+            .hold(Call::ToLxd, held_to, &got, &expected, &input);
+    }
+
+    /// A length for a buffer that needs so many entries: mostly just so many, at times a few more, and at times too few.
+    pub fn around(&mut self, need: usize) -> usize {
+        match self.random.within(0, 12) {
+            0..6 => need,
+            6..10 => need + self.random.within(1, 9) as usize,
+            10 => need.saturating_sub(1),
+            _ => self.random.within(0, need as u64 + 1) as usize,
+        }
+    }
+}
+
+// The Rust's answer in the common form.
+fn answered<T>(answer: Result<T, Refused>, gives: impl FnOnce(T) -> Answer) -> Answer {
+    answer.map_or_else(refused, gives)
+}
+
+fn refused(refusal: Refused) -> Answer {
+    Answer {
+        node: refusal.node,
+        tile: refusal.tile,
+        arc: refusal.arc,
+        ..Answer::refused(refusal.number)
+    }
+}
+
+fn found(value: Option<u32>) -> Answer {
+    Answer::found(value.map(u64::from))
+}

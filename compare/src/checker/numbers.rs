@@ -1,0 +1,178 @@
+//! Counting, run lookup, the run cursor and both conversions.
+
+use super::{Checker, Graph, answered, found, refused};
+use crate::answer::{Answer, Buffer, Outcome};
+use crate::engine;
+use crate::lent::Lent;
+use crate::paper::counting::{self, TOO_MANY};
+use crate::paper::runs::ascend;
+use crate::paper::walks;
+use crate::paper::words::words;
+use crate::report::Call;
+use crate::rust_side::{self, Refused};
+
+// The most words, and the most steps to list them, of a graph whose words are listed.
+const MOST_WORDS: u32 = 60;
+const MOST_STEPS: u64 = 5_000;
+
+// The Rust's counter may call itself so often; where it would do so more often it is not asked.
+const MOST_CALLS: u64 = 2_000_000;
+
+const LISTED: &str = "the words listed";
+
+impl Checker {
+    pub fn count_words(&mut self, graph: &Graph, counts_len: usize, work_len: usize) {
+        let counts = Lent::numbers(&mut self.random, counts_len);
+        let work = Lent::numbers(&mut self.random, work_len);
+        let (mut lent, mut list, mut expected) = (counts.clone(), work.clone(), counts.clone());
+        let got = engine::count_words(&graph.nodes, lent.part_mut(), list.part_mut());
+        let mut paper = counting::count_words(&graph.nodes, expected.part_mut(), work_len);
+        // The node in refusal 12 and the free part of the work list are the program's choice.
+        if paper.answer.refusal == 12 && reaches_itself(graph, got.node) {
+            paper.answer.node = got.node;
+        }
+        let list = list.after_writing(&work.part()[..paper.free]);
+        let rust = rust_count(graph, &paper.answer).map(|(answer, numbers)| {
+            let counts = counts.after_writing(&numbers);
+            Outcome::of(answer).with(counts).with(work.clone())
+        });
+        let got = Outcome::of(got).with(lent).with(list);
+        let paper = Outcome::of(paper.answer).with(expected).with(work);
+        self.compare(Call::CountWords, got, paper, rust, &|| {
+            let told = graph.told();
+            format!("{told}, {counts_len} counts and {work_len} numbers lent")
+        });
+    }
+
+    /// By the graph's own counts, the numbers from a start name its words in order, and where runs ascend each word gives its number back.
+    pub fn numbers_mean_words(&mut self, graph: &Graph, start: u32) {
+        let Some(counts) = graph.counts.clone() else {
+            return;
+        };
+        let count = counts[start as usize];
+        if count > MOST_WORDS || steps_to_count(graph) > MOST_STEPS {
+            return;
+        }
+        let words = words(&graph.nodes, start as usize);
+        let input = || format!("{}, start {start}", graph.told());
+        let number = |value: u64| Outcome::of(Answer::gives(value));
+        let (got, expected) = (number(count.into()), number(words.len() as u64));
+        self.report
+            .hold(Call::CountWords, LISTED, &got, &expected, &input);
+        let tiles = |word: &[u8]| Outcome::default().with(Buffer::Bytes(word.to_vec()));
+        for (at, word) in words.iter().enumerate() {
+            let put = self.word_by_index(graph, &counts, start, at as u32, word.len());
+            let (got, expected) = (tiles(&put), tiles(word));
+            self.report
+                .hold(Call::WordByIndex, LISTED, &got, &expected, &input);
+            if ascend(&graph.nodes) && start != 0 {
+                let got = Outcome::of(self.word_index(graph, &counts, start, word));
+                let expected = Outcome::of(Answer::found(Some(at as u64)));
+                self.report
+                    .hold(Call::WordIndex, LISTED, &got, &expected, &input);
+            }
+        }
+    }
+
+    pub fn seek(&mut self, graph: &Graph, place: u32, tile: u8) {
+        let got = engine::seek(&graph.nodes, place, tile);
+        let paper = walks::found(walks::seek(&graph.nodes, place, tile));
+        let rust = graph.asked(&paper);
+        let rust = rust.map(|rust| answered(rust_side::seek(rust, place, tile), found));
+        let input = || format!("{}, place {place}, tile {tile}", graph.told());
+        self.compare_answers(Call::Seek, got, paper, rust, &input);
+    }
+
+    /// A cursor at a place, and one step from there.
+    pub fn cursor(&mut self, graph: &Graph, at: u32) {
+        let input = || format!("{}, at {at}", graph.told());
+        let got = engine::cursor_at(&graph.nodes, at);
+        let paper = walks::cursor_at(&graph.nodes, at);
+        self.compare_answers(Call::CursorAt, got, paper, None, &input);
+
+        let got = engine::cursor_step(&graph.nodes, at);
+        let paper = walks::cursor_step(&graph.nodes, at);
+        let moved = |next: Option<u32>| Answer {
+            flag: next.is_none(),
+            ..Answer::gives(next.unwrap_or(at).into())
+        };
+        let rust = graph.asked(&paper);
+        let rust = rust.map(|rust| answered(rust_side::run_step(rust, at), moved));
+        self.compare_answers(Call::CursorStep, got, paper, rust, &input);
+    }
+
+    pub fn word_index(&mut self, graph: &Graph, counts: &[u32], start: u32, word: &[u8]) -> Answer {
+        let got = engine::word_index(&graph.nodes, counts, start, word);
+        let paper = walks::found(walks::word_index(&graph.nodes, counts, start, word));
+        let rust = graph.asked(&paper);
+        let rust = rust.map(|rust| rust_side::word_index(rust, counts, start, word));
+        let rust = rust.map(|answer| answered(answer, found));
+        self.compare_answers(Call::WordIndex, got, paper, rust, &|| {
+            let told = graph.told();
+            format!("{told}, counts {counts:x?}, start {start}, word {word:?}")
+        })
+    }
+
+    /// Answers the tiles of the word, where there is one.
+    pub fn word_by_index(
+        &mut self,
+        graph: &Graph,
+        counts: &[u32],
+        start: u32,
+        number: u32,
+        room: usize,
+    ) -> Vec<u8> {
+        let before = Lent::bytes(&mut self.random, room);
+        let mut word = before.clone();
+        let got = engine::word_by_index(&graph.nodes, counts, start, number, word.part_mut());
+        let tiles = word.part()[..room.min(got.value as usize)].to_vec();
+        let (put, end) = walks::word_by_index(&graph.nodes, counts, start, number, room);
+        let whole = |put: &[u8], whole: bool| Answer::found(whole.then_some(put.len() as u64));
+        let paper = end.map_or_else(Answer::refused, |is_whole| whole(&put, is_whole));
+        let rust = graph.asked(&paper).map(|rust| {
+            let answer = rust_side::word_by_index(rust, counts, start, number);
+            let (put, is_whole) = answer.clone().unwrap_or_default();
+            let answer = answered(answer, |_| whole(&put, is_whole));
+            Outcome::of(answer).with(before.clone().after_writing(&put[..put.len().min(room)]))
+        });
+        let got = Outcome::of(got).with(word);
+        let paper = Outcome::of(paper).with(before.after_writing(&put));
+        self.compare(Call::WordByIndex, got, paper, rust, &|| {
+            let told = graph.told();
+            format!("{told}, counts {counts:x?}, start {start}, number {number}, room {room}")
+        });
+        tiles
+    }
+}
+
+fn reaches_itself(graph: &Graph, node: u64) -> bool {
+    usize::try_from(node).is_ok_and(|node| counting::reaches_itself(&graph.nodes, node))
+}
+
+fn steps_to_count(graph: &Graph) -> u64 {
+    rust_side::recounting(&graph.nodes, &graph.settled)
+}
+
+// The Rust's answer and counts, zeros where it refuses; none where it is not asked.
+fn rust_count(graph: &Graph, paper: &Answer) -> Option<(Answer, Vec<u32>)> {
+    let comparable = matches!(paper.refusal, 0 | 12 | 13);
+    if !comparable || steps_to_count(graph) > MOST_CALLS {
+        return None;
+    }
+    let zeros = vec![0; graph.nodes.len()];
+    Some(match rust_side::count_words(graph.rust.as_ref()?) {
+        Ok(counts) => (Answer::default(), counts),
+        Err(r) if paper.refusal == 12 && comes_to_a_loop(graph, &r) => (*paper, zeros),
+        Err(r) => (refused(r), zeros),
+    })
+}
+
+// Where 01 says 12 the Rust may name another node that loops. It may say 13 too, where a node has too many words besides.
+fn comes_to_a_loop(graph: &Graph, refusal: &Refused) -> bool {
+    let too_many = |count: &u64| *count >= TOO_MANY;
+    match refusal.number {
+        12 => reaches_itself(graph, refusal.node),
+        13 => graph.settled.iter().flatten().any(too_many),
+        _ => false,
+    }
+}

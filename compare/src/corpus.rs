@@ -1,0 +1,48 @@
+//! The seeded inputs, part by part. A part has a seed of its own, so that a change to one leaves the others as they were.
+
+mod all_calls;
+mod big;
+mod lexicons;
+mod limits;
+mod loads;
+mod odd;
+mod small;
+mod texts;
+
+use crate::checker::Checker;
+use crate::random::Random;
+
+/// How much is asked.
+#[derive(Clone, Copy, Debug, PartialEq, Eq)]
+pub enum Size {
+    /// A few calls of every kind, for the tests.
+    Tiny,
+    Short,
+    Full,
+}
+
+impl Size {
+    fn of<T>(self, tiny: T, short: T, full: T) -> T {
+        match self {
+            Size::Tiny => tiny,
+            Size::Short => short,
+            Size::Full => full,
+        }
+    }
+}
+
+pub fn run(checker: &mut Checker, size: Size, seed: u64) {
+    let mut part = 0;
+    let mut random = || {
+        part += 1;
+        Random::new(seed.wrapping_mul(1000) + part)
+    };
+    small::run(checker, size, &mut random());
+    odd::run(checker, size, &mut random());
+    loads::run(checker, size, &mut random());
+    lexicons::run(checker, size, &mut random());
+    limits::run(checker, size, &mut random());
+    if size == Size::Full {
+        big::run(checker, &mut random());
+    }
+}

@@ -1,0 +1,213 @@
+//! The calls of the static library, each with its answer in the common form. Each pointer and its length come from one slice, and written
+//! buffers from `&mut` slices, so that each `unsafe` block keeps what the header asks for.
+
+use crate::answer::Answer;
+use machirsun::ffi::{self, Loader};
+
+/// What a writer takes besides the graph and its buffers.
+#[derive(Clone, Debug, PartialEq, Eq)]
+pub enum Texts {
+    Macondo(MacondoTexts),
+    Lxd(LxdTexts),
+}
+
+#[derive(Clone, Debug, PartialEq, Eq)]
+pub struct MacondoTexts {
+    pub labels: Vec<u32>,
+    pub name: Vec<u8>,
+    pub format: u32,
+}
+
+#[derive(Clone, Debug, PartialEq, Eq)]
+pub struct LxdTexts {
+    pub labels: Vec<u32>,
+    pub title: Vec<u32>,
+    pub date: Vec<u32>,
+}
+
+fn misfit(refusal: u32, node: usize, tile: u8, arc: u32) -> Answer {
+    Answer {
+        refusal,
+        node: node as u64,
+        tile,
+        arc,
+        ..Answer::default()
+    }
+}
+
+fn flagged(refusal: u32, flag: bool, value: u64) -> Answer {
+    Answer {
+        refusal,
+        flag,
+        value,
+        ..Answer::default()
+    }
+}
+
+fn written(file: ffi::File) -> Answer {
+    Answer {
+        refusal: file.refusal,
+        arc: file.arc,
+        value: file.written as u64,
+        ..Answer::default()
+    }
+}
+
+pub fn begin(announced: usize, layout: u32, nodes: &[u32]) -> Answer {
+    let r = unsafe { ffi::machirsun_begin(announced, layout, nodes.as_ptr(), nodes.len()) };
+    Answer::refused(r.refusal).with_state(r.loader)
+}
+
+pub fn feed(state: Loader, piece: &[u8], nodes: &mut [u32]) -> Answer {
+    let (to, len) = (nodes.as_mut_ptr(), nodes.len());
+    let r = unsafe { ffi::machirsun_feed(state, piece.as_ptr(), piece.len(), to, len) };
+    misfit(r.refusal, r.node, r.tile, r.arc).with_state(r.loader)
+}
+
+pub fn finish(state: Loader, nodes: &mut [u32]) -> Answer {
+    let r = unsafe { ffi::machirsun_finish(state, nodes.as_mut_ptr(), nodes.len()) };
+    Answer {
+        value: r.nodes as u64,
+        ..misfit(r.refusal, r.node, r.tile, r.arc)
+    }
+}
+
+pub fn repack(bytes: &mut [u8], from: u32, to: u32) -> Answer {
+    let r = unsafe { ffi::machirsun_repack(bytes.as_mut_ptr(), bytes.len(), from, to) };
+    misfit(r.refusal, r.node, r.tile, r.arc)
+}
+
+pub fn count_words(nodes: &[u32], counts: &mut [u32], work: &mut [u32]) -> Answer {
+    let r = unsafe {
+        ffi::machirsun_count_words(
+            nodes.as_ptr(),
+            nodes.len(),
+            counts.as_mut_ptr(),
+            counts.len(),
+            work.as_mut_ptr(),
+            work.len(),
+        )
+    };
+    misfit(r.refusal, r.node as usize, 0, r.arc)
+}
+
+pub fn seek(nodes: &[u32], place: u32, tile: u8) -> Answer {
+    let r = unsafe { ffi::machirsun_seek(nodes.as_ptr(), nodes.len(), place, tile) };
+    flagged(r.refusal, r.found, r.place.into())
+}
+
+pub fn cursor_at(nodes: &[u32], at: u32) -> Answer {
+    let r = unsafe { ffi::machirsun_cursor_at(nodes.as_ptr(), nodes.len(), at) };
+    flagged(r.refusal, r.done, r.at.into())
+}
+
+pub fn cursor_step(nodes: &[u32], at: u32) -> Answer {
+    let r = unsafe { ffi::machirsun_cursor_step(nodes.as_ptr(), nodes.len(), at) };
+    flagged(r.refusal, r.done, r.at.into())
+}
+
+pub fn word_index(nodes: &[u32], counts: &[u32], start: u32, word: &[u8]) -> Answer {
+    let r = unsafe {
+        ffi::machirsun_word_index(
+            nodes.as_ptr(),
+            nodes.len(),
+            counts.as_ptr(),
+            counts.len(),
+            start,
+            word.as_ptr(),
+            word.len(),
+        )
+    };
+    flagged(r.refusal, r.found, r.number.into())
+}
+
+pub fn word_by_index(
+    nodes: &[u32],
+    counts: &[u32],
+    start: u32,
+    number: u32,
+    word: &mut [u8],
+) -> Answer {
+    let r = unsafe {
+        ffi::machirsun_word_by_index(
+            nodes.as_ptr(),
+            nodes.len(),
+            counts.as_ptr(),
+            counts.len(),
+            start,
+            number,
+            word.as_mut_ptr(),
+            word.len(),
+        )
+    };
+    flagged(r.refusal, r.found, r.tiles as u64)
+}
+
+pub fn letter_bits(nodes: &[u32], all: &mut [u64], accepting: &mut [u64]) -> Answer {
+    Answer::refused(unsafe {
+        ffi::machirsun_letter_bits(
+            nodes.as_ptr(),
+            nodes.len(),
+            all.as_mut_ptr(),
+            all.len(),
+            accepting.as_mut_ptr(),
+            accepting.len(),
+        )
+    })
+}
+
+pub fn accepts_alpha(nodes: &[u32], tally: &[u8]) -> Answer {
+    let r = unsafe {
+        ffi::machirsun_accepts_alpha(nodes.as_ptr(), nodes.len(), tally.as_ptr(), tally.len())
+    };
+    flagged(r.refusal, r.accepts, 0)
+}
+
+pub fn alpha_cross_set(nodes: &[u32], tally: &[u8]) -> Answer {
+    let r = unsafe {
+        ffi::machirsun_alpha_cross_set(nodes.as_ptr(), nodes.len(), tally.as_ptr(), tally.len())
+    };
+    flagged(r.refusal, false, r.tiles)
+}
+
+pub fn to_macondo(
+    nodes: &[u32],
+    texts: &MacondoTexts,
+    work: &mut [u32],
+    file: &mut [u8],
+) -> Answer {
+    written(unsafe {
+        ffi::machirsun_to_macondo(
+            nodes.as_ptr(),
+            nodes.len(),
+            texts.labels.as_ptr(),
+            texts.labels.len(),
+            texts.name.as_ptr(),
+            texts.name.len(),
+            texts.format,
+            work.as_mut_ptr(),
+            work.len(),
+            file.as_mut_ptr(),
+            file.len(),
+        )
+    })
+}
+
+pub fn to_lxd(nodes: &[u32], texts: &LxdTexts, work: &mut [u32], file: &mut [u8]) -> Answer {
+    written(unsafe {
+        ffi::machirsun_to_lxd(
+            nodes.as_ptr(),
+            nodes.len(),
+            texts.labels.as_ptr(),
+            texts.labels.len(),
+            texts.title.as_ptr(),
+            texts.title.len(),
+            texts.date.as_ptr(),
+            texts.date.len(),
+            work.as_mut_ptr(),
+            work.len(),
+            file.as_mut_ptr(),
+            file.len(),
+        )
+    })
+}

@@ -1,0 +1,113 @@
+//! The comparison can fail: an error in any one call is found, be it in a field of the answer, in an entry that the call writes, or in one
+//! that it must leave alone.
+
+use compare::answer::{Buffer, Outcome};
+use compare::checker::Checker;
+use compare::corpus::{self, Size};
+use compare::report::{CALLS, Call, Report};
+
+/// What is changed, where the call refuses nothing.
+#[derive(Clone, Copy, Debug)]
+enum Change {
+    Refusal,
+    Value,
+    Flag,
+    /// The bytes taken, in a load's state.
+    Taken,
+    /// One bit of an entry of a buffer: which buffer, and the entry counted from the front or, where negative, from the back.
+    Entry(usize, isize),
+}
+
+use Change::*;
+
+// A guard of 3 entries stands on both sides of what is lent.
+const FIRST: isize = 3;
+const GUARD_BEFORE: isize = 2;
+const GUARD_AFTER: isize = -3;
+const LAST: isize = -4;
+
+fn spoil(change: Change, outcome: &mut Outcome) {
+    let answer = &mut outcome.answer;
+    match change {
+        Refusal => answer.refusal = 14,
+        Value => answer.value ^= 1,
+        Flag => answer.flag ^= true,
+        Taken => answer.state.iter_mut().for_each(|state| state.taken ^= 1),
+        Entry(buffer, place) => match &mut outcome.buffers[buffer] {
+            Buffer::Bytes(list) => *entry(list, place) ^= 1,
+            Buffer::Numbers(list) => *entry(list, place) ^= 1,
+            Buffer::Sets(list) => *entry(list, place) ^= 1,
+        },
+    }
+}
+
+fn entry<T>(list: &mut [T], place: isize) -> &mut T {
+    let len = list.len() as isize;
+    &mut list[place.rem_euclid(len) as usize]
+}
+
+fn run(spoiled: Call, change: Option<Change>) -> Report {
+    let spoil = move |call, outcome: &mut Outcome| {
+        if call == spoiled && outcome.answer.refusal == 0 {
+            change.iter().for_each(|&change| spoil(change, outcome));
+        }
+    };
+    let mut checker = Checker::spoiled(1, Box::new(spoil));
+    corpus::run(&mut checker, Size::Tiny, 1);
+    checker.report
+}
+
+// The fields and buffers that a call's answer has.
+fn changes(call: Call) -> Vec<Change> {
+    let (fields, buffers): (&[Change], usize) = match call {
+        Call::Begin => (&[Taken], 0),
+        Call::Feed => (&[Taken], 1),
+        Call::Finish => (&[Value], 1),
+        Call::Repack => (&[], 1),
+        Call::CountWords | Call::LetterBits => (&[], 2),
+        Call::Seek | Call::CursorAt | Call::CursorStep | Call::WordIndex => (&[Value, Flag], 0),
+        Call::WordByIndex => (&[Value, Flag], 1),
+        Call::AcceptsAlpha => (&[Flag], 0),
+        Call::AlphaCrossSet => (&[Value], 0),
+        Call::ToMacondo | Call::ToLxd => (&[Value], 2),
+    };
+    let places = [FIRST, LAST, GUARD_BEFORE, GUARD_AFTER];
+    let entries = (0..buffers).flat_map(|buffer| places.map(|place| Entry(buffer, place)));
+    [&[Refusal], fields]
+        .concat()
+        .into_iter()
+        .chain(entries)
+        .collect()
+}
+
+fn held(report: &Report, call: Call, to: &str) -> bool {
+    let mut differences = report.smallest.iter();
+    differences.any(|difference| difference.call == call && difference.held_to == to)
+}
+
+#[test]
+fn the_engine_differs_nowhere() {
+    let report = run(Call::Begin, None);
+    assert_eq!(report.differences(), 0, "{}", report.text());
+    for call in CALLS {
+        assert!(report.line(call).calls > 0, "{call:?} is not called");
+    }
+}
+
+#[test]
+fn every_error_is_found() {
+    for call in CALLS {
+        for change in changes(call) {
+            let report = run(call, Some(change));
+            let text = report.text();
+            assert!(held(&report, call, "01"), "{call:?} {change:?}\n{text}");
+            // The Rust has no cursor to make, and of a begin it knows refusals only.
+            if !matches!(call, Call::Begin | Call::CursorAt) {
+                assert!(
+                    held(&report, call, "the Rust"),
+                    "{call:?} {change:?}\n{text}"
+                );
+            }
+        }
+    }
+}

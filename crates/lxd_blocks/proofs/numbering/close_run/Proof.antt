@@ -1,0 +1,33 @@
+-- `close_run` meets its contract: the two entries are put in one after the other.
+use mathlib.Core.Path.{refl, ap, _∙_}
+use mathlib.Core.List.{List}
+use Prim.Native.Nat.{ℕ}
+use lib.ListN.{set}
+use Rattle.lxd_blocks.specs.Numbered.{wordsAt}
+use borrow.Author.Needs.{needs}
+use Rattle.lxd_blocks.proofs.numbering.close_run.Statement.{statement}
+use Rattle.lxd_blocks.proofs.numbering.close_run.Tie as tie
+use Rattle.lxd_blocks.proofs.numbering.close_run.Reads as reads
+use Rattle.lxd_blocks.proofs.numbering.close_run.Lts as lts
+use Rattle.export.proofs.keep_depth.Reads as keep-depth-reads
+use Rattle.lxd_blocks.proofs.numbering.keep_words.Reads as keep-words-reads
+
+add-runs : tie.Need-add-runs
+add-runs c = search needs
+
+keep-depth-requires : tie.Need-keep-depth-requires
+keep-depth-requires c κs = search needs
+
+keep-words-requires : tie.Need-keep-words-requires
+keep-words-requires c κs = search needs
+
+same-length : tie.Need-same-length
+same-length c = search needs
+
+returns : tie.Need-returns
+returns c = let s = c .before .before .before .before .before .before .before .before .before .before .before .args in
+    let depth = c .before .before .before .before .before .before .before .keep-depth .ensures in
+    (refl, c .before .before .before .keep-words .ensures ∙ ap (λ (w : List ℕ). set w (wordsAt (s .n) (s .p)) (s .sum .words)) depth)
+
+pub close-run-spec : {M : Type 1} → statement M
+close-run-spec = tie.close (tie.spec add-runs keep-depth-requires keep-words-requires same-length returns)
