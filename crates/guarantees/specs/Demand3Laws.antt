@@ -1,23 +1,20 @@
 -- Demand 3 holds. The idea: each sentence is a law of the crate that owns its subject; here is what joins them, that a call's answer with
 -- a number in it came past every check of its row.
 use mathlib.Core.Path.{_≡_, refl, ap, _∙_, subst}
-use mathlib.Core.Bool.{Bool, true, false}
-use mathlib.Core.List.{List, [], _∷_}
+use mathlib.Core.Bool.{Bool}
+use mathlib.Core.List.{List}
 use mathlib.Core.Option.{Option, none, some}
-use Prim.Native.Nat.{ℕ, _≤_, _<_, _/_, max}
+use Prim.Native.Nat.{ℕ, _≤_, _<_}
 use native.Mathlib.Omega.{arith}
-use lib.Dec.{eqb}
-use lib.ListN.{length, take, drop, length-set}
+use lib.ListN.{length, take, drop}
 use lib.Seq.{length-take-le, take-at}
 use Rattle.laws.specs.Lists.{All}
-use Rattle.node.specs.Answers.{Answer, gives, nothing, refused, Row, firstOf}
-use Rattle.node.specs.RowLaws.{row-answer, rows-passed}
+use Rattle.node.specs.Answers.{Answer, refused, Row, firstOf}
+use Rattle.node.specs.RowLaws.{NoValue, row-answer}
 use Rattle.node.specs.declared.Layout.{Layout}
 use Rattle.graph.specs.Runs.{Graph}
-use Rattle.load.specs.Repacking.{Misfit, misfitAnswer, misfitOf}
-use Rattle.load.specs.Loading.{soundRow, finishRow, finishes, finish}
+use Rattle.load.specs.FinishLaws.{finished-within}
 use Rattle.load.specs.StateLaws.{sound}
-use Rattle.load.specs.declared.loader.Loader.{Loader}
 use Rattle.pieces.specs.Pieces.{loadPieces, fedPieces}
 use Rattle.pieces.specs.PiecesLaws.{loads-as-whole, loads-however-cut}
 use Rattle.numbers.specs.Numbered.{Lent, Numbered}
@@ -34,36 +31,6 @@ use Rattle.lxd_file.specs.Row.{lxdRow, toLxd}
 use Rattle.lxd_file.specs.RowLaws.{accepted}
 use Rattle.lxd_file.specs.SpellingLaws.{lxd-spells}
 use Rattle.guarantees.specs.Demand3.{Demand3, Ready, Wrote, WordsAt, table}
-
--- an answer that carries no value: what every check of a row gives, none refused included
-NoValue : Answer → Type 0
-NoValue (gives []) = Unit
-NoValue (gives (v ∷ vs)) = ⊥
-NoValue nothing = Unit
-NoValue (refused n vs) = Unit
-
-misfit-none : (o : Option Misfit) → NoValue (misfitAnswer o)
-unfolding NoValue
-misfit-none none = tt
-misfit-none (some m) = tt
-
--- ---- where finish answers a number of nodes, so many stand in the table
-passed-finish : (s : Loader) (nodes : Graph) {n : ℕ} → (o : Option Answer) → firstOf (finishRow s nodes) ≡ o
-    → finishes o (eqb (s .announced) 4) s nodes .answer ≡ gives (n ∷ []) → n ≤ length (finishes o (eqb (s .announced) 4) s nodes .nodes)
-unfolding NoValue
-passed-finish s nodes {n} (some r) e i =
-    absurd (subst NoValue i (row-answer NoValue (finishRow s nodes) (tt, (tt, (tt, (tt, (misfit-none (misfitOf (s .kept)), (tt, (tt, (tt, tt)))))))) e))
-passed-finish s nodes {n} none e i =
-    one-or-more (eqb (s .announced) 4) (sound s (length nodes) (rows-passed (soundRow s (length nodes)) _ e) .length .room) i
-  where
-    one-or-more : (one : Bool) → max (s .announced / 4) 2 ≤ length nodes → finishes none one s nodes .answer ≡ gives (n ∷ [])
-        → n ≤ length (finishes none one s nodes .nodes)
-    one-or-more true room j = let k : 2 ≡ n = cc in simp length-set (omega arith)
-    one-or-more false room j = let k : s .announced / 4 ≡ n = cc in omega arith
-
-finished-within : (s : Loader) (nodes : Graph) {n : ℕ} → finish s nodes .answer ≡ gives (n ∷ []) → n ≤ length (finish s nodes .nodes)
-unfolding finish
-finished-within s nodes i = passed-finish s nodes (firstOf (finishRow s nodes)) refl i
 
 module _ (announced : ℕ) (layout : Layout) (lent : Graph) (pieces : List (List ℕ)) (limit n : ℕ) (counted : List ℕ)
     (r : Ready announced layout lent pieces limit n counted) where

@@ -1,28 +1,24 @@
 -- Opening an input: what each call's answer tells, and how the whole ends.
 use mathlib.Core.Path.{_≡_, refl, sym, ap, _∙_, subst}
-use mathlib.Core.Bool.{Bool, true, false}
+use mathlib.Core.Bool.{true, false}
 use mathlib.Core.List.{List, [], _∷_}
-use mathlib.Core.Option.{Option, none, some}
-use Prim.Native.Nat.{ℕ, _/_, _≤_, _<_, max}
+use Prim.Native.Nat.{ℕ, _≤_, _<_}
 use native.Mathlib.Omega.{arith}
 use lib.Dec.{eqb}
 use borrow.Author.Tests.{eq-eqb, ne-eqb}
-use lib.ListN.{length, getD, take, length-take, length-set}
+use lib.ListN.{length, getD, take, length-take}
 use lib.Seq.{getD-take}
 use Rattle.laws.specs.Cases.{split}
-use Rattle.node.specs.Answers.{Answer, gives, nothing, refused, firstOf}
-use Rattle.node.specs.RowLaws.{row-answer, rows-passed}
+use Rattle.node.specs.Answers.{Answer, gives, nothing, refused}
 use Rattle.node.specs.Nodes.{KBWG}
 use Rattle.node.specs.declared.Layout.the-variants.{Kwg}
 use Rattle.graph.specs.Runs.{Graph}
 use Rattle.graph.specs.Words.{words, count}
 use Rattle.graph.specs.ChecksLaws.{Fit, fit}
 use Rattle.graph.specs.Counting.{counts, Counted, Counts}
-use Rattle.load.specs.Repacking.{Misfit, misfitAnswer, misfitOf}
-use Rattle.load.specs.Loading.{soundRow, finishRow, finishes, finish}
+use Rattle.load.specs.FinishLaws.{finished-within}
+use Rattle.load.specs.Loading.{finish}
 use Rattle.load.specs.Said.{saidBegin, saidFinish}
-use Rattle.load.specs.StateLaws.{sound}
-use Rattle.load.specs.declared.loader.Loader.{Loader}
 use Rattle.count.specs.Said.{limit}
 use Rattle.pieces.specs.Pieces.{Loads, loadWhole, oneFeed}
 use Rattle.pieces.specs.Said.{loadedAs}
@@ -50,31 +46,6 @@ module _ {l : Loads} (r : LoadedInPieces) {nodes : List ℕ} (h : loadedAs r nod
       record { said = subst (saidLoad x) (sym a) f; table = ap (λ x. x .nodes) h }
 
 -- ---- where finish answers a number of nodes, so many are there
-NoValue : Answer → Type 0
-NoValue (gives []) = Unit
-NoValue (gives (v ∷ vs)) = ⊥
-NoValue nothing = Unit
-NoValue (refused n vs) = Unit
-
-misfit-none : (o : Option Misfit) → NoValue (misfitAnswer o)
-unfolding NoValue
-misfit-none none = tt
-misfit-none (some m) = tt
-
-passed-finish : (s : Loader) (nodes : Graph) {n : ℕ} (o : Option Answer) → firstOf (finishRow s nodes) ≡ o
-    → finishes o (eqb (s .announced) 4) s nodes .answer ≡ gives (n ∷ []) → n ≤ length (finishes o (eqb (s .announced) 4) s nodes .nodes)
-unfolding NoValue
-passed-finish s nodes {n} (some r) e i =
-    let m = misfit-none (misfitOf (s .kept)) in
-    absurd (subst NoValue i (row-answer NoValue (finishRow s nodes) (tt, (tt, (tt, (tt, (m, (tt, (tt, (tt, tt)))))))) e))
-passed-finish s nodes {n} none e i =
-    one-or-more (eqb (s .announced) 4) (sound s (length nodes) (rows-passed (soundRow s (length nodes)) _ e) .length .room) i
-  where
-    one-or-more : (one : Bool) → max (s .announced / 4) 2 ≤ length nodes → finishes none one s nodes .answer ≡ gives (n ∷ [])
-        → n ≤ length (finishes none one s nodes .nodes)
-    one-or-more true room j = let k : 2 ≡ n = cc in simp length-set (omega arith)
-    one-or-more false room j = let k : s .announced / 4 ≡ n = cc in omega arith
-
 last-gives : (a b : Answer) {n : ℕ} → lastAnswer a b ≡ gives (n ∷ []) → b ≡ gives (n ∷ [])
 last-gives (gives vs) b e = e
 last-gives nothing b e = e
@@ -82,11 +53,11 @@ last-gives (refused k vs) b e = let z : _≡_ {A = ℕ} 0 1 = cc in absurd (omeg
 
 pub loaded-within : (input lentNodes : List ℕ) {n : ℕ} → loadAnswer (load input lentNodes) ≡ gives (n ∷ [])
     → n ≤ length (load input lentNodes .nodes)
-unfolding loadWhole finish
+unfolding loadWhole
 loaded-within input lentNodes e =
     let l = load input lentNodes in
     let fed = oneFeed (length input) Kwg lentNodes input in
-    passed-finish (fed .state) (fed .nodes) _ refl (last-gives (l .begun) (l .finished) e)
+    finished-within (fed .state) (fed .nodes) (last-gives (l .begun) (l .finished) e)
 
 pub nodes-within : (input lentNodes : List ℕ) {nodes : List ℕ} {n : ℕ} → LoadsAs (load input lentNodes) (Nodes n) nodes → n ≤ length nodes
 nodes-within input lentNodes {nodes} {n} a = subst (λ l. n ≤ length l) (sym (a .table)) (loaded-within input lentNodes (a .said))

@@ -4,6 +4,7 @@ pub mod Loading
 pub mod HeldLaws
 pub mod BeginLaws
 pub mod StateLaws
+pub mod FinishLaws
 pub mod PieceLaws
 pub mod CallLaws
 pub mod Said

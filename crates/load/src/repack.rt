@@ -50,7 +50,7 @@ pub(crate) fn repack_into(nodes: &mut [u32], at: usize, bytes: &[u8], from: Layo
 {
     let mut i: usize = 0;
     let mut k = at;
-    while 4 <= bytes.len() - i {
+    while i + 4 <= bytes.len() {
         let old = endian::read_le_u32(bytes, i);
         match node::repack_node(from, Layout::Kbwg, old) {
             Packed::Node(new) => {

@@ -5,7 +5,7 @@ use mathlib.Core.List.{[], _∷_, _++_}
 use mathlib.Core.Option.{none, some}
 use Rattle.laws.specs.Cases.{split, isSome, some≢none}
 use Rattle.laws.specs.Lists.{All}
-use Rattle.node.specs.Answers.{Answer, Row, firstOf}
+use Rattle.node.specs.Answers.{Answer, gives, nothing, refused, Row, firstOf}
 
 module _ (c : Bool) (r : Answer) (cs : Row) where
   pub row-refuses : c ≡ true → firstOf ((c, r) ∷ cs) ≡ some r
@@ -61,3 +61,10 @@ row-answer P (c ∷ cs) h {r} e =
     (λ t. let i : some (c .1) ≡ some r = sym (row-refuses (c .0) (c .1) cs t) ∙ e in
     let j : c .1 ≡ r = cc in subst P j (h .0))
     (λ t. row-answer P cs (h .1) (sym (row-passes (c .0) (c .1) cs t) ∙ e))
+
+-- an answer that carries no value: what every check of a row gives, none refused included
+unfoldable pub NoValue : Answer → Type 0
+NoValue (gives []) = Unit
+NoValue (gives (v ∷ vs)) = ⊥
+NoValue nothing = Unit
+NoValue (refused n vs) = Unit

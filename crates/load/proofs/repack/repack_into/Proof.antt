@@ -28,8 +28,8 @@ abbrev μ-loop : tie.MeasureT-loop
 loop-holds : tie.Need-loop-holds Inv-loop μ-loop
 loop-holds c = search needs
 
-sub-loop : tie.Need-sub-loop Inv-loop μ-loop
-sub-loop c = search needs
+add-loop : tie.Need-add-loop Inv-loop μ-loop
+add-loop c = search needs
 
 read-le-u32-requires : tie.Need-read-le-u32-requires Inv-loop μ-loop
 read-le-u32-requires c κs = search needs
@@ -98,7 +98,7 @@ repack-into-spec =
     Inv-loop
     μ-loop
     loop-holds
-    sub-loop
+    add-loop
     read-le-u32-requires
     repack-node-requires
     enum-known-new
