@@ -2,6 +2,7 @@
 //! kind its time doubles with every run.
 
 use crate::clock::fastest;
+use compare::graphs::without_words;
 use compare::lexicon::node;
 use machirsun::Format;
 
@@ -14,7 +15,7 @@ pub fn print() {
     );
     grows(
         "count, shared empty runs",
-        [50_000, 100_000, 200_000].map(empty_runs),
+        [25_000, 50_000, 100_000].map(without_words),
         count,
     );
     grows(
@@ -94,17 +95,6 @@ fn lxd(nodes: &[u32], lent: &mut Lent) {
 // A lone node, as the first two of a file.
 fn head(arc: u32) -> u32 {
     node(0, false, true, arc)
-}
-
-// Runs of two nodes without a word, whose arcs both lead to the next run: each count is 0, which must not be taken for "not counted yet".
-fn empty_runs(nodes: u32) -> Vec<u32> {
-    let mut graph = vec![head(2), head(0)];
-    for at in (2..nodes).step_by(2) {
-        let next = if at + 2 < nodes { at + 2 } else { 0 };
-        graph.push(node(1, false, false, next));
-        graph.push(node(2, false, true, next));
-    }
-    graph
 }
 
 // So many runs of 40 nodes, and beside each as many lone nodes, which lead to each of its nodes: each of these has a run of its own. The start

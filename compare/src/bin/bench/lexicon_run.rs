@@ -4,10 +4,10 @@
 use crate::clock::in_turns;
 use compare::lexicon::{self, Words};
 use compare::random::Random;
+use compare::rust_side::{self, Alphabets};
 use machirsun::{Format, Layout, Loader};
 use std::hint::black_box;
-use wolges::alphabet::Alphabet;
-use wolges::kwg::{self, Kwg, Node, Node22, Node24};
+use wolges::kwg::{self, Node22, Node24};
 use wolges::lexport::{self, MacondoFormat};
 
 const WORDS: usize = 200_000;
@@ -79,16 +79,10 @@ fn labels() -> Vec<u32> {
         .collect()
 }
 
-fn alphabet() -> Alphabet {
-    let line = |c: char| format!("{c} {c} 1 0 0 0 0\n");
-    let text: String = std::iter::once('?').chain('A'..='Z').map(line).collect();
-    Alphabet::new_static_from_text(&text).expect("an alphabet of 27 letters")
-}
-
 // A graph with the Rust's form of it, and the buffers that the engine is lent.
 struct Bench {
     nodes: Vec<u32>,
-    rust: Kwg<Node24>,
+    rust: rust_side::Graph,
     work: Vec<u32>,
     counts: Vec<u32>,
     file: Vec<u8>,
@@ -98,7 +92,7 @@ impl Bench {
     fn new(nodes: Vec<u32>) -> Self {
         let n = nodes.len();
         Self {
-            rust: Kwg(nodes.iter().map(|&v| Node24::new(v)).collect()),
+            rust: rust_side::graph_of(&nodes),
             work: vec![1; 8 * n],
             counts: vec![1; n],
             file: vec![1; 8 * n + 4096],
@@ -266,13 +260,14 @@ impl Bench {
     }
 
     fn macondo(&mut self, name: &str, format: Format) {
-        let (labels, alphabet) = (labels(), alphabet());
+        let (labels, mut alphabets) = (labels(), Alphabets::default());
+        let alphabet = alphabets.of(&labels).expect("an alphabet of 27 letters");
         let rust = || {
             let format = match format {
                 Format::Dawg => MacondoFormat::Dawg,
                 Format::Gaddag => MacondoFormat::Gaddag,
             };
-            lexport::to_macondo(&self.rust, &alphabet, NAME, format).expect("the file is written")
+            lexport::to_macondo(&self.rust, alphabet, NAME, format).expect("the file is written")
         };
         let ours = || {
             let (work, file) = (&mut self.work, &mut self.file);
@@ -286,10 +281,11 @@ impl Bench {
     }
 
     fn lxd(&mut self) {
-        let (labels, alphabet) = (labels(), alphabet());
+        let (labels, mut alphabets) = (labels(), Alphabets::default());
+        let alphabet = alphabets.of(&labels).expect("an alphabet of 27 letters");
         let title: Vec<u32> = NAME.chars().map(u32::from).collect();
         let rust =
-            || lexport::to_lxd(&self.rust, &alphabet, NAME, NAME).expect("the file is written");
+            || lexport::to_lxd(&self.rust, alphabet, NAME, NAME).expect("the file is written");
         let ours = || {
             let (work, file) = (&mut self.work, &mut self.file);
             machirsun::to_lxd(&self.nodes, &labels, &title, &title, work, file)
