@@ -3,8 +3,8 @@
  * Link with libhost.a, which `rt staticlib host` writes to target/staticlib/ (x86-64 Linux).
  *
  * Buffers. The caller owns every buffer. A call reads and writes only the buffers that it is handed, keeps no pointer to them
- * after it returns, and allocates nothing; its stack does not grow with its input. A buffer is a pointer and a number of entries,
- * side by side; it has to hold that many entries, aligned for their type. Where the number is 0 nothing is read through the
+ * after it returns, and allocates nothing; its stack does not grow with its input and stays under STACKBOUND. A buffer is a pointer and a
+ * number of entries, side by side; it has to hold that many entries, aligned for their type. Where the number is 0 nothing is read through the
  * pointer, but NULL is not allowed. A buffer that a call writes (one that is not const) must not overlap any other buffer of that
  * call. Buffers that are only read may.
  *
@@ -15,8 +15,11 @@
  * says. Fields that an answer has no value for are 0: `arc`, `node` and `tile` are filled by the refusals that carry them, the
  * other fields where nothing is refused.
  *
- * Nodes. The loaded table is 32-bit nodes: arc bits 8-31, accepts 7, end 6, tile 0-5. A place is the number of a node. Wherever a call
- * takes nodes, lend the part that finish answered: its first N nodes.
+ * Nodes. The loaded table is 32-bit nodes: arc bits 8-31, accepts 7, end 6, tile 0-5. A place is the number of a node, from 0. The run from
+ * a place is the nodes from there up to the first with the end bit, whatever leads to them: two runs may share their last nodes. Arc 0
+ * means that the node has no arc, not that it leads to node 0. Wherever a call takes nodes, lend the part that finish answered: its first
+ * N nodes. The words of a DAWG begin at node 0's arc, those of a GADDAG at node 1's: pass that arc as the start, and where it is 0 there are
+ * no words.
  *
  * Every call ends on every input; none needs its input to be sound. What each answers is proved: the contracts are in
  * crates/host/src, and crates/host/specs says how a struct here is read as an answer there.
@@ -47,7 +50,9 @@ extern "C" {
  *   8   the largest arc is at least the number of nodes; carries that arc              finish, count_words, to_macondo, to_lxd
  *   9   the last node is no end                                                        finish, count_words, to_macondo, to_lxd
  *  10   under 2 nodes or over 16,777,216                                               count_words, to_macondo, to_lxd
- *  11   a list is too short                                                            count_words, letter_bits, to_macondo, to_lxd
+ *  11   a lent list is too short. count_words: counts under N or work under 2 x N;     count_words, letter_bits, to_macondo, to_lxd
+ *       letter_bits: either list under N; to_macondo, to_lxd: work under 8 x N, or,
+ *       last of all checks, the file buffer under the file's length
  *  12   a node can be reached from itself; carries such a node                         count_words
  *  13   some node (to_lxd: the start) has 4,294,967,295 words or more                  count_words, to_lxd
  *  14   a step leads to a node or a count that is not lent                             seek, cursor_at, cursor_step, word_index,
@@ -61,7 +66,9 @@ extern "C" {
  *  20   the title or the date has a code point over FF hexadecimal                     to_lxd
  *  21   a tile has no label                                                            to_macondo, to_lxd
  *  22   over 64 runs, each reached by an arc of the one before, from the start         to_macondo, to_lxd
- *  23   a label is not one code point (to_lxd: a label reached is over FF)             to_macondo, to_lxd
+ *  23   to_macondo: the label of a letter (tiles 1 up, used or not, not the            to_macondo, to_lxd
+ *       blank's) is not one code point; to_lxd: the label of a tile that is reached
+ *       from the start, the blank's too, is over FF hexadecimal
  *  24   runs do not ascend                                                             to_macondo
  *  25   the file would have too many nodes: over 2^24 (to_lxd: 2^22)                   to_macondo, to_lxd
  *
@@ -139,8 +146,10 @@ typedef struct machirsun_fed {
     machirsun_loader loader;
 } machirsun_fed;
 
-/* The next piece of the file, of any length. Writes each node that it completes and no other. After 4 or 5 state and nodes are as before; a
- * node that does not fit (6) stops the load, and each later feed and finish repeats it. Order: 4, 6 that the state keeps, 5, 6. */
+/* The next piece of the file, of any length. Writes each node that it completes and no other. After 4 or 5 the nodes are untouched, and the
+ * state that comes back is the one that was handed over as it is read, field by field: padding may differ, a layout other than 0 comes back
+ * as 1 and a refusal other than 0 as 6. A node that does not fit (6) stops the load, and each later feed and finish repeats it. Order: 4, 6
+ * that the state keeps, 5, 6. */
 machirsun_fed machirsun_feed(machirsun_loader loader, const uint8_t *piece, size_t piece_len, uint32_t *nodes, size_t nodes_len);
 
 typedef struct machirsun_finished {
@@ -196,7 +205,8 @@ typedef struct machirsun_cursor {
     uint32_t at;
 } machirsun_cursor;
 
-/* A cursor at a node. `at` is the place asked for, also where it is not lent (14); each step from there is refused too. */
+/* A cursor at a node. `at` is the place asked for, also where it is not lent (14); each step from there is refused too. `done` is false, also
+ * at an end: only a step says that the run is over. */
 machirsun_cursor machirsun_cursor_at(const uint32_t *nodes, size_t nodes_len, uint32_t at);
 
 /* The cursor one node further along its run. At an end it is done and stays; where the next node is not lent (14) it stays too. */
@@ -249,9 +259,14 @@ machirsun_cross_set machirsun_alpha_cross_set(const uint32_t *nodes, size_t node
 
 /* ---- Files for other programs ----------------------------------------------------------------------------------------------------
  *
- * A file has the words from the start: node 0's arc, for a Macondo GADDAG node 1's. Labels are one code point a tile, the blank's
- * (tile 0) first; D800 to DFFF, and 110000 and above (hexadecimal), mean "not one code point". The work list has at least 8 x N
- * numbers; what is in these afterwards is free. A refusal writes no byte of the file.
+ * A file has the words from the start: node 0's arc, for a Macondo GADDAG node 1's. Where that arc is 0 the start is node 0 itself, as in
+ * the original, and the file has the words of node 0's run. Labels are one code point a tile, the blank's (tile 0) first; D800 to DFFF, and
+ * 110000 and above (hexadecimal), mean "not one code point". The work list has at least 8 x N numbers; what is in these afterwards is free. A
+ * refusal writes no byte of the file.
+ *
+ * How long a file can get. Where every arc leads to the beginning of a run, that is to a node after an end, as in lexicons made by the usual
+ * builders: Macondo at most 468 + 16 x N bytes, LXD at most 72 + 4 x N. Where arcs lead into the middle of runs, each such place is
+ * written as a run of its own: Macondo at most 468 + 8 x N + 4 x min(51 x N, 2^24) bytes, LXD at most 64 + 4 x 2^22.
  */
 
 /* written: the file's length in bytes. */

@@ -26,13 +26,13 @@ abbrev pub ReadBelow : Graph → ℕ → Word → Type 0
 ReadBelow g p [] = accepts KBWG (node g p) ≡ true
 ReadBelow g p (t ∷ w) = (arc KBWG (node g p) ≢ 0) × List·Memᴰ (t ∷ w) (words KBWG g (arc KBWG (node g p)))
 
--- "whose tiles never descend"
+-- a word whose tiles never descend: its letters in ascending order
 abbrev pub NeverDescends : Word → Type 0
 NeverDescends [] = Unit
 NeverDescends (a ∷ []) = Unit
 NeverDescends (a ∷ b ∷ w) = (a ≤ b) × NeverDescends (b ∷ w)
 
--- "an alphagram lexicon": no word from the start descends
+-- a lexicon of alphagrams, our term: no word from the start descends
 abbrev pub AlphagramLexicon : Graph → Type 0
 AlphagramLexicon g = (w : Word) → List·Memᴰ w (words KBWG g (arc KBWG (node g 0))) → NeverDescends w
 

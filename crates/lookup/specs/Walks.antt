@@ -57,7 +57,7 @@ pub data Turn : Type 0 where
   down : ℕ → ℕ → Turn
 
 module _ (counts : List ℕ) where
-  -- "words here" of the Rust
+  -- the words that begin at node v itself, `words_here` in the Rust
   unfoldable pub wordsHere : ℕ → ℕ → Try ℕ
   wordsHere v p = do
     c ← lent counts p
