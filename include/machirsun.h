@@ -3,7 +3,7 @@
  * Link with libhost.a, which `rt staticlib host` writes to target/staticlib/ (x86-64 Linux).
  *
  * Buffers. The caller owns every buffer. A call reads and writes only the buffers that it is handed, keeps no pointer to them
- * after it returns, and allocates nothing; its stack does not grow with its input and stays under STACKBOUND. A buffer is a pointer and a
+ * after it returns, and allocates nothing; its stack does not grow with its input and stays under 64 KiB. A buffer is a pointer and a
  * number of entries, side by side; it has to hold that many entries, aligned for their type. Where the number is 0 nothing is read through the
  * pointer, but NULL is not allowed. A buffer that a call writes (one that is not const) must not overlap any other buffer of that
  * call. Buffers that are only read may.
