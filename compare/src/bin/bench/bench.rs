@@ -24,9 +24,10 @@ impl Bench {
     }
 }
 
+/// A row of the table in docs/SPEED.md.
 pub fn row(name: &str, (ours, rust): (f64, f64)) {
     println!(
-        "{name:<36}{:>12.3}{:>12.3}{:>8.2}",
+        "| {name} | {:.3} | {:.3} | {:.2} |",
         ours * 1e3,
         rust * 1e3,
         ours / rust

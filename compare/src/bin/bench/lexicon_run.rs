@@ -17,10 +17,8 @@ pub fn print() {
         words.len(),
         bench.nodes.len()
     );
-    println!(
-        "{:<36}{:>12}{:>12}{:>8}",
-        "", "ours, ms", "Rust, ms", "ratio"
-    );
+    println!("| | ours, ms | Rust, ms | ratio |");
+    println!("|---|---|---|---|");
     bench.loads();
     bench.repack();
     bench.count();

@@ -11,6 +11,8 @@ use machirsun::ffi::{Cursor, Sought};
 use std::hint::black_box;
 use wolges::kwg::Node;
 
+const CALLED: &str = "the same, the Rust behind a C call";
+
 impl Bench {
     // The counts must be there.
     pub fn words_to_numbers(&self, words: &Words) {
@@ -86,13 +88,16 @@ impl Bench {
         let our_words = || sum(words, |word| along(word, ours).unwrap_or(0));
         let their_words = || sum(words, |word| along(word, theirs).unwrap_or(0));
         let called_words = || sum(words, |word| along(word, called).unwrap_or(0));
-        row("seek, along all words", in_turns(our_words, their_words));
-        row("  the Rust called", in_turns(our_words, called_words));
+        row("`seek`, along all words", in_turns(our_words, their_words));
+        row(CALLED, in_turns(our_words, called_words));
         let our_any = || sum(&any, |&(place, tile)| ours(place, tile).unwrap_or(0));
         let their_any = || sum(&any, |&(place, tile)| theirs(place, tile).unwrap_or(0));
         let called_any = || sum(&any, |&(place, tile)| called(place, tile).unwrap_or(0));
-        row("seek, at each node any tile", in_turns(our_any, their_any));
-        row("  the Rust called", in_turns(our_any, called_any));
+        row(
+            "`seek`, at each node any tile",
+            in_turns(our_any, their_any),
+        );
+        row(CALLED, in_turns(our_any, called_any));
     }
 
     // Along every run.
@@ -137,10 +142,7 @@ impl Bench {
             "run cursor, all runs",
             in_turns(our_runs, || sum(&firsts, theirs)),
         );
-        row(
-            "  the Rust called",
-            in_turns(our_runs, || sum(&firsts, called)),
-        );
+        row(CALLED, in_turns(our_runs, || sum(&firsts, called)));
     }
 }
 

@@ -35,7 +35,7 @@ impl Bench {
             || tallies.iter().filter(|tally| ours(tally)).count(),
             || tallies.iter().filter(|tally| theirs(tally)).count(),
         );
-        row("accepts alpha, one a word", times);
+        row("`accepts_alpha`, one a word", times);
     }
 
     // The letters of a word but its first, which the cross set is to find again.
