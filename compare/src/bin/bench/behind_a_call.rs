@@ -14,7 +14,16 @@ pub extern "C" fn seek(graph: &Graph, place: u32, tile: u8) -> Sought {
     }
 }
 
-pub extern "C" fn step(graph: &Graph, at: u32) -> Cursor {
+pub extern "C" fn cursor_at(graph: &Graph, at: u32) -> Cursor {
+    let lent = (at as usize) < graph.0.len();
+    Cursor {
+        refusal: if lent { 0 } else { 14 },
+        done: false,
+        at,
+    }
+}
+
+pub extern "C" fn cursor_step(graph: &Graph, at: u32) -> Cursor {
     let done = graph[at as i32].is_end();
     Cursor {
         refusal: 0,

@@ -103,7 +103,8 @@ impl Bench {
     // Along every run.
     pub fn run_cursor(&self) {
         let (nodes, rust) = (&self.nodes, &self.rust);
-        let behind: extern "C" fn(&Graph, u32) -> Cursor = black_box(behind_a_call::step);
+        let at: extern "C" fn(&Graph, u32) -> Cursor = black_box(behind_a_call::cursor_at);
+        let step: extern "C" fn(&Graph, u32) -> Cursor = black_box(behind_a_call::cursor_step);
         let firsts: Vec<u32> = (0..nodes.len() as u32)
             .filter(|&place| place == 0 || nodes[place as usize - 1] & 0x40 != 0)
             .collect();
@@ -125,13 +126,16 @@ impl Bench {
             places
         };
         let called = |&first: &u32| {
-            let mut cursor = behind(rust, first);
+            let mut cursor = at(rust, first);
+            assert_eq!(cursor.refusal, 0);
             let mut places = first;
-            while !cursor.done {
+            loop {
+                cursor = step(rust, cursor.at);
+                if cursor.done {
+                    return places;
+                }
                 places = places.wrapping_add(cursor.at);
-                cursor = behind(rust, cursor.at);
             }
-            places
         };
         for first in &firsts {
             let places = ours(first);
