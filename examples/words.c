@@ -6,12 +6,57 @@
 #include "machirsun.h"
 
 /* A piece of any length will do; this one cuts inside nodes. */
-enum { PIECE = 7, LONGEST = 64 };
+enum { PIECE = 7, LETTERS = 26, LONGEST = 64 };
 
 static int refused(const char *call, uint32_t refusal)
 {
     fprintf(stderr, "%s: refusal %u\n", call, refusal);
     return 1;
+}
+
+/* Puts the tiles of a word and their number. False where there are too many, or one is no letter. */
+static bool read_word(const char *word, uint8_t tiles[LONGEST], size_t *length)
+{
+    size_t i;
+
+    *length = strlen(word);
+    if (*length > LONGEST)
+        return false;
+    for (i = 0; i < *length; i++) {
+        if (word[i] < 'A' || word[i] > 'Z')
+            return false;
+        tiles[i] = (uint8_t)(word[i] - 'A' + 1);
+    }
+    return true;
+}
+
+/* Reads digits and nothing else. False where there is none, or the number is over 32 bits. */
+static bool read_number(const char *digits, uint32_t *number)
+{
+    uint64_t sum = 0;
+
+    if (*digits == '\0')
+        return false;
+    for (; *digits != '\0'; digits++) {
+        if (*digits < '0' || *digits > '9')
+            return false;
+        sum = 10 * sum + (uint64_t)(*digits - '0');
+        if (sum > UINT32_MAX)
+            return false;
+    }
+    *number = (uint32_t)sum;
+    return true;
+}
+
+/* The length of a file, or -1. */
+static long length_of(FILE *file)
+{
+    long length = -1;
+
+    if (fseek(file, 0, SEEK_END) == 0)
+        length = ftell(file);
+    rewind(file);
+    return length;
 }
 
 /* Feeds the file in pieces; answers the number of the refusal, or 0 and the number of nodes. */
@@ -36,34 +81,38 @@ static uint32_t load(FILE *file, size_t length, uint32_t *nodes, size_t room, si
     return finished.refusal;
 }
 
-/* Looks the word up and names the number, in nodes that are counted. */
-static int look_up(const uint32_t *nodes, const uint32_t *counts, size_t n, const char *word, uint32_t number)
+/* Looks the word up in nodes that are counted. */
+static int look_up(const uint32_t *nodes, const uint32_t *counts, size_t n, const char *word, const uint8_t *tiles, size_t length)
 {
-    uint32_t start = nodes[0] >> 8;
-    uint8_t tiles[LONGEST];
-    size_t length = strlen(word);
-    machirsun_index index;
-    machirsun_word named;
-    size_t i;
+    machirsun_index index = machirsun_word_index(nodes, n, counts, n, nodes[0] >> 8, tiles, length);
 
-    if (length > LONGEST)
-        length = LONGEST;
-    for (i = 0; i < length; i++)
-        tiles[i] = (uint8_t)(word[i] - 'A' + 1);
-    index = machirsun_word_index(nodes, n, counts, n, start, tiles, length);
     if (index.refusal != 0)
         return refused("word_index", index.refusal);
     if (index.found)
         printf("%s is word %u\n", word, index.number);
     else
         printf("%s is no word\n", word);
+    return 0;
+}
 
-    named = machirsun_word_by_index(nodes, n, counts, n, start, number, tiles, LONGEST);
+/* Names the number, in nodes that are counted. */
+static int name(const uint32_t *nodes, const uint32_t *counts, size_t n, uint32_t number)
+{
+    uint8_t tiles[LONGEST];
+    machirsun_word named = machirsun_word_by_index(nodes, n, counts, n, nodes[0] >> 8, number, tiles, LONGEST);
+    size_t i;
+
     if (named.refusal != 0)
         return refused("word_by_index", named.refusal);
     if (!named.found) {
         printf("there is no word %u\n", number);
         return 0;
+    }
+    for (i = 0; i < named.tiles; i++) {
+        if (tiles[i] < 1 || tiles[i] > LETTERS) {
+            fprintf(stderr, "word %u has tile %u, which is no letter A to Z\n", number, tiles[i]);
+            return 1;
+        }
     }
     printf("word %u is ", number);
     for (i = 0; i < named.tiles; i++)
@@ -76,24 +125,36 @@ int main(int argc, char **argv)
 {
     FILE *file;
     long length;
-    size_t room, n;
-    uint32_t *nodes, *counts, *work, refusal;
+    size_t room, n, letters;
+    uint32_t *nodes, *counts, *work, refusal, number;
+    uint8_t tiles[LONGEST];
     machirsun_counted counted;
     int status;
 
-    if (argc != 4 || (file = fopen(argv[1], "rb")) == NULL) {
+    if (argc != 4) {
         fprintf(stderr, "usage: words FILE WORD NUMBER\n");
         return 1;
     }
-    fseek(file, 0, SEEK_END);
-    length = ftell(file);
-    rewind(file);
+    if (!read_word(argv[2], tiles, &letters)) {
+        fprintf(stderr, "%s is not a word of at most %d letters A to Z\n", argv[2], LONGEST);
+        return 1;
+    }
+    if (!read_number(argv[3], &number)) {
+        fprintf(stderr, "%s is not a number from 0 to 4294967295 in digits\n", argv[3]);
+        return 1;
+    }
+    if ((file = fopen(argv[1], "rb")) == NULL || (length = length_of(file)) < 0) {
+        perror(argv[1]);
+        return 1;
+    }
     room = length > 8 ? (size_t)length / 4 : 2;
     nodes = calloc(room, sizeof *nodes);
     counts = calloc(room, sizeof *counts);
     work = calloc(2 * room, sizeof *work);
-    if (length < 0 || nodes == NULL || counts == NULL || work == NULL)
+    if (nodes == NULL || counts == NULL || work == NULL) {
+        fprintf(stderr, "%s: there is no memory for %zu nodes\n", argv[1], room);
         return 1;
+    }
     refusal = load(file, (size_t)length, nodes, room, &n);
     fclose(file);
     if (refusal != 0)
@@ -102,7 +163,9 @@ int main(int argc, char **argv)
     if (counted.refusal != 0)
         return refused("count_words", counted.refusal);
     printf("%zu nodes, %u words\n", n, counts[nodes[0] >> 8]);
-    status = look_up(nodes, counts, n, argv[2], (uint32_t)strtoul(argv[3], NULL, 10));
+    status = look_up(nodes, counts, n, argv[2], tiles, letters);
+    if (status == 0)
+        status = name(nodes, counts, n, number);
     free(nodes);
     free(counts);
     free(work);

@@ -4,9 +4,13 @@ use machirsun::{count_words, word_by_index, word_index, Layout, Loader};
 use std::error::Error;
 use std::fs::File;
 use std::io::Read;
+use std::process::ExitCode;
 
 /// A piece of any length will do; this one cuts inside nodes.
 const PIECE: usize = 7;
+
+/// The most letters of a word here; the engine sets no limit.
+const LONGEST: usize = 64;
 
 fn load(path: &str) -> Result<Vec<u32>, Box<dyn Error>> {
     let mut file = File::open(path)?;
@@ -28,36 +32,69 @@ fn load(path: &str) -> Result<Vec<u32>, Box<dyn Error>> {
     Ok(nodes)
 }
 
-fn main() -> Result<(), Box<dyn Error>> {
-    let arguments: Vec<String> = std::env::args().collect();
-    let [_, path, word, number] = &arguments[..] else {
+/// The tiles of a word.
+fn read_word(word: &str) -> Result<Vec<u8>, String> {
+    if word.len() > LONGEST || !word.bytes().all(|letter| letter.is_ascii_uppercase()) {
+        return Err(format!(
+            "{word} is not a word of at most {LONGEST} letters A to Z"
+        ));
+    }
+    Ok(word.bytes().map(|letter| letter - b'A' + 1).collect())
+}
+
+/// Reads digits and nothing else: `parse` alone would take a sign before them.
+fn read_number(digits: &str) -> Result<u32, String> {
+    let all_digits = digits.bytes().all(|digit| digit.is_ascii_digit());
+    digits
+        .parse()
+        .ok()
+        .filter(|_| all_digits)
+        .ok_or_else(|| format!("{digits} is not a number from 0 to {} in digits", u32::MAX))
+}
+
+/// The letters of the word with a number.
+fn letters(number: u32, tiles: &[u8]) -> Result<String, String> {
+    let letter = |&tile: &u8| match tile {
+        1..=26 => Ok(char::from(b'A' - 1 + tile)),
+        _ => Err(format!(
+            "word {number} has tile {tile}, which is no letter A to Z"
+        )),
+    };
+    tiles.iter().map(letter).collect()
+}
+
+fn run(arguments: &[String]) -> Result<(), Box<dyn Error>> {
+    let [_, path, word, number] = arguments else {
         return Err("usage: words FILE WORD NUMBER".into());
     };
+    let tiles = read_word(word)?;
+    let number = read_number(number)?;
     let nodes = load(path)?;
     let mut counts = vec![0; nodes.len()];
     count_words(&nodes, &mut counts, &mut vec![0; 2 * nodes.len()])?;
     let start = nodes[0] >> 8;
     println!("{} nodes, {} words", nodes.len(), counts[start as usize]);
 
-    let tiles: Vec<u8> = word
-        .bytes()
-        .map(|letter| letter.wrapping_sub(b'A' - 1))
-        .collect();
     match word_index(&nodes, &counts, start, &tiles)? {
         Some(number) => println!("{word} is word {number}"),
         None => println!("{word} is no word"),
     }
 
-    let mut put = [0; 64];
-    match word_by_index(&nodes, &counts, start, number.parse()?, &mut put)? {
-        Some(tiles) => {
-            let letters: String = put[..tiles]
-                .iter()
-                .map(|tile| char::from(b'A' - 1 + tile))
-                .collect();
-            println!("word {number} is {letters}");
-        }
+    let mut put = [0; LONGEST];
+    match word_by_index(&nodes, &counts, start, number, &mut put)? {
+        Some(tiles) => println!("word {number} is {}", letters(number, &put[..tiles])?),
         None => println!("there is no word {number}"),
     }
     Ok(())
+}
+
+fn main() -> ExitCode {
+    let arguments: Vec<String> = std::env::args().collect();
+    match run(&arguments) {
+        Ok(()) => ExitCode::SUCCESS,
+        Err(error) => {
+            eprintln!("{error}");
+            ExitCode::FAILURE
+        }
+    }
 }

@@ -5,10 +5,13 @@ use std::time::Instant;
 
 const ROUNDS: usize = 31;
 
-fn once<R>(run: &mut impl FnMut() -> R) -> f64 {
+// What is answered is given back after the clock has stopped.
+fn once<R>(run: impl FnOnce() -> R) -> f64 {
     let start = Instant::now();
-    black_box(run());
-    start.elapsed().as_secs_f64()
+    let answer = black_box(run());
+    let time = start.elapsed().as_secs_f64();
+    drop(answer);
+    time
 }
 
 /// The fastest round of one call, in seconds.
@@ -17,11 +20,21 @@ pub fn fastest<R>(mut run: impl FnMut() -> R) -> f64 {
 }
 
 /// The fastest rounds of two calls, made in turns, so that both see the same machine.
-pub fn in_turns<A, B>(mut first: impl FnMut() -> A, mut second: impl FnMut() -> B) -> (f64, f64) {
+pub fn in_turns<A, B>(first: impl FnMut() -> A, mut second: impl FnMut() -> B) -> (f64, f64) {
+    in_turns_given(first, || (), |()| second())
+}
+
+/// The same, where the second call takes something over that is made for each round before the clock starts.
+pub fn in_turns_given<A, B, T>(
+    mut first: impl FnMut() -> A,
+    mut made: impl FnMut() -> T,
+    mut second: impl FnMut(T) -> B,
+) -> (f64, f64) {
     let mut best = (f64::MAX, f64::MAX);
     for _ in 0..ROUNDS {
         best.0 = best.0.min(once(&mut first));
-        best.1 = best.1.min(once(&mut second));
+        let given = made();
+        best.1 = best.1.min(once(|| second(given)));
     }
     best
 }

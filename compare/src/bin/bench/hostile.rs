@@ -9,10 +9,8 @@ use machirsun::Format;
 const TILES: u32 = 40;
 
 pub fn print() {
-    println!(
-        "{:<36}{:>10}{:>10}{:>10}{:>10}",
-        "ns for each node", "N", "ns, N", "ns, 2N", "ns, 4N"
-    );
+    println!("| | N | ns, N | ns, 2N | ns, 4N |");
+    println!("|---|---|---|---|---|");
     grows(
         "count, shared empty runs",
         [25_000, 50_000, 100_000].map(without_words),
@@ -41,11 +39,11 @@ pub fn print() {
 }
 
 fn grows(name: &str, graphs: [Vec<u32>; 3], call: fn(&[u32], &mut Lent)) {
-    print!("{name:<36}{:>10}", graphs[0].len());
+    print!("| {name} | {} |", graphs[0].len());
     for graph in &graphs {
         let mut lent = Lent::new(graph.len());
         let time = fastest(|| call(graph, &mut lent));
-        print!("{:>10.1}", time * 1e9 / graph.len() as f64);
+        print!(" {:.1} |", time * 1e9 / graph.len() as f64);
     }
     println!();
 }

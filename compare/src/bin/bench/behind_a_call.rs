@@ -1,0 +1,33 @@
+//! The Rust's smallest calls behind a C interface like the engine's. Inlined into the benchmark they are a few instructions, less than the
+//! way into a library and back; from behind such a call the two sides' own work can be compared.
+
+use compare::rust_side::Graph;
+use machirsun::ffi::{Cursor, Sought};
+use wolges::kwg::Node;
+
+pub extern "C" fn seek(graph: &Graph, place: u32, tile: u8) -> Sought {
+    let at = graph.seek(place as i32, tile);
+    Sought {
+        refusal: 0,
+        found: at >= 0,
+        place: at.max(0) as u32,
+    }
+}
+
+pub extern "C" fn cursor_at(graph: &Graph, at: u32) -> Cursor {
+    let lent = (at as usize) < graph.0.len();
+    Cursor {
+        refusal: if lent { 0 } else { 14 },
+        done: false,
+        at,
+    }
+}
+
+pub extern "C" fn cursor_step(graph: &Graph, at: u32) -> Cursor {
+    let done = graph[at as i32].is_end();
+    Cursor {
+        refusal: 0,
+        done,
+        at: at + u32::from(!done),
+    }
+}

@@ -1,0 +1,578 @@
+/* Calls every function of machirsun.h from C: on document 01's five nodes, and on input that each has to refuse. Every field of every answer
+ * is compared, and every entry of a lent buffer, those past what the call may write included. */
+#include <stdio.h>
+#include <string.h>
+
+#include "machirsun.h"
+
+/* ---- The layout of the structs: of each field where it begins and how many bytes it has, of each struct how many it has ------------ */
+
+#define FIELD(type, field, begins, bytes) \
+    _Static_assert(offsetof(type, field) == (begins) && sizeof(((type *)0)->field) == (bytes), #type "." #field)
+#define WHOLE(type, bytes) _Static_assert(sizeof(type) == (bytes) && _Alignof(type) <= 8, #type)
+
+_Static_assert(sizeof(size_t) == 8 && sizeof(void *) == 8 && sizeof(bool) == 1, "x86-64");
+
+FIELD(machirsun_loader, announced, 0, 8);
+FIELD(machirsun_loader, taken, 8, 8);
+FIELD(machirsun_loader, held_count, 16, 8);
+FIELD(machirsun_loader, node, 24, 8);
+FIELD(machirsun_loader, layout, 32, 4);
+FIELD(machirsun_loader, refusal, 36, 4);
+FIELD(machirsun_loader, arc, 40, 4);
+FIELD(machirsun_loader, tile, 44, 1);
+FIELD(machirsun_loader, held, 45, 3);
+WHOLE(machirsun_loader, 48);
+
+FIELD(machirsun_begun, refusal, 0, 4);
+FIELD(machirsun_begun, loader, 8, 48);
+WHOLE(machirsun_begun, 56);
+
+FIELD(machirsun_fed, refusal, 0, 4);
+FIELD(machirsun_fed, arc, 4, 4);
+FIELD(machirsun_fed, node, 8, 8);
+FIELD(machirsun_fed, tile, 16, 1);
+FIELD(machirsun_fed, loader, 24, 48);
+WHOLE(machirsun_fed, 72);
+
+FIELD(machirsun_finished, refusal, 0, 4);
+FIELD(machirsun_finished, arc, 4, 4);
+FIELD(machirsun_finished, nodes, 8, 8);
+FIELD(machirsun_finished, node, 16, 8);
+FIELD(machirsun_finished, tile, 24, 1);
+WHOLE(machirsun_finished, 32);
+
+FIELD(machirsun_repacked, refusal, 0, 4);
+FIELD(machirsun_repacked, arc, 4, 4);
+FIELD(machirsun_repacked, node, 8, 8);
+FIELD(machirsun_repacked, tile, 16, 1);
+WHOLE(machirsun_repacked, 24);
+
+FIELD(machirsun_counted, refusal, 0, 4);
+FIELD(machirsun_counted, arc, 4, 4);
+FIELD(machirsun_counted, node, 8, 4);
+WHOLE(machirsun_counted, 12);
+
+FIELD(machirsun_sought, refusal, 0, 4);
+FIELD(machirsun_sought, found, 4, 1);
+FIELD(machirsun_sought, place, 8, 4);
+WHOLE(machirsun_sought, 12);
+
+FIELD(machirsun_cursor, refusal, 0, 4);
+FIELD(machirsun_cursor, done, 4, 1);
+FIELD(machirsun_cursor, at, 8, 4);
+WHOLE(machirsun_cursor, 12);
+
+FIELD(machirsun_index, refusal, 0, 4);
+FIELD(machirsun_index, found, 4, 1);
+FIELD(machirsun_index, number, 8, 4);
+WHOLE(machirsun_index, 12);
+
+FIELD(machirsun_word, refusal, 0, 4);
+FIELD(machirsun_word, found, 4, 1);
+FIELD(machirsun_word, tiles, 8, 8);
+WHOLE(machirsun_word, 16);
+
+FIELD(machirsun_accepts, refusal, 0, 4);
+FIELD(machirsun_accepts, accepts, 4, 1);
+WHOLE(machirsun_accepts, 8);
+
+FIELD(machirsun_cross_set, refusal, 0, 4);
+FIELD(machirsun_cross_set, tiles, 8, 8);
+WHOLE(machirsun_cross_set, 16);
+
+FIELD(machirsun_file, refusal, 0, 4);
+FIELD(machirsun_file, arc, 4, 4);
+FIELD(machirsun_file, written, 8, 8);
+WHOLE(machirsun_file, 16);
+
+/* ---- What is compared ------------------------------------------------------------------------------------------------------------ */
+
+static unsigned compared, differences;
+
+static void compare(bool same, const char *text, int line)
+{
+    compared++;
+    if (!same) {
+        differences++;
+        fprintf(stderr, "calls.c:%d: not so: %s\n", line, text);
+    }
+}
+
+#define SAME(condition) compare(condition, #condition, __LINE__)
+#define SAME_LIST(list, ...) compare(same_bytes(list, sizeof(list), __VA_ARGS__, sizeof(__VA_ARGS__)), #list, __LINE__)
+#define LENGTH(list) (sizeof(list) / sizeof((list)[0]))
+#define LENT(list) list, LENGTH(list)
+
+static bool same_bytes(const void *list, size_t bytes, const void *expected, size_t expected_bytes)
+{
+    return bytes == expected_bytes && memcmp(list, expected, bytes) == 0;
+}
+
+/* The five nodes as a KWG file, and loaded. */
+static const uint8_t FILE_OF_G[20] = {2, 0, 0x40, 0, 0, 0, 0x40, 0, 4, 0, 0x80, 1, 4, 0, 0x40, 2, 0, 0, 0xC0, 2};
+static const uint32_t G[5] = {0x240, 0x40, 0x481, 0x442, 0xC2};
+static const uint32_t COUNTS_OF_G[5] = {3, 0, 3, 1, 1};
+static const uint32_t LABELS[3] = {'?', 'A', 'B'};
+
+/* KWG: node 0 fits, node 1 has tile 64 and arc 3. */
+static const uint8_t TILE_64[8] = {0, 0, 0x40, 0, 3, 0, 0x40, 0x40};
+
+/* Graphs that several calls refuse: arc 5 of 2 nodes, a last node that is no end, node 1 from itself, a run from itself. */
+static const uint32_t ARC_5[2] = {0x40, 0x540};
+static const uint32_t NO_END[2] = {0x40, 0};
+static const uint32_t NODE_1_LOOPS[2] = {0x40, 0x140};
+static const uint32_t NODE_2_LOOPS[3] = {0x240, 0x40, 0x2C1};
+
+/* ---- Loading ---------------------------------------------------------------------------------------------------------------------- */
+
+static void same_loader(const char *name, int line, machirsun_loader loader, machirsun_loader expected)
+{
+    compare(loader.announced == expected.announced && loader.taken == expected.taken && loader.held_count == expected.held_count &&
+                loader.node == expected.node && loader.layout == expected.layout && loader.refusal == expected.refusal &&
+                loader.arc == expected.arc && loader.tile == expected.tile && memcmp(loader.held, expected.held, 3) == 0,
+            name, line);
+}
+
+#define SAME_LOADER(loader, ...) same_loader(#loader, __LINE__, loader, (machirsun_loader){__VA_ARGS__})
+
+static void begins(void)
+{
+    uint32_t nodes[6] = {7, 7, 7, 7, 7, 7};
+    machirsun_begun begun;
+
+    begun = machirsun_begin(20, MACHIRSUN_KWG, LENT(nodes));
+    SAME(begun.refusal == 0);
+    SAME_LOADER(begun.loader, .announced = 20);
+    begun = machirsun_begin(8, MACHIRSUN_KBWG, nodes, 2);
+    SAME(begun.refusal == 0);
+    SAME_LOADER(begun.loader, .announced = 8, .layout = MACHIRSUN_KBWG);
+
+    begun = machirsun_begin(0, MACHIRSUN_KBWG, LENT(nodes));
+    SAME(begun.refusal == MACHIRSUN_NOT_WHOLE_NODES);
+    SAME_LOADER(begun.loader, .layout = MACHIRSUN_KBWG);
+    SAME(machirsun_feed(begun.loader, FILE_OF_G, 1, LENT(nodes)).refusal == MACHIRSUN_BAD_STATE);
+    SAME(machirsun_finish(begun.loader, LENT(nodes)).refusal == MACHIRSUN_BAD_STATE);
+    SAME(machirsun_begin(7, MACHIRSUN_KWG, LENT(nodes)).refusal == MACHIRSUN_NOT_WHOLE_NODES);
+    SAME(machirsun_begin(67108868, MACHIRSUN_KWG, LENT(nodes)).refusal == MACHIRSUN_OVER_LIMIT);
+    SAME(machirsun_begin((size_t)1 << 63, MACHIRSUN_KWG, LENT(nodes)).refusal == MACHIRSUN_OVER_LIMIT);
+    SAME(machirsun_begin(67108864, MACHIRSUN_KWG, LENT(nodes)).refusal == MACHIRSUN_NODES_TOO_SHORT);
+    SAME(machirsun_begin(28, MACHIRSUN_KWG, LENT(nodes)).refusal == MACHIRSUN_NODES_TOO_SHORT);
+    SAME(machirsun_begin(4, MACHIRSUN_KWG, nodes, 1).refusal == MACHIRSUN_NODES_TOO_SHORT);
+    SAME_LIST(nodes, (uint32_t[]){7, 7, 7, 7, 7, 7});
+}
+
+/* A file that comes in two pieces, cut inside a node. */
+static void feeds_and_finishes(void)
+{
+    uint32_t nodes[6] = {7, 7, 7, 7, 7, 7};
+    machirsun_loader loader = machirsun_begin(20, MACHIRSUN_KWG, LENT(nodes)).loader;
+    machirsun_fed fed;
+    machirsun_finished finished;
+
+    fed = machirsun_feed(loader, FILE_OF_G, 7, LENT(nodes));
+    SAME(fed.refusal == 0 && fed.arc == 0 && fed.node == 0 && fed.tile == 0);
+    SAME_LOADER(fed.loader, .announced = 20, .taken = 7, .held_count = 3, .held = {0, 0, 0x40});
+    SAME_LIST(nodes, (uint32_t[]){0x240, 7, 7, 7, 7, 7});
+    loader = fed.loader;
+
+    fed = machirsun_feed(loader, FILE_OF_G, 14, LENT(nodes));
+    SAME(fed.refusal == MACHIRSUN_TOO_LONG && fed.arc == 0 && fed.node == 0 && fed.tile == 0);
+    SAME_LOADER(fed.loader, .announced = 20, .taken = 7, .held_count = 3, .held = {0, 0, 0x40});
+    finished = machirsun_finish(loader, LENT(nodes));
+    SAME(finished.refusal == MACHIRSUN_MISSING && finished.arc == 0 && finished.nodes == 0 && finished.node == 0 && finished.tile == 0);
+    SAME_LIST(nodes, (uint32_t[]){0x240, 7, 7, 7, 7, 7});
+
+    fed = machirsun_feed(loader, FILE_OF_G + 7, 13, LENT(nodes));
+    SAME(fed.refusal == 0 && fed.arc == 0 && fed.node == 0 && fed.tile == 0);
+    SAME_LOADER(fed.loader, .announced = 20, .taken = 20);
+    finished = machirsun_finish(fed.loader, LENT(nodes));
+    SAME(finished.refusal == 0 && finished.arc == 0 && finished.nodes == 5 && finished.node == 0 && finished.tile == 0);
+    SAME_LIST(nodes, (uint32_t[]){0x240, 0x40, 0x481, 0x442, 0xC2, 7});
+}
+
+/* A node that does not fit stops the load, and each later call repeats it. */
+static void keeps_a_refusal(void)
+{
+    uint32_t nodes[3] = {7, 7, 7};
+    machirsun_loader loader = machirsun_begin(8, MACHIRSUN_KWG, LENT(nodes)).loader;
+    machirsun_fed fed = machirsun_feed(loader, LENT(TILE_64), LENT(nodes));
+    machirsun_finished finished;
+
+    SAME(fed.refusal == MACHIRSUN_DOES_NOT_FIT && fed.arc == 3 && fed.node == 1 && fed.tile == 64);
+    SAME_LOADER(fed.loader, .announced = 8, .taken = 4, .node = 1, .refusal = MACHIRSUN_DOES_NOT_FIT, .arc = 3, .tile = 64);
+    SAME_LIST(nodes, (uint32_t[]){0x40, 7, 7});
+    fed = machirsun_feed(fed.loader, TILE_64, 0, LENT(nodes));
+    SAME(fed.refusal == MACHIRSUN_DOES_NOT_FIT && fed.arc == 3 && fed.node == 1 && fed.tile == 64);
+    SAME_LOADER(fed.loader, .announced = 8, .taken = 4, .node = 1, .refusal = MACHIRSUN_DOES_NOT_FIT, .arc = 3, .tile = 64);
+    finished = machirsun_finish(fed.loader, LENT(nodes));
+    SAME(finished.refusal == MACHIRSUN_DOES_NOT_FIT && finished.arc == 3 && finished.nodes == 0);
+    SAME(finished.node == 1 && finished.tile == 64);
+    SAME_LIST(nodes, (uint32_t[]){0x40, 7, 7});
+}
+
+/* Each field of a state that no load has, alone. */
+static void refuses_states(void)
+{
+    uint32_t nodes[3] = {7, 7, 7};
+    machirsun_loader sound = machirsun_begin(8, MACHIRSUN_KWG, LENT(nodes)).loader;
+    machirsun_loader bad[6] = {sound, sound, sound, sound, sound, sound};
+    size_t i;
+
+    bad[0].announced = 16;
+    bad[1].taken = 9;
+    bad[2].held_count = 1;
+    bad[3].held[0] = 1;
+    bad[4].held[1] = 1;
+    bad[5].held[2] = 1;
+    for (i = 0; i < LENGTH(bad); i++) {
+        machirsun_fed fed = machirsun_feed(bad[i], LENT(TILE_64), LENT(nodes));
+        SAME(fed.refusal == MACHIRSUN_BAD_STATE && fed.arc == 0 && fed.node == 0 && fed.tile == 0);
+        same_loader("a refused state stays", __LINE__, fed.loader, bad[i]);
+        SAME(machirsun_finish(bad[i], LENT(nodes)).refusal == MACHIRSUN_BAD_STATE);
+    }
+    SAME_LIST(nodes, (uint32_t[]){7, 7, 7});
+}
+
+static machirsun_finished finish_of(const uint8_t *file, size_t file_len, uint32_t layout, uint32_t *nodes, size_t nodes_len)
+{
+    machirsun_loader loader = machirsun_begin(file_len, layout, nodes, nodes_len).loader;
+    return machirsun_finish(machirsun_feed(loader, file, file_len, nodes, nodes_len).loader, nodes, nodes_len);
+}
+
+static void judges_nodes(void)
+{
+    static const uint8_t one[4] = {0, 0, 0x40, 0}, tile_63[4] = {0, 0, 0x40, 0x3F};
+    static const uint8_t arc_2[8] = {0, 0, 0x40, 0, 2, 0, 0x40, 0}, no_end[8] = {0, 0, 0x40, 0, 0, 0, 0, 0};
+    static const uint8_t kbwg[8] = {0x40, 1, 0, 0, 0xC3, 0, 0, 0};
+    uint32_t nodes[3] = {7, 7, 7};
+    machirsun_finished finished;
+
+    SAME(finish_of(LENT(one), MACHIRSUN_KWG, LENT(nodes)).nodes == 2);
+    SAME_LIST(nodes, (uint32_t[]){0x40, 0x40, 7});
+    SAME(finish_of(LENT(tile_63), MACHIRSUN_KWG, LENT(nodes)).nodes == 2);
+    SAME_LIST(nodes, (uint32_t[]){0x7F, 0x7F, 7});
+    SAME(finish_of(LENT(kbwg), MACHIRSUN_KBWG, LENT(nodes)).nodes == 2);
+    SAME_LIST(nodes, (uint32_t[]){0x140, 0xC3, 7});
+    finished = finish_of(LENT(arc_2), MACHIRSUN_KWG, LENT(nodes));
+    SAME(finished.refusal == MACHIRSUN_ARC_PAST_END && finished.arc == 2 && finished.nodes == 0 && finished.node == 0 && finished.tile == 0);
+    finished = finish_of(LENT(no_end), MACHIRSUN_KWG, LENT(nodes));
+    SAME(finished.refusal == MACHIRSUN_NO_END && finished.arc == 0 && finished.nodes == 0 && finished.node == 0 && finished.tile == 0);
+}
+
+static void repacks(void)
+{
+    uint8_t bytes[11] = {4, 0, 0x80, 1, 4, 0, 0x40, 2, 9, 8, 7};
+    uint8_t wide[8] = {0, 0, 0x40, 1, 3, 0, 0x40, 0x40};
+    uint8_t far[8] = {0xC1, 0, 0, 0, 5, 1, 0, 0x40};
+    machirsun_repacked repacked = machirsun_repack(LENT(bytes), MACHIRSUN_KWG, MACHIRSUN_KBWG);
+
+    SAME(repacked.refusal == 0 && repacked.arc == 0 && repacked.node == 0 && repacked.tile == 0);
+    SAME_LIST(bytes, (uint8_t[]){0x81, 4, 0, 0, 0x42, 4, 0, 0, 9, 8, 7});
+    SAME(machirsun_repack(LENT(bytes), MACHIRSUN_KBWG, MACHIRSUN_KWG).refusal == 0);
+    SAME_LIST(bytes, (uint8_t[]){4, 0, 0x80, 1, 4, 0, 0x40, 2, 9, 8, 7});
+    repacked = machirsun_repack(LENT(wide), MACHIRSUN_KWG, MACHIRSUN_KBWG);
+    SAME(repacked.refusal == MACHIRSUN_DOES_NOT_FIT && repacked.arc == 3 && repacked.node == 1 && repacked.tile == 64);
+    SAME_LIST(wide, (uint8_t[]){0x41, 0, 0, 0, 3, 0, 0x40, 0x40});
+    repacked = machirsun_repack(LENT(far), MACHIRSUN_KBWG, MACHIRSUN_KWG);
+    SAME(repacked.refusal == MACHIRSUN_DOES_NOT_FIT && repacked.arc == 0x400001 && repacked.node == 1 && repacked.tile == 5);
+    SAME_LIST(far, (uint8_t[]){0, 0, 0xC0, 1, 5, 1, 0, 0x40});
+}
+
+/* ---- Counting --------------------------------------------------------------------------------------------------------------------- */
+
+static void counts_words(void)
+{
+    uint32_t counts[6] = {7, 7, 7, 7, 7, 7}, work[11] = {0}, many[35], many_counts[35], many_work[70];
+    machirsun_counted counted;
+    uint32_t i;
+
+    work[10] = 7;
+    counted = machirsun_count_words(LENT(G), LENT(counts), LENT(work));
+    SAME(counted.refusal == 0 && counted.arc == 0 && counted.node == 0);
+    SAME_LIST(counts, (uint32_t[]){3, 0, 3, 1, 1, 7});
+    SAME(work[10] == 7);
+
+    SAME(machirsun_count_words(G, 1, LENT(counts), LENT(work)).refusal == MACHIRSUN_WRONG_SIZE);
+    counted = machirsun_count_words(LENT(ARC_5), LENT(counts), LENT(work));
+    SAME(counted.refusal == MACHIRSUN_ARC_PAST_END && counted.arc == 5 && counted.node == 0);
+    SAME(machirsun_count_words(LENT(NO_END), LENT(counts), LENT(work)).refusal == MACHIRSUN_NO_END);
+    SAME(machirsun_count_words(LENT(G), counts, 4, LENT(work)).refusal == MACHIRSUN_LIST_TOO_SHORT);
+    SAME(machirsun_count_words(LENT(G), LENT(counts), work, 9).refusal == MACHIRSUN_LIST_TOO_SHORT);
+    SAME_LIST(counts, (uint32_t[]){3, 0, 3, 1, 1, 7});
+    counted = machirsun_count_words(LENT(NODE_1_LOOPS), LENT(counts), LENT(work));
+    SAME(counted.refusal == MACHIRSUN_LOOPS && counted.arc == 0 && counted.node == 1);
+    SAME_LIST(counts, (uint32_t[]){0, 0, 3, 1, 1, 7});
+
+    /* Each node accepts, and its arc and its run lead to the next: node 2 has over 2^32 words. */
+    many[0] = many[1] = 0x40;
+    for (i = 2; i < 34; i++)
+        many[i] = (i + 1) << 8 | 0x81;
+    many[34] = 0xC1;
+    counted = machirsun_count_words(LENT(many), LENT(many_counts), LENT(many_work));
+    SAME(counted.refusal == MACHIRSUN_TOO_MANY_WORDS && counted.arc == 0 && counted.node == 0);
+    for (i = 0; i < 35; i++)
+        SAME(many_counts[i] == 0);
+}
+
+/* ---- Lookups ---------------------------------------------------------------------------------------------------------------------- */
+
+static void seeks(void)
+{
+    machirsun_sought sought;
+
+    sought = machirsun_seek(LENT(G), 0, 2);
+    SAME(sought.refusal == 0 && sought.found && sought.place == 3);
+    sought = machirsun_seek(LENT(G), 0, 3);
+    SAME(sought.refusal == 0 && !sought.found && sought.place == 0);
+    sought = machirsun_seek(LENT(G), 4, 1);
+    SAME(sought.refusal == 0 && !sought.found && sought.place == 0);
+    sought = machirsun_seek(LENT(G), 5, 1);
+    SAME(sought.refusal == MACHIRSUN_NOT_LENT && !sought.found && sought.place == 0);
+    sought = machirsun_seek(G, 3, 0, 2);
+    SAME(sought.refusal == MACHIRSUN_NOT_LENT && !sought.found && sought.place == 0);
+}
+
+static void steps(void)
+{
+    machirsun_cursor cursor = machirsun_cursor_at(LENT(G), 2);
+
+    SAME(cursor.refusal == 0 && !cursor.done && cursor.at == 2);
+    cursor = machirsun_cursor_step(LENT(G), cursor.at);
+    SAME(cursor.refusal == 0 && !cursor.done && cursor.at == 3);
+    cursor = machirsun_cursor_step(LENT(G), cursor.at);
+    SAME(cursor.refusal == 0 && cursor.done && cursor.at == 3);
+    cursor = machirsun_cursor_step(G, 3, 2);
+    SAME(cursor.refusal == MACHIRSUN_NOT_LENT && !cursor.done && cursor.at == 2);
+    cursor = machirsun_cursor_at(LENT(G), 5);
+    SAME(cursor.refusal == MACHIRSUN_NOT_LENT && !cursor.done && cursor.at == 5);
+    cursor = machirsun_cursor_step(LENT(G), 4294967295);
+    SAME(cursor.refusal == MACHIRSUN_NOT_LENT && !cursor.done && cursor.at == 4294967295);
+}
+
+static machirsun_index index_of(const uint32_t *counts, size_t counts_len, uint32_t start, const uint8_t *word, size_t word_len)
+{
+    return machirsun_word_index(LENT(G), counts, counts_len, start, word, word_len);
+}
+
+static void numbers_words(void)
+{
+    static const uint8_t a[1] = {1}, ab[2] = {1, 2}, b[1] = {2}, bb[2] = {2, 2};
+    static const uint32_t foreign[5] = {0, 0, 0, 1, 1};
+    machirsun_index index;
+
+    SAME(index_of(LENT(COUNTS_OF_G), 2, LENT(a)).found);
+    index = index_of(LENT(COUNTS_OF_G), 2, LENT(ab));
+    SAME(index.refusal == 0 && index.found && index.number == 1);
+    index = index_of(LENT(COUNTS_OF_G), 2, LENT(bb));
+    SAME(index.refusal == 0 && index.found && index.number == 2);
+    index = index_of(LENT(COUNTS_OF_G), 2, LENT(b));
+    SAME(index.refusal == 0 && !index.found && index.number == 0);
+    SAME(!index_of(LENT(COUNTS_OF_G), 2, a, 0).found);
+    SAME(!index_of(LENT(COUNTS_OF_G), 0, LENT(a)).found);
+    index = index_of(COUNTS_OF_G, 2, 2, LENT(a));
+    SAME(index.refusal == MACHIRSUN_NOT_LENT && !index.found && index.number == 0);
+    index = index_of(LENT(foreign), 2, LENT(bb));
+    SAME(index.refusal == MACHIRSUN_OUT_OF_RANGE && !index.found && index.number == 0);
+}
+
+static void names_numbers(void)
+{
+    static const uint32_t foreign[5] = {0, 0, 0, 1, 1};
+    uint8_t word[3] = {9, 9, 9};
+    machirsun_word named;
+
+    named = machirsun_word_by_index(LENT(G), LENT(COUNTS_OF_G), 2, 0, LENT(word));
+    SAME(named.refusal == 0 && named.found && named.tiles == 1);
+    SAME_LIST(word, (uint8_t[]){1, 9, 9});
+    named = machirsun_word_by_index(LENT(G), LENT(COUNTS_OF_G), 2, 2, LENT(word));
+    SAME(named.refusal == 0 && named.found && named.tiles == 2);
+    SAME_LIST(word, (uint8_t[]){2, 2, 9});
+    named = machirsun_word_by_index(LENT(G), LENT(COUNTS_OF_G), 2, 3, LENT(word));
+    SAME(named.refusal == 0 && !named.found && named.tiles == 0);
+    SAME_LIST(word, (uint8_t[]){2, 2, 9});
+    named = machirsun_word_by_index(LENT(G), LENT(COUNTS_OF_G), 2, 1, word, 1);
+    SAME(named.refusal == MACHIRSUN_BUFFER_FULL && !named.found && named.tiles == 0);
+    SAME_LIST(word, (uint8_t[]){1, 2, 9});
+    named = machirsun_word_by_index(LENT(G), LENT(COUNTS_OF_G), 5, 0, LENT(word));
+    SAME(named.refusal == MACHIRSUN_NOT_LENT && !named.found && named.tiles == 0);
+    named = machirsun_word_by_index(LENT(G), LENT(foreign), 2, 1, LENT(word));
+    SAME(named.refusal == MACHIRSUN_OUT_OF_RANGE && !named.found && named.tiles == 0);
+    SAME_LIST(word, (uint8_t[]){1, 2, 9});
+}
+
+/* ---- Letter and alpha sets -------------------------------------------------------------------------------------------------------- */
+
+static void writes_letter_bits(void)
+{
+    static const uint32_t tile_63[1] = {0xFF};
+    uint64_t letters[6] = {9, 9, 9, 9, 9, 9}, accepting[6] = {9, 9, 9, 9, 9, 9};
+
+    SAME(machirsun_letter_bits(LENT(G), letters, 4, LENT(accepting)) == MACHIRSUN_LIST_TOO_SHORT);
+    SAME(machirsun_letter_bits(LENT(G), LENT(letters), accepting, 4) == MACHIRSUN_LIST_TOO_SHORT);
+    SAME_LIST(letters, (uint64_t[]){9, 9, 9, 9, 9, 9});
+    SAME_LIST(accepting, (uint64_t[]){9, 9, 9, 9, 9, 9});
+    SAME(machirsun_letter_bits(LENT(G), LENT(letters), LENT(accepting)) == 0);
+    SAME_LIST(letters, (uint64_t[]){1, 1, 6, 4, 4, 9});
+    SAME_LIST(accepting, (uint64_t[]){0, 0, 2, 0, 4, 9});
+    SAME(machirsun_letter_bits(LENT(tile_63), LENT(letters), LENT(accepting)) == 0);
+    SAME(letters[0] == (uint64_t)1 << 63 && accepting[0] == (uint64_t)1 << 63);
+}
+
+static void alpha_sets(void)
+{
+    static const uint8_t one_a[2] = {0, 1}, one_b[3] = {0, 0, 1}, a_and_b[3] = {0, 1, 1}, over_64[65] = {0};
+    static const uint32_t tile_63[3] = {0x240, 0x40, 0xFF};
+    machirsun_accepts accepts;
+    machirsun_cross_set set;
+
+    accepts = machirsun_accepts_alpha(LENT(G), LENT(a_and_b));
+    SAME(accepts.refusal == 0 && accepts.accepts);
+    SAME(machirsun_accepts_alpha(LENT(G), LENT(one_a)).accepts);
+    accepts = machirsun_accepts_alpha(LENT(G), LENT(one_b));
+    SAME(accepts.refusal == 0 && !accepts.accepts);
+    accepts = machirsun_accepts_alpha(LENT(G), LENT(over_64));
+    SAME(accepts.refusal == MACHIRSUN_TALLY_TOO_LONG && !accepts.accepts);
+    accepts = machirsun_accepts_alpha(G, 0, LENT(one_a));
+    SAME(accepts.refusal == MACHIRSUN_NOT_LENT && !accepts.accepts);
+
+    set = machirsun_alpha_cross_set(LENT(G), LENT(one_a));
+    SAME(set.refusal == 0 && set.tiles == 5);
+    set = machirsun_alpha_cross_set(LENT(G), LENT(one_b));
+    SAME(set.refusal == 0 && set.tiles == 7);
+    set = machirsun_alpha_cross_set(LENT(tile_63), one_a, 0);
+    SAME(set.refusal == 0 && set.tiles == ((uint64_t)1 << 63 | 1));
+    set = machirsun_alpha_cross_set(LENT(G), LENT(over_64));
+    SAME(set.refusal == MACHIRSUN_TALLY_TOO_LONG && set.tiles == 0);
+    set = machirsun_alpha_cross_set(G, 0, LENT(one_a));
+    SAME(set.refusal == MACHIRSUN_NOT_LENT && set.tiles == 0);
+}
+
+/* ---- Files for other programs ----------------------------------------------------------------------------------------------------- */
+
+static uint32_t work[41];
+static uint8_t file[100];
+
+static void blank_file(void)
+{
+    memset(file, 0xEE, sizeof file);
+}
+
+static bool file_is(const uint8_t *expected, size_t length)
+{
+    size_t i;
+
+    if (memcmp(file, expected, length) != 0)
+        return false;
+    for (i = length; i < sizeof file; i++)
+        if (file[i] != 0xEE)
+            return false;
+    return true;
+}
+
+static void same_file(int line, machirsun_file answer, uint32_t refusal, uint32_t arc)
+{
+    compare(answer.refusal == refusal && answer.arc == arc && answer.written == 0 && file_is(file, 0), "a refused file", line);
+}
+
+#define REFUSED(answer, refusal, arc) same_file(__LINE__, answer, refusal, arc)
+
+static machirsun_file macondo(const uint32_t *nodes, size_t nodes_len, const uint32_t *labels, size_t labels_len, size_t name_len,
+                              size_t work_len, size_t file_len)
+{
+    static const uint8_t name[256] = {'G'};
+
+    blank_file();
+    return machirsun_to_macondo(nodes, nodes_len, labels, labels_len, name, name_len, MACHIRSUN_DAWG, work, work_len, file, file_len);
+}
+
+static void writes_macondo(void)
+{
+    static const uint8_t expected[58] = {'c', 'd', 'w', 'g', 1, 'G', 0, 0, 0, 2, 0, 0, 0, 'A', 0, 0, 0, 'B', 0, 0,
+                                         0, 2, 0, 0, 0, 0, 0, 0, 0, 1, 0, 0, 0, 0, 0, 0, 0, 2, 0, 0,
+                                         0, 4, 2, 0, 0, 0, 0, 0, 0, 3, 1, 0, 0, 3, 0, 0, 0, 1};
+    static const uint32_t two_labels[3] = {'?', 0xD800, 'B'}, falling[4] = {0x240, 0x40, 0x82, 0xC1};
+    machirsun_file answer;
+
+    work[40] = 7;
+    answer = macondo(LENT(G), LENT(LABELS), 1, 40, 100);
+    SAME(answer.refusal == 0 && answer.arc == 0 && answer.written == 58 && file_is(LENT(expected)));
+    SAME(work[40] == 7);
+    answer = macondo(LENT(G), LENT(LABELS), 1, 40, 58);
+    SAME(answer.refusal == 0 && answer.written == 58 && file_is(LENT(expected)));
+    blank_file();
+    answer = machirsun_to_macondo(LENT(G), LENT(LABELS), (const uint8_t *)"GG", 2, MACHIRSUN_GADDAG, LENT(work), LENT(file));
+    SAME(answer.refusal == 0 && memcmp(file, "cgdg\2GG", 7) == 0);
+
+    REFUSED(macondo(G, 1, LENT(LABELS), 1, 40, 100), MACHIRSUN_WRONG_SIZE, 0);
+    REFUSED(macondo(LENT(ARC_5), LENT(LABELS), 1, 40, 100), MACHIRSUN_ARC_PAST_END, 5);
+    REFUSED(macondo(LENT(NO_END), LENT(LABELS), 1, 40, 100), MACHIRSUN_NO_END, 0);
+    REFUSED(macondo(LENT(G), LABELS, 0, 1, 40, 100), MACHIRSUN_LABEL_COUNT, 0);
+    REFUSED(macondo(LENT(G), LENT(LABELS), 256, 40, 100), MACHIRSUN_TEXT_TOO_LONG, 0);
+    REFUSED(macondo(LENT(G), LABELS, 2, 1, 40, 100), MACHIRSUN_NO_LABEL, 0);
+    REFUSED(macondo(LENT(falling), LENT(LABELS), 1, 40, 100), MACHIRSUN_NOT_ASCENDING, 0);
+    REFUSED(macondo(LENT(G), LENT(LABELS), 1, 39, 100), MACHIRSUN_LIST_TOO_SHORT, 0);
+    REFUSED(macondo(LENT(NODE_2_LOOPS), LENT(LABELS), 1, 40, 100), MACHIRSUN_CHAIN_TOO_LONG, 0);
+    REFUSED(macondo(LENT(G), LENT(two_labels), 1, 40, 100), MACHIRSUN_BAD_LETTER, 0);
+    REFUSED(macondo(LENT(G), LENT(LABELS), 1, 40, 57), MACHIRSUN_LIST_TOO_SHORT, 0);
+}
+
+static machirsun_file lxd(const uint32_t *nodes, size_t nodes_len, const uint32_t *labels, size_t labels_len, const uint32_t *title,
+                          size_t title_len, const uint32_t *date, size_t date_len, size_t work_len, size_t file_len)
+{
+    blank_file();
+    return machirsun_to_lxd(nodes, nodes_len, labels, labels_len, title, title_len, date, date_len, work, work_len, file, file_len);
+}
+
+static void writes_lxd(void)
+{
+    static const uint8_t expected[84] = {
+        64, 0, 0, 0, 5, 0, 0, 0,
+        'h', 0xE9, 0, 0, 0, 0, 0, 0, 0, 0, 0, 0, 0, 0, 0, 0, 0, 0, 0, 0, 0, 0, 0, 0, 0, 0, 0, 0, 0, 0, 0, 0,
+        '2', '0', '2', '6', 0, 0, 0, 0, 0, 0, 0, 0, 0, 0, 0, 0, 0, 0, 0, 0,
+        3, 0, 0, 0, 0, 0, 0x80, 0x8A, 2, 0, 0x80, 0x8A, 4, 0, 0x40, 0x50, 4, 0, 0x80, 0x90, 0, 0, 0x80, 0xD0};
+    static const uint32_t title[2] = {'h', 0xE9}, date[4] = {'2', '0', '2', '6'}, texts[32] = {'a'}, wide[1] = {0x100};
+    static const uint32_t wide_label[3] = {'?', 0x100, 'B'};
+    machirsun_file answer;
+
+    work[40] = 7;
+    answer = lxd(LENT(G), LENT(LABELS), LENT(title), LENT(date), 40, 100);
+    SAME(answer.refusal == 0 && answer.arc == 0 && answer.written == 84 && file_is(LENT(expected)));
+    SAME(work[40] == 7);
+    answer = lxd(LENT(G), LENT(LABELS), LENT(title), LENT(date), 40, 84);
+    SAME(answer.refusal == 0 && answer.written == 84 && file_is(LENT(expected)));
+
+    REFUSED(lxd(G, 1, LENT(LABELS), LENT(title), LENT(date), 40, 100), MACHIRSUN_WRONG_SIZE, 0);
+    REFUSED(lxd(LENT(ARC_5), LENT(LABELS), LENT(title), LENT(date), 40, 100), MACHIRSUN_ARC_PAST_END, 5);
+    REFUSED(lxd(LENT(NO_END), LENT(LABELS), LENT(title), LENT(date), 40, 100), MACHIRSUN_NO_END, 0);
+    REFUSED(lxd(LENT(G), LENT(LABELS), LENT(wide), LENT(date), 40, 100), MACHIRSUN_NOT_LATIN1, 0);
+    REFUSED(lxd(LENT(G), LENT(LABELS), texts, 32, LENT(date), 40, 100), MACHIRSUN_TEXT_TOO_LONG, 0);
+    REFUSED(lxd(LENT(G), LENT(LABELS), LENT(title), LENT(wide), 40, 100), MACHIRSUN_NOT_LATIN1, 0);
+    REFUSED(lxd(LENT(G), LENT(LABELS), LENT(title), texts, 20, 40, 100), MACHIRSUN_TEXT_TOO_LONG, 0);
+    REFUSED(lxd(LENT(G), LABELS, 2, LENT(title), LENT(date), 40, 100), MACHIRSUN_NO_LABEL, 0);
+    REFUSED(lxd(LENT(G), LENT(LABELS), LENT(title), LENT(date), 39, 100), MACHIRSUN_LIST_TOO_SHORT, 0);
+    REFUSED(lxd(LENT(NODE_2_LOOPS), LENT(LABELS), LENT(title), LENT(date), 40, 100), MACHIRSUN_CHAIN_TOO_LONG, 0);
+    REFUSED(lxd(LENT(G), LENT(wide_label), LENT(title), LENT(date), 40, 100), MACHIRSUN_BAD_LETTER, 0);
+    REFUSED(lxd(LENT(G), LENT(LABELS), LENT(title), LENT(date), 40, 83), MACHIRSUN_LIST_TOO_SHORT, 0);
+}
+
+int main(void)
+{
+    begins();
+    feeds_and_finishes();
+    keeps_a_refusal();
+    refuses_states();
+    judges_nodes();
+    repacks();
+    counts_words();
+    seeks();
+    steps();
+    numbers_words();
+    names_numbers();
+    writes_letter_bits();
+    alpha_sets();
+    writes_macondo();
+    writes_lxd();
+    printf("calls from C: %u compared, %u differences\n", compared, differences);
+    return differences == 0 ? 0 : 1;
+}
