@@ -1,8 +1,7 @@
 -- The output in blocks: the lines of some numbers at a time, by the walk that names a number's word.
 use mathlib.Core.Bool.{Bool, true, false, _&&_}
-use mathlib.Core.List.{List, [], _∷_, _++_}
+use mathlib.Core.List.{List, [], _++_}
 use Prim.Native.Nat.{ℕ, zero, suc, _+_, _-_, _/_, min}
-use lib.Dec.{ltb}
 use Rattle.node.specs.Answers.{Answer, gives, nothing, refused}
 use Rattle.graph.specs.Words.{Word}
 use Rattle.listing.specs.Lines.{line, refusal}
@@ -52,12 +51,3 @@ module _ (walk : Walk) where
   block count next room =
       let k = numbersIn count next room in
       record { bytes = linesOf next k; next = elim (allWords next k) [ true ↦ next + k | false ↦ count ] }
-
-  -- the blocks one after the other, from number next on, until no number is left; so many at most
-  unfoldable pub blocks : ℕ → ℕ → ℕ → ℕ → List (List ℕ)
-  blocks count room zero next = []
-  blocks count room (suc t) next =
-      elim (ltb next count) [
-        | true ↦ block count next room .bytes ∷ blocks count room t (block count next room .next)
-        | false ↦ []
-      ]

@@ -1,13 +1,7 @@
 pub mod Lines
 pub mod Wordlist
 pub mod Blocks
+pub mod Printing
 pub mod Said
-pub mod LinesLaws
-pub mod PutLaws
-pub mod WalkedLaws
-pub mod BlocksLaws
-pub mod WordLaws
-pub mod OpeningLaws
-pub mod ListedLaws
-pub mod PrintsLaws
+pub mod NextLaws
 pub mod FiveNodes

@@ -2,26 +2,29 @@
 use mathlib.Core.Path.{_≡_}
 use mathlib.Core.Bool.{true, false}
 use mathlib.Core.List.{List, [], _∷_, _++_}
+use mathlib.Core.Option.{Option, none, some}
 use Prim.Native.Nat.{ℕ, _+_, _≤_}
 use lib.Dec.{eqb}
 use lib.ListN.{length, getD, drop}
 use lib.Seq.{sets}
+use Rattle.laws.specs.Lists.{joinAll}
 use Rattle.node.specs.Answers.{Answer, gives}
 use Rattle.graph.specs.Runs.{Graph}
 use Rattle.graph.specs.Words.{Word}
 use Rattle.graph.specs.Counting.{Counted}
 use Rattle.count.specs.Said.{limit}
 use Rattle.pieces.specs.Pieces.{Loads}
-use Rattle.lookup.specs.Walks.{wordByIndex}
-use Rattle.listing.specs.Lines.{refusal}
-use Rattle.listing.specs.Wordlist.{Ends, refuses, lists, start, startWords, mostTiles, loadAnswer, RefusesBy, CountWork, Opens}
-use Rattle.listing.specs.Blocks.{lineFor, goesOn, longest, Block, blocks}
-use Rattle.listing.specs.declared.opening.Opened.{Opened}
-use Rattle.listing.specs.declared.opening.Opened.the-variants.{Refused, Words}
+use Rattle.listing.specs.Wordlist.{Ends, refuses, lists, start, startWords, loadAnswer, RefusesBy, CountWork, ReadInto, Opens, Prints}
+use Rattle.listing.specs.Blocks.{lineFor, goesOn, longest, Block}
+use Rattle.listing.specs.Printing.{Next, blocks}
+use Rattle.listing.specs.declared.opening.Unprinted.{Unprinted}
+use Rattle.listing.specs.declared.opening.Unprinted.the-variants.{Refusal, Words}
 use Rattle.listing.specs.declared.opening.Loaded.{Loaded}
-use Rattle.listing.specs.declared.opening.Loaded.the-variants.{Nodes, Refused as LoadRefused}
+use Rattle.listing.specs.declared.opening.Loaded.the-variants.{Nodes, Refused}
 use Rattle.listing.specs.declared.blocks.Filled.{Filled}
 use Rattle.listing.specs.declared.blocks.Put.{Put}
+use Rattle.listing.specs.declared.blocks.Made.{Made}
+use Rattle.listing.specs.declared.blocks.Made.the-variants.{Bytes, Done}
 
 -- bytes stored from a place on, and the place after them
 pub record Puts (bytes before : List ℕ) (at : ℕ) (after : List ℕ) (end : ℕ) : Type 0 where
@@ -36,43 +39,44 @@ pub record AtFront (bytes before after : List ℕ) (written : ℕ) : Type 0 wher
 -- ---- opening
 abbrev pub saidLoad : Loaded → Answer → Type 0
 saidLoad (Nodes n) a = a ≡ gives (n ∷ [])
-saidLoad (LoadRefused n) a = RefusesBy a n
+saidLoad (Refused n) a = RefusesBy a n
 
 pub record LoadsAs (l : Loads) (r : Loaded) (nodes : List ℕ) : Type 0 where
   pub said : saidLoad r (loadAnswer l)
   pub table : nodes ≡ l .nodes
 
 -- the start, and the words from it by the counts
-abbrev pub atStart : List ℕ → List ℕ → Opened
-atStart nodes counts = Words (start nodes) (elim (eqb (start nodes) 0) [ true ↦ 0 | false ↦ getD counts (start nodes) 0 ])
+abbrev pub atStart : List ℕ → List ℕ → Unprinted
+atStart nodes counts = Words (start nodes) (elim (eqb (start nodes) 0) [ true ↦ 0 | false ↦ getD counts (start nodes) 0 ]) 0
 
-abbrev pub saidCount : Opened → Answer → Graph → Type 0
-saidCount (Refused n) a g = RefusesBy a n
-saidCount (Words s c) a g = (a ≡ gives []) × (s ≡ start g) × (c ≡ length (startWords g))
+abbrev pub saidCount : Unprinted → Answer → Graph → Type 0
+saidCount (Refusal n) a g = RefusesBy a n
+saidCount (Words s c i) a g = (a ≡ gives []) × (s ≡ start g) × (c ≡ length (startWords g)) × (i ≡ 0)
 
-pub record CountsAs (g : Graph) (lentCounts lentWork : List ℕ) (r : Opened) (counts work : List ℕ) : Type 0 where
+pub record CountsAs (g : Graph) (lentCounts lentWork : List ℕ) (r : Unprinted) (counts work : List ℕ) : Type 0 where
   pub answer : Answer
   pub said : saidCount r answer g
   pub counted : Counted limit g lentCounts (length lentWork) answer counts
   pub free : CountWork g lentCounts lentWork work
 
--- a refusal's number, or the start and how many words there are from it
-abbrev pub saidOpen : Opened → Ends → Type 0
-saidOpen (Refused n) (refuses m) = n ≡ m
-saidOpen (Words s c) (lists g) = (s ≡ start g) × (c ≡ length (startWords g))
-saidOpen (Refused n) (lists g) = ⊥
-saidOpen (Words s c) (refuses m) = ⊥
+-- a refusal's number, or all words: the start, how many there are from it, and 0 to go on from
+abbrev pub saidOpen : Unprinted → Ends → Type 0
+saidOpen (Refusal n) (refuses m) = n ≡ m
+saidOpen (Words s c i) (lists g) = (s ≡ start g) × (c ≡ length (startWords g)) × (i ≡ 0)
+saidOpen (Refusal n) (lists g) = ⊥
+saidOpen (Words s c i) (refuses m) = ⊥
 
-pub record Opening (input lentNodes lentCounts lentWork : List ℕ) (r : Opened) (nodes counts work : List ℕ) : Type 0 where
+pub record Opening (input lentNodes lentCounts lentWork : List ℕ) (r : Unprinted) (nodes counts work : List ℕ) : Type 0 where
   pub ends : Ends
   pub said : saidOpen r ends
   pub opens : Opens input lentNodes lentCounts lentWork ends nodes counts work
 
--- ---- blocks
--- the walk by the lent nodes and counts, from the start
-abbrev pub walkFrom : List ℕ → List ℕ → ℕ → ℕ → Word × Answer
-walkFrom nodes counts start i = wordByIndex counts nodes mostTiles start i
+-- the opening of every input of which so many bytes were read into a buffer
+abbrev pub OpensRead : List ℕ → ℕ → List ℕ → List ℕ → List ℕ → Unprinted → List ℕ → List ℕ → List ℕ → Type 0
+OpensRead buffer read lentNodes lentCounts lentWork r nodes counts work =
+    ((input : List ℕ) → ReadInto buffer read input → Opening input lentNodes lentCounts lentWork r nodes counts work)
 
+-- ---- blocks
 pub record PutWord (number : ℕ) (walked : Word × Answer) (before : List ℕ) (at : ℕ) (after : List ℕ) (r : Put) : Type 0 where
   pub more : r .more ≡ goesOn (walked .1)
   pub puts : Puts (lineFor number (walked .0) (walked .1)) before at after (r .end)
@@ -82,7 +86,20 @@ pub record Fills (b : Block) (before after : List ℕ) (r : Filled) : Type 0 whe
   pub next : r .next ≡ b .next
   pub front : AtFront (b .bytes) before after (r .written)
 
--- What the program writes, block by block, once an input is opened: blocks of so many bytes of room.
-abbrev pub written : Opened → List ℕ → List ℕ → ℕ → List (List ℕ)
-written (Refused n) nodes counts room = refusal n ∷ []
-written (Words s c) nodes counts room = blocks (walkFrom nodes counts s) c room c 0
+-- the next block at the front of the lent bytes and what is left after it, or the lent bytes as before where nothing was left
+abbrev pub Makes : Option Next → List ℕ → List ℕ → Made → Type 0
+Makes (some b) before after (Bytes written u) = AtFront (b .bytes) before after written × (u ≡ b .unprinted)
+Makes none before after Done = after ≡ before
+Makes (some b) before after Done = ⊥
+Makes none before after (Bytes written u) = ⊥
+
+-- ---- the program
+-- What the calls come to, whatever is read and lent: their blocks join to the whole output, and no other bytes are that.
+pub record WholeOutput : Type 0 where
+  pub joins : (input buffer : List ℕ) (read : ℕ) (lentNodes lentCounts lentWork nodes counts work : List ℕ) (u : Unprinted)
+      → ReadInto buffer read input
+      → OpensRead buffer read lentNodes lentCounts lentWork u nodes counts work
+      → Prints input lentNodes lentCounts lentWork (joinAll (blocks nodes counts u))
+  pub once : (input lentNodes lentCounts lentWork : List ℕ) {a b : List ℕ} → Prints input lentNodes lentCounts lentWork a
+      → Prints input lentNodes lentCounts lentWork b
+      → a ≡ b

@@ -39,6 +39,10 @@ listed i (w ∷ ws) = elim (ltb mostTiles (length w)) [ true ↦ refusal 16 | fa
 abbrev pub mostBytes : ℕ
 mostBytes = 16_384
 
+-- The first bytes of an input, as many as a buffer has room for, were read into it: so many.
+abbrev pub ReadInto : List ℕ → ℕ → List ℕ → Type 0
+ReadInto buffer read input = take (length buffer) input ≡ take read buffer
+
 -- the load of a whole input, over lent nodes
 abbrev pub load : List ℕ → List ℕ → Loads
 load input lentNodes = loadWhole (length input) Kwg lentNodes input
@@ -90,7 +94,7 @@ abbrev pub printed : Ends → List ℕ
 printed (refuses n) = refusal n
 printed (lists g) = listed 0 (startWords g)
 
--- The whole output for an input. It is determined, though the node in refusal 12 is the program's choice (`prints-once`).
+-- The whole output for an input. It is determined, though the node in refusal 12 is the program's choice (`WholeOutput`).
 pub record Prints (input lentNodes lentCounts lentWork output : List ℕ) : Type 0 where
   pub ends : Ends
   pub nodes : List ℕ

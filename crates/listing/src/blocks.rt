@@ -3,9 +3,12 @@ ghost use mathlib.Core.Path.{_≡_};
 ghost use Prim.Native.Nat.{_+_, _≤_};
 ghost use lib.ListN.{length};
 ghost use Rattle.listing.specs.Blocks.{longest, numbersIn, block};
-ghost use Rattle.listing.specs.Said.{walkFrom, PutWord, Fills};
+ghost use Rattle.listing.specs.Printing.{walkFrom, nextBlock};
+ghost use Rattle.listing.specs.Said.{PutWord, Fills, Makes};
 use crate::lines::put_line;
 use crate::lines::put_refusal;
+use crate::opening::NODES;
+use crate::opening::Unprinted;
 use lookup::WordByIndex;
 
 // The most tiles of a word.
@@ -13,6 +16,18 @@ const TILES: usize = 256;
 
 // The bytes of the longest line: 10 digits, a tab, 256 tiles of 2 digits parted by spaces, the line's end.
 const LONGEST: usize = 779;
+
+// The bytes that a block has room for.
+pub const BLOCK: usize = 65536;
+
+// A block of the output, of so many bytes, and what is left to print after it; or nothing was left.
+pub enum Made {
+    Bytes {
+        written: usize,
+        unprinted: Unprinted,
+    },
+    Done,
+}
 
 // How many bytes a block has, and the number to go on from; none is left where that is the count.
 pub struct Filled {
@@ -79,14 +94,7 @@ fn block_end(count: u32, next: u32, room: usize) -> u32
 }
 
 // Makes the lines of the words from number next on, of so many from the start, as far as there is room for them.
-pub fn fill(
-    nodes: &[u32],
-    counts: &[u32],
-    start: u32,
-    count: u32,
-    next: u32,
-    out: &mut [u8],
-) -> Filled
+fn fill(nodes: &[u32], counts: &[u32], start: u32, count: u32, next: u32, out: &mut [u8]) -> Filled
     ensures { λ r. ⌜ Fills (block (walkFrom (now (nodes .entry)) (now (counts .entry)) start) count next (length (now (out .entry)))) (now (out .entry)) (now (out .exit)) r ⌝ }
 {
     let end = block_end(count, next, out.len());
@@ -106,5 +114,40 @@ pub fn fill(
     Filled {
         next: number,
         written: at,
+    }
+}
+
+// Makes the next block of the output.
+pub fn next_block(
+    nodes: &[u32; NODES],
+    counts: &[u32; NODES],
+    unprinted: Unprinted,
+    out: &mut [u8; BLOCK],
+) -> Made
+    ensures { λ r. ⌜ Makes (nextBlock (now (nodes .entry)) (now (counts .entry)) unprinted) (now (out .entry)) (now (out .exit)) r ⌝ }
+{
+    match unprinted {
+        Unprinted::Refusal(number) => Made::Bytes {
+            written: put_refusal(number, out, 0),
+            unprinted: Unprinted::Words {
+                start: 0,
+                count: 0,
+                next: 0,
+            },
+        },
+        Unprinted::Words { start, count, next } => {
+            if count <= next {
+                return Made::Done;
+            }
+            let filled = fill(nodes, counts, start, count, next, out);
+            Made::Bytes {
+                written: filled.written,
+                unprinted: Unprinted::Words {
+                    start,
+                    count,
+                    next: filled.next,
+                },
+            }
+        }
     }
 }

@@ -3,8 +3,11 @@ mod blocks;
 mod lines;
 mod opening;
 
-pub use blocks::Filled;
-pub use blocks::fill;
-pub use lines::refuse;
-pub use opening::Opened;
+pub use blocks::BLOCK;
+pub use blocks::Made;
+pub use blocks::next_block;
+pub use opening::INPUT;
+pub use opening::NODES;
+pub use opening::Unprinted;
+pub use opening::WORK;
 pub use opening::open;

@@ -4,7 +4,7 @@ ghost use mathlib.Core.List.{[], _∷_};
 ghost use Prim.Native.Nat.{_+_, _≤_};
 ghost use lib.ListN.{length};
 ghost use Rattle.listing.specs.Lines.{decimal, parted, line, refusal};
-ghost use Rattle.listing.specs.Said.{Puts, AtFront};
+ghost use Rattle.listing.specs.Said.{Puts};
 
 fn wide(tile: u8) -> u32
     ensures { λ r. ⌜ r ≡ tile ⌝ }
@@ -66,11 +66,4 @@ pub(crate) fn put_refusal(number: u32, out: &mut [u8], at: usize) -> usize
     endian::write_bytes(out, at, b"refused\t");
     let end = put_number(number, out, at + 8);
     put_byte(b'\n', out, end)
-}
-
-// Puts a refusal's line at the front, and answers its length.
-pub fn refuse(number: u32, out: &mut [u8; 19]) -> usize
-    ensures { λ r. ⌜ AtFront (refusal number) (now (out .entry)) (now (out .exit)) r ⌝ }
-{
-    put_refusal(number, out, 0)
 }

@@ -2,22 +2,31 @@
 ghost use mathlib.Core.Path.{_≡_};
 ghost use Prim.Native.Nat.{_<_};
 ghost use lib.ListN.{length};
-ghost use Rattle.listing.specs.Wordlist.{start, load as loading};
-ghost use Rattle.listing.specs.Said.{saidLoad, LoadsAs, atStart, CountsAs, Opening};
+ghost use Rattle.listing.specs.Wordlist.{start, mostBytes, load as loading};
+ghost use Rattle.listing.specs.Said.{saidLoad, LoadsAs, atStart, CountsAs, OpensRead};
 ghost use Rattle.load.specs.Said.{saidFinish};
 use count::Counted;
 use load::BeginAnswer;
 use load::Finished;
+use load::Loader;
 use node::Layout;
 use node::Node24;
 
-// The bytes of 4,096 nodes.
+// The most nodes of an input, and their bytes.
+pub const NODES: usize = 4096;
+
 const MOST_BYTES: usize = 16384;
 
-// What opening an input ends in: the number of a refusal, or where the words begin and how many there are.
-pub enum Opened {
-    Refused(u32),
-    Words { start: u32, count: u32 },
+// Room for one byte more than may be listed, so that a longer input shows.
+pub const INPUT: usize = 16385;
+
+// Two numbers a node, to count the words in.
+pub const WORK: usize = 8192;
+
+// What is left to print: a refusal's line, or the lines of the words from number next on, of so many from the start.
+pub enum Unprinted {
+    Refusal(u32),
+    Words { start: u32, count: u32, next: u32 },
 }
 
 pub enum Loaded {
@@ -29,10 +38,13 @@ pub enum Loaded {
 fn load(input: &[u8], nodes: &mut [u32]) -> Loaded
     ensures { λ r. ⌜ LoadsAs (loading (now (input .entry)) (now (nodes .entry))) r (now (nodes .exit)) ⌝ }
 {
-    let loaded = pieces::load_in_pieces(input.len(), Layout::Kwg, input, &[], nodes);
-    let begun = loaded.begun;
-    let finished = loaded.finished;
-    match begun {
+    let begun = Loader::begin(input.len(), Layout::Kwg, nodes);
+    let answer = begun.answer;
+    let loader = begun.loader;
+    let fed = loader.feed(input, nodes);
+    let last = fed.loader;
+    let finished = last.finish(nodes);
+    match answer {
         BeginAnswer::Ready => after_begin(finished),
         BeginAnswer::NotWholeNodes => Loaded::Refused(1),
         BeginAnswer::OverLimit => Loaded::Refused(2),
@@ -58,43 +70,68 @@ fn after_begin(finished: Finished) -> Loaded
 }
 
 // Where the words begin and how many there are; the start must be among the counts.
-fn at_start(nodes: &[u32], counts: &[u32]) -> Opened
+fn at_start(nodes: &[u32], counts: &[u32]) -> Unprinted
     requires { ⌜ (0 < length (now nodes)) × (start (now nodes) < length (now counts)) ⌝ }
     ensures { λ r. ⌜ r ≡ atStart (now (nodes .entry)) (now (counts .entry)) ⌝ }
 {
     let start = Node24(nodes[0]).arc_index();
     if start == 0 {
-        return Opened::Words { start, count: 0 };
+        return Unprinted::Words {
+            start,
+            count: 0,
+            next: 0,
+        };
     }
-    Opened::Words {
+    Unprinted::Words {
         start,
         count: counts[start as usize],
+        next: 0,
     }
 }
 
-fn count_loaded(nodes: &[u32], counts: &mut [u32], work: &mut [u32]) -> Opened
+fn count_loaded(nodes: &[u32], counts: &mut [u32], work: &mut [u32]) -> Unprinted
     ensures { λ r. ⌜ CountsAs (now (nodes .entry)) (now (counts .entry)) (now (work .entry)) r (now (counts .exit)) (now (work .exit)) ⌝ }
 {
     match count::count_words(nodes, counts, work) {
         Counted::Done => at_start(nodes, counts),
-        Counted::WrongSize => Opened::Refused(10),
-        Counted::ArcPastEnd(_) => Opened::Refused(8),
-        Counted::NoEnd => Opened::Refused(9),
-        Counted::ListTooShort => Opened::Refused(11),
-        Counted::Loops(_) => Opened::Refused(12),
-        Counted::TooMany => Opened::Refused(13),
+        Counted::WrongSize => Unprinted::Refusal(10),
+        Counted::ArcPastEnd(_) => Unprinted::Refusal(8),
+        Counted::NoEnd => Unprinted::Refusal(9),
+        Counted::ListTooShort => Unprinted::Refusal(11),
+        Counted::Loops(_) => Unprinted::Refusal(12),
+        Counted::TooMany => Unprinted::Refusal(13),
     }
 }
 
-// Loads a KWG of up to 4,096 nodes and counts its words.
-pub fn open(input: &[u8], nodes: &mut [u32], counts: &mut [u32], work: &mut [u32]) -> Opened
-    ensures { λ r. ⌜ Opening (now (input .entry)) (now (nodes .entry)) (now (counts .entry)) (now (work .entry)) r (now (nodes .exit)) (now (counts .exit)) (now (work .exit)) ⌝ }
+// Opens what was read into a buffer that has room for more bytes than may be listed.
+fn open_read(
+    input: &[u8],
+    read: usize,
+    nodes: &mut [u32],
+    counts: &mut [u32],
+    work: &mut [u32],
+) -> Unprinted
+    requires { ⌜ mostBytes < length (now input) ⌝ }
+    ensures { λ r. ⌜ OpensRead (now (input .entry)) read (now (nodes .entry)) (now (counts .entry)) (now (work .entry)) r (now (nodes .exit)) (now (counts .exit)) (now (work .exit)) ⌝ }
 {
-    if MOST_BYTES < input.len() {
-        return Opened::Refused(2);
+    if MOST_BYTES < read {
+        return Unprinted::Refusal(2);
     }
-    match load(input, nodes) {
+    match load(&input[..read], nodes) {
         Loaded::Nodes(count) => count_loaded(&nodes[..count], counts, work),
-        Loaded::Refused(number) => Opened::Refused(number),
+        Loaded::Refused(number) => Unprinted::Refusal(number),
     }
+}
+
+// Loads a KWG of up to 4,096 nodes and counts its words. Its first bytes, as many as there is room for, were read: so many.
+pub fn open(
+    input: &[u8; INPUT],
+    read: usize,
+    nodes: &mut [u32; NODES],
+    counts: &mut [u32; NODES],
+    work: &mut [u32; WORK],
+) -> Unprinted
+    ensures { λ r. ⌜ OpensRead (now (input .entry)) read (now (nodes .entry)) (now (counts .entry)) (now (work .entry)) r (now (nodes .exit)) (now (counts .exit)) (now (work .exit)) ⌝ }
+{
+    open_read(input, read, nodes, counts, work)
 }

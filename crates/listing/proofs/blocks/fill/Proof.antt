@@ -3,8 +3,8 @@ use borrow.Author.Needs.{needs}
 use native.Mathlib.Omega.{arith}
 use Prim.Native.Nat.{_-_}
 use borrow.Author.Tests.{not-true, not-false}
-use Rattle.listing.specs.BlocksLaws.{Filling, fill-start, fill-next, fill-room, fill-last, fill-done}
-use Rattle.listing.specs.Said.{walkFrom}
+use Rattle.listing.proofs.BlocksLaws.{Filling, fill-start, fill-next, fill-room, fill-last, fill-done}
+use Rattle.listing.specs.Printing.{walkFrom}
 use Rattle.listing.proofs.blocks.fill.Statement.{statement}
 use Rattle.listing.proofs.blocks.fill.Tie as tie
 

@@ -4,9 +4,9 @@ use mathlib.Core.Path.{sym, ap}
 use lib.Seq.{length-take-le}
 use Rattle.lookup.specs.Said.{saidWord}
 use Rattle.lookup.specs.Walks.{wordByIndex}
-use Rattle.listing.specs.LinesLaws.{refusal-length}
-use Rattle.listing.specs.WalkedLaws.{Walked, by-index-walked}
-use Rattle.listing.specs.WordLaws.{word-in, line-room, word-line, word-refused, word-none}
+use Rattle.listing.proofs.LinesLaws.{refusal-length}
+use Rattle.listing.proofs.WalkedLaws.{Walked, by-index-walked}
+use Rattle.listing.proofs.WordLaws.{word-in, line-room, word-line, word-refused, word-none}
 use borrow.Author.Needs.{needs}
 use Rattle.listing.proofs.blocks.put_word.Statement.{statement}
 use Rattle.listing.proofs.blocks.put_word.Tie as tie

@@ -3,8 +3,8 @@ use borrow.Author.Needs.{needs}
 use native.Mathlib.Omega.{arith}
 use mathlib.Core.Path.{ap}
 use lib.ListN.{length}
-use Rattle.listing.specs.LinesLaws.{decimal-one}
-use Rattle.listing.specs.PutLaws.{put-size, put-digit, put-digits, tenth-room}
+use Rattle.listing.proofs.LinesLaws.{decimal-one}
+use Rattle.listing.proofs.PutLaws.{put-size, put-digit, put-digits, tenth-room}
 use Prim.Native.Nat.{ℕ, _<_}
 use borrow.Fn.Kinds.{In}
 use borrow.Fn.PlainCycle.{Measures, is, falls, and}

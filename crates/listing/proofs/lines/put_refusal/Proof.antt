@@ -5,8 +5,8 @@ use Prim.Native.Nat.{_+_}
 use lib.ListN.{length}
 use lib.Seq.{length-sets}
 use Rattle.listing.specs.Lines.{refusedTab, refusal}
-use Rattle.listing.specs.LinesLaws.{refusal-parts}
-use Rattle.listing.specs.PutLaws.{put-size, put-both}
+use Rattle.listing.proofs.LinesLaws.{refusal-parts}
+use Rattle.listing.proofs.PutLaws.{put-size, put-both}
 use Rattle.listing.specs.Said.{Puts}
 use borrow.Author.Needs.{needs}
 use Rattle.listing.proofs.lines.put_refusal.Statement.{statement}

@@ -1,5 +1,5 @@
 -- The start is node 0's arc; where that is 0 there are no words.
-use Rattle.listing.specs.OpeningLaws.{no-words, some-words}
+use Rattle.listing.proofs.OpeningLaws.{no-words, some-words}
 use borrow.Author.Needs.{needs}
 use Rattle.listing.proofs.opening.at_start.Statement.{statement}
 use Rattle.listing.proofs.opening.at_start.Tie as tie

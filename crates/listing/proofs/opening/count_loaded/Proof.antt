@@ -5,7 +5,7 @@ use Prim.Native.Nat.{ℕ}
 use Rattle.node.specs.Answers.{Answer, gives}
 use Rattle.graph.specs.Counting.{Counted}
 use Rattle.count.specs.Said.{limit, said}
-use Rattle.listing.specs.OpeningLaws.{start-stands, counts-done, counts-refused}
+use Rattle.listing.proofs.OpeningLaws.{start-stands, counts-done, counts-refused}
 use borrow.Author.Needs.{needs}
 use Rattle.listing.proofs.opening.count_loaded.Statement.{statement}
 use Rattle.listing.proofs.opening.count_loaded.Tie as tie

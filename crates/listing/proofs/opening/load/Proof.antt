@@ -1,16 +1,20 @@
 -- Each answer of begin has its number; past begin the load answers as finish does.
-use mathlib.Core.Path.{refl, ap}
+use mathlib.Core.Path.{ap}
 use Rattle.load.specs.Said.{saidBegin}
-use Rattle.listing.specs.OpeningLaws.{begin-refused, begin-ready}
+use Rattle.listing.specs.Wordlist.{load}
+use Rattle.listing.proofs.OpeningLaws.{Answered, whole-load, begin-refused, begin-ready}
 use borrow.Author.Needs.{needs}
 use Rattle.listing.proofs.opening.load.Statement.{statement}
 use Rattle.listing.proofs.opening.load.Tie as tie
 
-slice-aggregate-load-in-pieces : tie.Need-slice-aggregate-load-in-pieces
-slice-aggregate-load-in-pieces c = search needs
+begin-requires : tie.Need-begin-requires
+begin-requires c κs = search needs
 
-load-in-pieces-requires : tie.Need-load-in-pieces-requires
-load-in-pieces-requires c κs = search needs
+feed-requires : tie.Need-feed-requires
+feed-requires c κs = search needs
+
+finish-requires : tie.Need-finish-requires
+finish-requires c κs = search needs
 
 enum-told : tie.Need-enum-told
 enum-told c = search needs
@@ -27,41 +31,48 @@ enum-told-3 c = search needs
 enum-told-4 : tie.Need-enum-told-4
 enum-told-4 c = search needs
 
+-- begin, one feed and finish, once all three are done
+module _ (c : tie.After-finish) where
+  abbrev from : tie.Start
+  from = c .before .before .before .before .before .before .before .before .before .before .before .before
+
+  answered : Answered (load (from .args .input .now) (from .args .nodes .now)) (c .before .before .before .before .before .before .before .before .begin .result .answer) (c .finish .result) (c .finish .last .1 .0)
+  answered =
+      whole-load (from .args .input .now) (from .args .nodes .now) (c .before .before .before .before .before .before .before .before .begin .result) (c .before .before .before .before .before .feed .result) (c .finish .result)
+      (c .before .before .before .before .before .before .before .before .begin .ensures) (c .before .before .before .before .before .feed .ensures) (c .finish .ensures)
+
 same-length : tie.Need-same-length
 same-length c = search needs
 
 returns : tie.Need-returns
-returns c = let p = c .before .before .before .before .before .load-in-pieces in
-    let x = c .after-begin in
-    begin-ready (p .result) (p .ensures .1 refl) (x .result) (ap saidBegin (c .before .enum-told .given .1)) (x .ensures)
+returns c = let x = c .after-begin in
+    begin-ready (answered (c .before .before .before .before .before)) (x .result) (ap saidBegin (c .before .enum-told .given .1)) (x .ensures)
 
 same-length-2 : tie.Need-same-length-2
 same-length-2 c = search needs
 
 returns-2 : tie.Need-returns-2
-returns-2 c = let p = c .before .before .before .before .load-in-pieces in
-    begin-refused (p .result) (p .ensures .1 refl) 1 (ap saidBegin (c .enum-told2 .given .1))
+returns-2 c = begin-refused (answered (c .before .before .before .before)) 1 (ap saidBegin (c .enum-told2 .given .1))
 
 same-length-3 : tie.Need-same-length-3
 same-length-3 c = search needs
 
 returns-3 : tie.Need-returns-3
-returns-3 c = let p = c .before .before .before .before .load-in-pieces in
-    begin-refused (p .result) (p .ensures .1 refl) 2 (ap saidBegin (c .enum-told3 .given .1))
+returns-3 c = begin-refused (answered (c .before .before .before .before)) 2 (ap saidBegin (c .enum-told3 .given .1))
 
 same-length-4 : tie.Need-same-length-4
 same-length-4 c = search needs
 
 returns-4 : tie.Need-returns-4
-returns-4 c = let p = c .before .before .before .before .load-in-pieces in
-    begin-refused (p .result) (p .ensures .1 refl) 3 (ap saidBegin (c .enum-told4 .given .1))
+returns-4 c = begin-refused (answered (c .before .before .before .before)) 3 (ap saidBegin (c .enum-told4 .given .1))
 
 pub load-spec : {M : Type 1} → statement M
 load-spec =
     tie.close
     (tie.spec
-    slice-aggregate-load-in-pieces
-    load-in-pieces-requires
+    begin-requires
+    feed-requires
+    finish-requires
     enum-told
     after-begin-requires
     enum-told-2

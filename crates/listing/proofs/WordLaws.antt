@@ -1,0 +1,67 @@
+-- One number of a block: its walk's tiles in the buffer, and its line, for each answer of the walk.
+use mathlib.Core.Path.{_≡_, sym, ap, _∙_}
+use mathlib.Core.Bool.{true, false}
+use mathlib.Core.List.{List, [], _∷_}
+use Prim.Native.Nat.{ℕ, _≤_, _<_}
+use native.Mathlib.Omega.{arith}
+use lib.ListN.{length, take, drop}
+use lib.Seq.{take-at}
+use Rattle.node.specs.Answers.{Answer, gives, nothing, refused}
+use Rattle.graph.specs.Words.{Word}
+use Rattle.lookup.specs.Said.{saidWord, Put as PutTiles}
+use Rattle.lookup.specs.declared.by_number.WordByIndex.{WordByIndex}
+use Rattle.lookup.specs.declared.by_number.WordByIndex.the-variants.{Tiles}
+use Rattle.listing.specs.Lines.{line, refusal}
+use Rattle.listing.proofs.LinesLaws.{line-length, refusal-length}
+use Rattle.listing.specs.Wordlist.{mostTiles}
+use Rattle.listing.specs.Blocks.{longest, goesOn}
+use Rattle.listing.proofs.WalkedLaws.{Walked}
+use Rattle.listing.proofs.PutLaws.{put-none}
+use Rattle.listing.specs.Said.{Puts, PutWord}
+
+-- the first so many of the buffer are the walk's word
+pub record WordIn (walked : Word × Answer) (n : ℕ) (buffer : List ℕ) : Type 0 where
+  pub answer : walked .1 ≡ gives (n ∷ [])
+  pub word : take n buffer ≡ walked .0
+  pub size : n ≡ length (walked .0)
+  pub few : n ≤ mostTiles
+
+pub word-in : {walked : Word × Answer} {before after : List ℕ} {r : WordByIndex} {n : ℕ} → Walked mostTiles 0 walked
+    → PutTiles walked before after r
+    → r ≡ Tiles n → WordIn walked n after
+word-in {walked} {before} {after} {r} {n} w p e =
+    let a : walked .1 ≡ gives (n ∷ []) = sym (p .said) ∙ ap saidWord e in
+    let s : n ≡ length (walked .0) = w .told n a ∙ omega arith in
+    record {
+      answer = a;
+      word = ap (take n) (p .tiles) ∙ take-at (walked .0) (drop (length (walked .0)) before) n (sym s);
+      size = s;
+      few = omega (arith, w .fits);
+    }
+
+pub line-room : (number : ℕ) (walked : Word × Answer) {n : ℕ} {buffer : List ℕ} → number < 4_294_967_296 → Walked mostTiles 0 walked
+    → WordIn walked n buffer → length (line number (take n buffer)) ≤ longest
+line-room number walked h w i = rw (i .word) (line-length number (walked .0) h (w .fits) (w .tiles))
+
+module _ (number : ℕ) (walked : Word × Answer) {out out′ : List ℕ} {at end : ℕ} where
+  pub word-line : {n : ℕ} {buffer : List ℕ} → number < 4_294_967_296 → Walked mostTiles 0 walked → WordIn walked n buffer
+      → Puts (line number (take n buffer)) out at out′ end → PutWord number walked out at out′ (record { end = end; more = true })
+  word-line h w i p =
+      record {
+        more = sym (ap goesOn (i .answer));
+        puts = rw (i .answer) (rw (i .word) at p);
+        within = omega (arith, p .place, line-room number walked h w i);
+      }
+
+  pub word-refused : (n : ℕ) {before after vs : List ℕ} {r : WordByIndex} → n < 4_294_967_296 → PutTiles walked before after r
+      → saidWord r ≡ refused n vs → Puts (refusal n) out at out′ end → PutWord number walked out at out′ (record { end = end; more = false })
+  word-refused n h w e p =
+      let a = sym (w .said) ∙ e in
+      record { more = sym (ap goesOn a); puts = rw a p; within = omega (arith, p .place, refusal-length n h) }
+
+pub word-none : (number : ℕ) (walked : Word × Answer) {out before after : List ℕ} {at : ℕ} {r : WordByIndex}
+    → PutTiles walked before after r
+    → saidWord r ≡ nothing → PutWord number walked out at out (record { end = at; more = false })
+word-none number walked w e =
+    let a = sym (w .said) ∙ e in
+    record { more = sym (ap goesOn a); puts = rw a put-none; within = omega arith }
