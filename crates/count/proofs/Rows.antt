@@ -1,12 +1,12 @@
 -- Counting's row of checks, by the facts that decide it, and what is known of a graph that passes it.
 use mathlib.Core.Path.{_≡_, sym, _∙_}
 use mathlib.Core.Bool.{false, _||_, or-true}
-use mathlib.Core.List.{[], _∷_}
+use mathlib.Core.List.{[]}
 use mathlib.Core.Option.{none, some}
 use Prim.Native.Nat.{ℕ, _*_, _≤_, _<_}
 use borrow.Author.Tests.{lt-ltb, le-ltb, ltb-false}
 use lib.Dec.{ltb}
-use lib.ListN.{length}
+use lib.ListN.{length, drop}
 use Rattle.laws.specs.Cases.{or-false-left, or-false-right}
 use Rattle.node.specs.Answers.{Answer, refused, Row, firstOf}
 use Rattle.node.specs.RowLaws.{row-refuses, row-passes, row-passed, row-ends, rows-refuse, rows-pass, rows-passed}
@@ -17,7 +17,7 @@ use Rattle.graph.specs.Counting.{countRow}
 
 module _ (g : Graph) (counts work : ℕ) where
   abbrev lent : Row
-  lent = (ltb counts (length g) || ltb work (2 * length g), refused 11 []) ∷ []
+  lent = drop 3 (countRow g counts work)
 
   pub graph-refused : {r : Answer} → firstOf (graphRow g) ≡ some r → firstOf (countRow g counts work) ≡ some r
   graph-refused e = rows-refuse (graphRow g) lent e

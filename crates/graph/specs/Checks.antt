@@ -4,7 +4,7 @@ use mathlib.Core.List.{[], _∷_}
 use mathlib.Core.Option.{Option, none, some}
 use lib.Dec.{ltb, leb}
 use lib.ListN.{length}
-use Rattle.node.specs.Answers.{Answer, refused, Row}
+use Rattle.node.specs.Answers.{Answer, refused, refusing, Row}
 use Rattle.node.specs.Nodes.{KBWG}
 use Rattle.graph.specs.Runs.{Graph, largestArc, lastEnds}
 use Rattle.graph.specs.declared.GraphCheck.{GraphCheck}
@@ -20,13 +20,13 @@ refusal NoEnd = some (refused 9 [])
 -- "8 largest arc (carried) at least the node count; 9 last node no end"
 abbrev pub nodesRow : Graph → Row
 nodesRow g =
-    (leb (length g) (largestArc KBWG g), refused 8 (largestArc KBWG g ∷ []))
-    ∷ (not (lastEnds KBWG g), refused 9 [])
+    (leb (length g) (largestArc KBWG g), refusing 8 (largestArc KBWG g ∷ []))
+    ∷ (not (lastEnds KBWG g), refusing 9 [])
     ∷ []
 
 -- "10+ under 2 nodes or over 16,777,216; 8; 9"
 abbrev pub graphRow : Graph → Row
-graphRow g = (ltb (length g) 2 || ltb 16_777_216 (length g), refused 10 []) ∷ nodesRow g
+graphRow g = (ltb (length g) 2 || ltb 16_777_216 (length g), refusing 10 []) ∷ nodesRow g
 
 -- what `check_graph` refuses by
 abbrev pub graphRefusal : GraphCheck → Option Answer

@@ -7,7 +7,7 @@ use Prim.Native.Nat.{ℕ, zero, suc, _*_, _≤_, _<_}
 use lib.Dec.{ltb}
 use lib.ListN.{length, drop}
 use Rattle.laws.specs.Cleared.{cleared}
-use Rattle.node.specs.Answers.{Answer, gives, refused, Row, firstOf}
+use Rattle.node.specs.Answers.{Answer, gives, refused, refusing, Row, firstOf}
 use Rattle.node.specs.Nodes.{KBWG}
 use Rattle.graph.specs.Runs.{Graph}
 use Rattle.graph.specs.Words.{count}
@@ -28,7 +28,7 @@ Loopless g = (q : ℕ) → Loops KBWG g q → ⊥
 
 -- "10+ under 2 nodes or over 16,777,216; 8; 9; 11+ a lent list too short"; "The work list is at least 2 × N numbers"
 abbrev pub countRow : Graph → ℕ → ℕ → Row
-countRow g lentCounts lentWork = graphRow g ++ (ltb lentCounts (length g) || ltb lentWork (2 * length g), refused 11 []) ∷ []
+countRow g lentCounts lentWork = graphRow g ++ (ltb lentCounts (length g) || ltb lentWork (2 * length g), refusing 11 []) ∷ []
 
 -- What counting may answer, and the counts then, for the counts lent before; limit is the lowest count that is too many. The node
 -- in refusal 12 is the program's choice: "Refusal 12 carries some node that can be reached from itself". "First N counts are 0 after 12 or 13".

@@ -1,16 +1,14 @@
 -- Demand 3 holds. The idea: each sentence is a law of the crate that owns its subject; here is what joins them, that a call's answer with
 -- a number in it came past every check of its row.
-use mathlib.Core.Path.{_≡_, refl, ap, _∙_, subst}
-use mathlib.Core.Bool.{Bool}
+use mathlib.Core.Path.{_≡_, refl, ap, _∙_}
 use mathlib.Core.List.{List}
 use mathlib.Core.Option.{Option, none, some}
 use Prim.Native.Nat.{ℕ, _≤_, _<_}
 use native.Mathlib.Omega.{arith}
 use lib.ListN.{length, take, drop}
 use lib.Seq.{length-take-le, take-at}
-use Rattle.laws.specs.Lists.{All}
-use Rattle.node.specs.Answers.{Answer, refused, Row, firstOf}
-use Rattle.node.specs.RowLaws.{NoValue, row-answer}
+use Rattle.node.specs.Answers.{Answer, Row, firstOf}
+use Rattle.node.specs.RowLaws.{row-never-gives}
 use Rattle.node.specs.declared.Layout.{Layout}
 use Rattle.graph.specs.Runs.{Graph}
 use Rattle.load.specs.FinishLaws.{finished-within}
@@ -55,26 +53,23 @@ module _ (announced : ℕ) (layout : Layout) (lent : Graph) (pieces : List (List
       (r .ascending) nodes counts is p z (rw nodes-loaded h)
 
 -- ---- where a writer answers a length, no check refused, and the bytes are the file's
-wrote-passed : (row : Row) → All (λ (c : Bool × Answer). NoValue (c .1)) row → (file lent : List ℕ) {bytes : List ℕ} (o : Option Answer) → firstOf row ≡ o
+wrote-passed : (row : Row) (file lent : List ℕ) {bytes : List ℕ} (o : Option Answer) → firstOf row ≡ o
     → Wrote (written o file lent) bytes → (o ≡ none) × (bytes ≡ file)
-unfolding NoValue
-wrote-passed row plain file lent (some r) e w = absurd (subst NoValue (w .answered) (row-answer NoValue row plain e))
-wrote-passed row plain file lent none e w =
+wrote-passed row file lent (some r) e w = row-never-gives row (e ∙ ap some (w .answered))
+wrote-passed row file lent none e w =
     let i = w .answered in
     let k : length file ≡ w .size = cc in
     (refl, w .bytes ∙ take-at file (drop (length file) lent) (w .size) k)
 
-wrote : (row : Row) → All (λ (c : Bool × Answer). NoValue (c .1)) row → (file lent : List ℕ) {bytes : List ℕ}
+wrote : (row : Row) (file lent : List ℕ) {bytes : List ℕ}
     → Wrote (written (firstOf row) file lent) bytes → (firstOf row ≡ none) × (bytes ≡ file)
-wrote row plain file lent w = wrote-passed row plain file lent (firstOf row) refl w
+wrote row file lent w = wrote-passed row file lent (firstOf row) refl w
 
 module _ (g : Graph) (labels name : List ℕ) (f : Format) (lentWork : ℕ) (lent file : List ℕ)
     (w : Wrote (toMacondo g labels name f lentWork lent) file) where
   macondo-wrote : (firstOf (macondoRow g labels name f lentWork (length lent)) ≡ none) × (file ≡ macondoFile g labels f name)
-  unfolding toMacondo macondoRow NoValue
-  macondo-wrote =
-      wrote (macondoRow g labels name f lentWork (length lent)) (tt, (tt, (tt, (tt, (tt, (tt, (tt, (tt, (tt, (tt, (tt, (tt, tt))))))))))))
-      (macondoFile g labels f name) lent w
+  unfolding toMacondo
+  macondo-wrote = wrote (macondoRow g labels name f lentWork (length lent)) (macondoFile g labels f name) lent w
 
   macondo-equation : WordsAt g (start g (marks f .root))
   macondo-equation =
@@ -90,10 +85,8 @@ module _ (g : Graph) (labels name : List ℕ) (f : Format) (lentWork : ℕ) (len
 module _ (g : Graph) (labels title date : List ℕ) (lentWork : ℕ) (lent file : List ℕ)
     (w : Wrote (toLxd g labels title date lentWork lent) file) where
   lxd-wrote : (firstOf (lxdRow g labels title date lentWork (length lent)) ≡ none) × (file ≡ lxdFile g labels title date)
-  unfolding toLxd lxdRow NoValue
-  lxd-wrote =
-      wrote (lxdRow g labels title date lentWork (length lent)) (tt, (tt, (tt, (tt, (tt, (tt, (tt, (tt, (tt, (tt, (tt, (tt, (tt, (tt, tt))))))))))))))
-      (lxdFile g labels title date) lent w
+  unfolding toLxd
+  lxd-wrote = wrote (lxdRow g labels title date lentWork (length lent)) (lxdFile g labels title date) lent w
 
   lxd-equation : WordsAt g (start g 0)
   lxd-equation =

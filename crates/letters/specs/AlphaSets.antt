@@ -5,7 +5,7 @@ use mathlib.Core.List.{List, [], _∷_}
 use Prim.Native.Nat.{ℕ, zero, suc}
 use lib.Dec.{eqb, ltb}
 use lib.ListN.{length, drop}
-use Rattle.node.specs.Answers.{Answer, gives, nothing, refused, Row, firstOf, orElse}
+use Rattle.node.specs.Answers.{Answer, gives, nothing, refused, refusing, Row, firstOf, orElse}
 use Rattle.node.specs.Nodes.{tile, arc, accepts, KBWG, isEnd, flag}
 use Rattle.graph.specs.Runs.{Graph}
 use Rattle.lookup.specs.Steps.{Try, on, stop, _>>=_, answer, lentPart, lent}
@@ -14,7 +14,7 @@ use Rattle.laws.specs.BitSets.{marked}
 
 -- "17+ tally over 64"
 abbrev pub tallyRow : List ℕ → Row
-tallyRow tally = (ltb 64 (length tally), refused 17 []) ∷ []
+tallyRow tally = (ltb 64 (length tally), refusing 17 []) ∷ []
 
 -- ---- along the letters left
 module _ (g : Graph) where

@@ -6,7 +6,7 @@ use Prim.Native.Nat.{ℕ}
 use lib.Dec.{ltb}
 use lib.ListN.{length, drop}
 use Rattle.laws.specs.Lists.{kept}
-use Rattle.node.specs.Answers.{Answer, gives, refused, Row, firstOf}
+use Rattle.node.specs.Answers.{Answer, gives, refusing, Row, firstOf}
 use Rattle.node.specs.Nodes.{tile, accepts, KBWG, isEnd}
 use Rattle.graph.specs.Runs.{Graph, run}
 use Rattle.graph.specs.Counting.{table}
@@ -31,7 +31,7 @@ every v = true
 
 -- "11+ a lent list too short"
 abbrev pub bitsRow : Graph → ℕ → ℕ → Row
-bitsRow g lentAll lentAccepting = (ltb lentAll (length g) || ltb lentAccepting (length g), refused 11 []) ∷ []
+bitsRow g lentAll lentAccepting = (ltb lentAll (length g) || ltb lentAccepting (length g), refusing 11 []) ∷ []
 
 -- What the call answers, and both lists after it.
 pub record Lettered : Type 0 where

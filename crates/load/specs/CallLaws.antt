@@ -8,32 +8,28 @@ use borrow.Author.Tests.{lt-ltb, le-ltb, not-true, not-false}
 use lib.Dec.{eqb}
 use lib.ListN.{length, take}
 use Rattle.laws.specs.Cases.{isSome, is-none}
-use Rattle.node.specs.Answers.{Answer, refused, firstOf}
+use Rattle.node.specs.Answers.{Answer, refused, refusing, firstOf}
 use Rattle.node.specs.RowLaws.{row-refuses, row-passes, row-ends, rows-refuse, rows-pass, one-refusal}
 use Rattle.graph.specs.Runs.{Graph}
 use Rattle.graph.specs.Checks.{nodesRow}
 use Rattle.load.specs.Repacking.{Misfit, misfitAnswer, misfitOf}
-use Rattle.load.specs.Loading.{soundRow, stateRow, feedRow, finishRow, Feeds, feeds, feed, finishes, finish, fresh, stateAfter, nodesAfter}
+use Rattle.load.specs.Loading.{soundRow, keptRow, stateRow, feedRow, finishRow, Feeds, feeds, feed, finishes, finish, fresh, stateAfter, nodesAfter}
 use Rattle.load.specs.StateLaws.{state-keeps}
 use Rattle.load.specs.declared.loader.Loader.{Loader}
 
 module _ (s : Loader) (lentNodes : ℕ) where
   pub unsound : not (isSome (firstOf (soundRow s lentNodes))) ≡ false → firstOf (soundRow s lentNodes) ≡ some (refused 4 [])
-  unsound e = one-refusal (refused 4 []) (soundRow s lentNodes) (refl, (refl, (refl, (refl, tt)))) (not-false (isSome (firstOf (soundRow s lentNodes))) e)
+  unsound e = one-refusal (refusing 4 []) (soundRow s lentNodes) (refl, (refl, (refl, (refl, tt)))) (not-false (isSome (firstOf (soundRow s lentNodes))) e)
 
   pub is-sound : not (isSome (firstOf (soundRow s lentNodes))) ≡ true → firstOf (soundRow s lentNodes) ≡ none
   is-sound e = is-none (firstOf (soundRow s lentNodes)) (not-true (isSome (firstOf (soundRow s lentNodes))) e)
 
-  state-refuses : firstOf (soundRow s lentNodes) ≡ some (refused 4 []) → firstOf (stateRow s lentNodes) ≡ some (refused 4 [])
-  state-refuses e = rows-refuse (soundRow s lentNodes) _ e
-
   module _ (ok : firstOf (soundRow s lentNodes) ≡ none) where
     state-kept : {m : Misfit} → misfitOf (s .kept) ≡ some m → firstOf (stateRow s lentNodes) ≡ some (misfitAnswer (some m))
-    state-kept k =
-        rows-pass (soundRow s lentNodes) _ ok ∙ row-refuses _ _ _ (ap isSome k) ∙ ap (λ o. some (misfitAnswer o)) k
+    state-kept k = rows-pass (soundRow s lentNodes) _ ok ∙ ap (λ o. firstOf (keptRow o)) k ∙ row-refuses _ _ _ refl
 
     state-passes : misfitOf (s .kept) ≡ none → firstOf (stateRow s lentNodes) ≡ none
-    state-passes k = rows-pass (soundRow s lentNodes) _ ok ∙ row-passes _ _ _ (ap isSome k) ∙ row-ends
+    state-passes k = rows-pass (soundRow s lentNodes) _ ok ∙ ap (λ o. firstOf (keptRow o)) k ∙ row-ends
 
 -- ---- feed
 module _ (s : Loader) (nodes : Graph) (piece : List ℕ) where
@@ -42,7 +38,7 @@ module _ (s : Loader) (nodes : Graph) (piece : List ℕ) where
   feed-by o e = ap (λ p. feeds p s nodes piece) e
 
   pub feed-unsound : firstOf (soundRow s (length nodes)) ≡ some (refused 4 []) → feed s nodes piece ≡ feeds (some (refused 4 [])) s nodes piece
-  feed-unsound e = feed-by (some (refused 4 [])) (rows-refuse (stateRow s (length nodes)) _ (state-refuses s (length nodes) e))
+  feed-unsound e = feed-by _ (rows-refuse (soundRow s (length nodes)) _ e)
 
   module _ (ok : firstOf (soundRow s (length nodes)) ≡ none) where
     pub feed-kept : {m : Misfit} → misfitOf (s .kept) ≡ some m → feed s nodes piece ≡ feeds (some (misfitAnswer (some m))) s nodes piece
@@ -74,7 +70,7 @@ module _ (s : Loader) (nodes : Graph) where
 
   pub finish-unsound : firstOf (soundRow s (length nodes)) ≡ some (refused 4 [])
       → finish s nodes ≡ finishes (some (refused 4 [])) (eqb (s .announced) 4) s nodes
-  finish-unsound e = finish-by _ (rows-refuse (stateRow s (length nodes)) _ (state-refuses s (length nodes) e))
+  finish-unsound e = finish-by _ (rows-refuse (soundRow s (length nodes)) _ e)
 
   module _ (ok : firstOf (soundRow s (length nodes)) ≡ none) where
     pub finish-kept : {m : Misfit} → misfitOf (s .kept) ≡ some m

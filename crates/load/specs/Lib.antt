@@ -1,5 +1,6 @@
 pub mod Repacking
 pub mod RepackingLaws
+pub mod SameLayoutLaws
 pub mod Loading
 pub mod HeldLaws
 pub mod BeginLaws

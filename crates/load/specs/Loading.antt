@@ -7,14 +7,14 @@ use lib.Dec.{eqb, ltb}
 use lib.ListN.{length, getD, take, drop, set}
 use lib.Seq.{sets}
 use Rattle.laws.specs.Cases.{isSome}
-use Rattle.node.specs.Answers.{Answer, gives, refused, Row, firstOf}
+use Rattle.node.specs.Answers.{Answer, gives, refusing, Row, firstOf}
 use Rattle.node.specs.Nodes.{KBWG}
 use Rattle.node.specs.Said.{placesOf}
 use Rattle.node.specs.declared.Layout.{Layout}
 use Rattle.graph.specs.Runs.{Graph}
 use Rattle.graph.specs.Checks.{nodesRow}
 use Rattle.endian.specs.Bytes.{wholeNodes, partNode}
-use Rattle.load.specs.Repacking.{Misfit, firstMisfit, fitting, misfitAnswer, misfitOf}
+use Rattle.load.specs.Repacking.{Misfit, firstMisfit, fitting, misfitRefusal, misfitAnswer, misfitOf}
 use Rattle.load.specs.declared.repack.Repacked.the-variants.{Whole, DoesNotFit}
 use Rattle.load.specs.declared.loader.Loader.{Loader}
 
@@ -55,9 +55,9 @@ start announced layout = holding announced layout 0 []
 -- "1 length 0 or no multiple of 4; 2+ over 67,108,864; 3+ node buffer under max(length / 4, 2)"
 abbrev pub beginRow : ℕ → ℕ → Row
 beginRow announced lentNodes =
-    (eqb announced 0 || not (eqb (announced % 4) 0), refused 1 [])
-    ∷ (ltb 67_108_864 announced, refused 2 [])
-    ∷ (ltb lentNodes (max (announced / 4) 2), refused 3 [])
+    (eqb announced 0 || not (eqb (announced % 4) 0), refusing 1 [])
+    ∷ (ltb 67_108_864 announced, refusing 2 [])
+    ∷ (ltb lentNodes (max (announced / 4) 2), refusing 3 [])
     ∷ []
 
 unfoldable pub zeros : List ℕ → Bool
@@ -67,24 +67,28 @@ zeros (b ∷ bs) = eqb b 0 && zeros bs
 -- "4+ length that begin refuses for this buffer, taken above length, or held bytes not taken mod 4, or an unused place not 0"
 abbrev pub soundRow : Loader → ℕ → Row
 soundRow s lentNodes =
-    (isSome (firstOf (beginRow (s .announced) lentNodes)), refused 4 [])
-    ∷ (ltb (s .announced) (s .taken), refused 4 [])
-    ∷ (not (eqb (s .«held_count») (s .taken % 4)), refused 4 [])
-    ∷ (not (zeros (drop (s .«held_count») (s .held))), refused 4 [])
+    (isSome (firstOf (beginRow (s .announced) lentNodes)), refusing 4 [])
+    ∷ (ltb (s .announced) (s .taken), refusing 4 [])
+    ∷ (not (eqb (s .«held_count») (s .taken % 4)), refusing 4 [])
+    ∷ (not (zeros (drop (s .«held_count») (s .held))), refusing 4 [])
     ∷ []
 
--- "then a kept 6"
+-- "then a kept 6": one more check where a misfit is kept
+abbrev pub keptRow : Option Misfit → Row
+keptRow none = []
+keptRow (some m) = (true, misfitRefusal m) ∷ []
+
 abbrev pub stateRow : Loader → ℕ → Row
-stateRow s lentNodes = soundRow s lentNodes ++ (isSome (misfitOf (s .kept)), misfitAnswer (misfitOf (s .kept))) ∷ []
+stateRow s lentNodes = soundRow s lentNodes ++ keptRow (misfitOf (s .kept))
 
 -- "5+ piece longer than what is missing"
 abbrev pub feedRow : Loader → ℕ → List ℕ → Row
-feedRow s lentNodes piece = stateRow s lentNodes ++ (ltb (s .announced) (s .taken + length piece), refused 5 []) ∷ []
+feedRow s lentNodes piece = stateRow s lentNodes ++ (ltb (s .announced) (s .taken + length piece), refusing 5 []) ∷ []
 
 -- "7+ bytes missing; 8 largest arc (carried) at least the node count; 9 last node no end"
 abbrev pub finishRow : Loader → Graph → Row
 finishRow s nodes =
-    stateRow s (length nodes) ++ (ltb (s .taken) (s .announced), refused 7 []) ∷ nodesRow (take (s .announced / 4) nodes)
+    stateRow s (length nodes) ++ (ltb (s .taken) (s .announced), refusing 7 []) ∷ nodesRow (take (s .announced / 4) nodes)
 
 -- ---- the calls
 -- What a call answers, and the state after it.

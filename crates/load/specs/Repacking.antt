@@ -4,7 +4,7 @@ use mathlib.Core.List.{List, [], _∷_}
 use mathlib.Core.Option.{Option, none, some}
 use Prim.Native.Nat.{ℕ, suc}
 use lib.Seq.{sets}
-use Rattle.node.specs.Answers.{Answer, gives, refused}
+use Rattle.node.specs.Answers.{Answer, gives, Refusal, refusing, asAnswer}
 use Rattle.node.specs.Nodes.{Places, fields, tile, arc, fits, packed}
 use Rattle.endian.specs.Bytes.{wholeNodes, nodeBytes}
 use Rattle.load.specs.declared.repack.Repacked.{Repacked}
@@ -34,9 +34,12 @@ module _ (old new : Places) where
   fitting [] = []
   fitting (v ∷ vs) = elim (fits new (fields old v)) [ true ↦ packed new (fields old v) ∷ fitting vs | false ↦ [] ]
 
+abbrev pub misfitRefusal : Misfit → Refusal
+misfitRefusal m = refusing 6 (m .node ∷ m .tile ∷ m .arc ∷ [])
+
 abbrev pub misfitAnswer : Option Misfit → Answer
 misfitAnswer none = gives []
-misfitAnswer (some m) = refused 6 (m .node ∷ m .tile ∷ m .arc ∷ [])
+misfitAnswer (some m) = asAnswer (misfitRefusal m)
 
 -- "a node that doesn't fit stops it with the nodes before rewritten; a part node at the end stays"
 module _ (old new : Places) (bytes : List ℕ) where

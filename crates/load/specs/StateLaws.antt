@@ -51,7 +51,7 @@ module _ (s : Loader) (lentNodes : ℕ) where
 
 -- a state that passes
 pub record Sound (s : Loader) (lentNodes : ℕ) : Type 0 where
-  pub length : Takes (s .announced) lentNodes
+  pub announced : Takes (s .announced) lentNodes
   pub taken : s .taken ≤ s .announced
   pub count : s .«held_count» ≡ s .taken % 4
   pub unused : zeros (drop (s .«held_count») (s .held)) ≡ true
@@ -63,7 +63,7 @@ sound s lentNodes e =
     let d = row-passed _ _ _ (b .1) in
     let f = row-passed _ _ _ (d .1) in
     record {
-      length = takes (s .announced) lentNodes (is-none (firstOf (beginRow (s .announced) lentNodes)) (a .0));
+      announced = takes (s .announced) lentNodes (is-none (firstOf (beginRow (s .announced) lentNodes)) (a .0));
       taken = ltb-false (s .announced) (s .taken) (b .0);
       count = eqb-true (s .«held_count») (s .taken % 4) (not-false (eqb (s .«held_count») (s .taken % 4)) (d .0));
       unused = not-false (zeros (drop (s .«held_count») (s .held))) (f .0);

@@ -65,19 +65,19 @@ pub struct Fed {
     pub loader: Loader,
 }
 
-fn check_length(length: usize, room: usize) -> BeginAnswer
-    ensures { λ r. ⌜ refusal r ≡ firstOf (beginRow «length» room) ⌝ }
+fn check_length(announced: usize, room: usize) -> BeginAnswer
+    ensures { λ r. ⌜ refusal r ≡ firstOf (beginRow announced room) ⌝ }
 {
-    if length == 0 {
+    if announced == 0 {
         return BeginAnswer::NotWholeNodes;
     }
-    if length % 4 != 0 {
+    if announced % 4 != 0 {
         return BeginAnswer::NotWholeNodes;
     }
-    if 67108864 < length {
+    if 67108864 < announced {
         return BeginAnswer::OverLimit;
     }
-    if room < length / 4 {
+    if room < announced / 4 {
         return BeginAnswer::NodesTooShort;
     }
     if room < 2 {
@@ -108,17 +108,17 @@ impl Loader {
     fn is_sound(self, room: usize) -> bool
         ensures { λ r. ⌜ r ≡ not (isSome (firstOf (soundRow self room))) ⌝ }
     {
-        let length = self.announced;
+        let announced = self.announced;
         let taken = self.taken;
         let held = self.held;
         let held_count = self.held_count;
-        match check_length(length, room) {
+        match check_length(announced, room) {
             BeginAnswer::Ready => {}
             _ => {
                 return false;
             }
         }
-        if length < taken {
+        if announced < taken {
             return false;
         }
         if held_count != taken % 4 {

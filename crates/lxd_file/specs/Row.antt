@@ -4,7 +4,7 @@ use Prim.Native.Nat.{ℕ, _+_, _*_, _^_}
 use lib.Dec.{ltb, leb}
 use lib.ListN.{length, getD}
 use Rattle.laws.specs.Lists.{joinAll, someOf}
-use Rattle.node.specs.Answers.{refused, Row, firstOf}
+use Rattle.node.specs.Answers.{refusing, Row, firstOf}
 use Rattle.node.specs.Nodes.{KBWG, tile}
 use Rattle.graph.specs.Runs.{Graph}
 use Rattle.graph.specs.Words.{count}
@@ -22,22 +22,22 @@ reached g = joinAll (map (runOf g) (runs g))
 abbrev pub checkRow : Graph → List ℕ → List ℕ → List ℕ → ℕ → Row
 checkRow g labels title date lentWork =
     graphRow g
-    ++ (someOf noByte title, refused 20 [])
-    ∷ (ltb 31 (length title), refused 19 [])
-    ∷ (someOf noByte date, refused 20 [])
-    ∷ (ltb 19 (length date), refused 19 [])
-    ∷ (unlabelled g labels, refused 21 [])
-    ∷ (ltb lentWork (8 * length g), refused 11 [])
+    ++ (someOf noByte title, refusing 20 [])
+    ∷ (ltb 31 (length title), refusing 19 [])
+    ∷ (someOf noByte date, refusing 20 [])
+    ∷ (ltb 19 (length date), refusing 19 [])
+    ∷ (unlabelled g labels, refusing 21 [])
+    ∷ (ltb lentWork (8 * length g), refusing 11 [])
     ∷ []
 
 -- those of the walk and of the sizes; nodes 0 and 1 are counted, "before the no-words cut"
 abbrev pub walkRow : Graph → List ℕ → List ℕ → List ℕ → ℕ → Row
 walkRow g labels title date lentFile =
-    (deeper g 64 (start g 0), refused 22 [])
-    ∷ (someOf (λ v. noByte (getD labels (tile KBWG v) 0)) (reached g), refused 23 [])
-    ∷ (leb 4_294_967_295 (count KBWG g (start g 0)), refused 13 [])
-    ∷ (ltb (2 ^ 22) (2 + length (reached g)), refused 25 [])
-    ∷ (ltb lentFile (length (lxdFile g labels title date)), refused 11 [])
+    (deeper g 64 (start g 0), refusing 22 [])
+    ∷ (someOf (λ v. noByte (getD labels (tile KBWG v) 0)) (reached g), refusing 23 [])
+    ∷ (leb 4_294_967_295 (count KBWG g (start g 0)), refusing 13 [])
+    ∷ (ltb (2 ^ 22) (2 + length (reached g)), refusing 25 [])
+    ∷ (ltb lentFile (length (lxdFile g labels title date)), refusing 11 [])
     ∷ []
 
 unfoldable pub lxdRow : Graph → List ℕ → List ℕ → List ℕ → ℕ → ℕ → Row

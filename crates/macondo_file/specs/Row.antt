@@ -5,7 +5,7 @@ use Prim.Native.Nat.{ℕ, _*_, _^_}
 use lib.Dec.{eqb, ltb, leb}
 use lib.ListN.{length, drop}
 use Rattle.laws.specs.Lists.{someOf}
-use Rattle.node.specs.Answers.{refused, Row, firstOf}
+use Rattle.node.specs.Answers.{refusing, Row, firstOf}
 use Rattle.node.specs.Nodes.{KBWG}
 use Rattle.graph.specs.Runs.{Graph, ascends}
 use Rattle.graph.specs.Checks.{graphRow}
@@ -21,20 +21,20 @@ noCodePoint c = (leb 0xD800 c && leb c 0xDFFF) || leb 0x110000 c
 abbrev pub checkRow : Graph → List ℕ → List ℕ → ℕ → Row
 checkRow g labels name lentWork =
     graphRow g
-    ++ (eqb (length labels) 0 || ltb 50 (length labels), refused 18 [])
-    ∷ (ltb 255 (length name), refused 19 [])
-    ∷ (unlabelled g labels, refused 21 [])
-    ∷ (not (ascends KBWG g), refused 24 [])
-    ∷ (ltb lentWork (8 * length g), refused 11 [])
+    ++ (eqb (length labels) 0 || ltb 50 (length labels), refusing 18 [])
+    ∷ (ltb 255 (length name), refusing 19 [])
+    ∷ (unlabelled g labels, refusing 21 [])
+    ∷ (not (ascends KBWG g), refusing 24 [])
+    ∷ (ltb lentWork (8 * length g), refusing 11 [])
     ∷ []
 
 -- those of the walk, the letters ("tiles 1 up") and the sizes
 abbrev pub walkRow : Graph → List ℕ → List ℕ → Format → ℕ → Row
 walkRow g labels name f lentFile =
-    (deeper g 64 (start g (marks f .root)), refused 22 [])
-    ∷ (someOf noCodePoint (drop 1 labels), refused 23 [])
-    ∷ (ltb (2 ^ 24) (length (macondoNodes g labels f)), refused 25 [])
-    ∷ (ltb lentFile (length (macondoFile g labels f name)), refused 11 [])
+    (deeper g 64 (start g (marks f .root)), refusing 22 [])
+    ∷ (someOf noCodePoint (drop 1 labels), refusing 23 [])
+    ∷ (ltb (2 ^ 24) (length (macondoNodes g labels f)), refusing 25 [])
+    ∷ (ltb lentFile (length (macondoFile g labels f name)), refusing 11 [])
     ∷ []
 
 unfoldable pub macondoRow : Graph → List ℕ → List ℕ → Format → ℕ → ℕ → Row

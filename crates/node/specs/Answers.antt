@@ -9,14 +9,25 @@ pub data Answer : Type 0 where
   nothing : Answer
   refused : ℕ → List ℕ → Answer
 
+-- A refusal by itself: its number and the values that it carries.
+pub record Refusal : Type 0 where
+  pub number : ℕ
+  pub carries : List ℕ
+
+abbrev pub refusing : ℕ → List ℕ → Refusal
+refusing n vs = record { number = n; carries = vs }
+
+abbrev pub asAnswer : Refusal → Answer
+asAnswer r = refused (r .number) (r .carries)
+
 -- A row of the table "Where each check stands": conditions, each with what it refuses by.
 abbrev pub Row : Type 0
-Row = List (Bool × Answer)
+Row = List (Bool × Refusal)
 
 -- "In each place the order is that of the row": the first condition that holds refuses.
 unfoldable pub firstOf : Row → Option Answer
 firstOf [] = none
-firstOf (c ∷ cs) = elim (c .0) [ true ↦ some (c .1) | false ↦ firstOf cs ]
+firstOf (c ∷ cs) = elim (c .0) [ true ↦ some (asAnswer (c .1)) | false ↦ firstOf cs ]
 
 -- A refusal where there is one, or else the answer given.
 abbrev pub orElse : Option Answer → Answer → Answer

@@ -1,14 +1,15 @@
 -- A row of checks, one condition at a time.
-use mathlib.Core.Path.{_≡_, refl, sym, ap, _∙_, subst}
+use mathlib.Core.Path.{_≡_, refl, sym, ap, _∙_}
 use mathlib.Core.Bool.{Bool, true, false, false≢true}
-use mathlib.Core.List.{[], _∷_, _++_}
+use mathlib.Core.List.{List, [], _∷_, _++_}
 use mathlib.Core.Option.{none, some}
+use Prim.Native.Nat.{ℕ}
 use Rattle.laws.specs.Cases.{split, isSome, some≢none}
 use Rattle.laws.specs.Lists.{All}
-use Rattle.node.specs.Answers.{Answer, gives, nothing, refused, Row, firstOf}
+use Rattle.node.specs.Answers.{Answer, gives, nothing, refused, Refusal, asAnswer, Row, firstOf}
 
-module _ (c : Bool) (r : Answer) (cs : Row) where
-  pub row-refuses : c ≡ true → firstOf ((c, r) ∷ cs) ≡ some r
+module _ (c : Bool) (r : Refusal) (cs : Row) where
+  pub row-refuses : c ≡ true → firstOf ((c, r) ∷ cs) ≡ some (asAnswer r)
   unfolding firstOf
   row-refuses e = rw (e, firstOf)
 
@@ -43,28 +44,31 @@ rows-passed (c ∷ cs) ds e =
     let p = row-passed (c .0) (c .1) (cs ++ ds) e in
     row-passes (c .0) (c .1) cs (p .0) ∙ rows-passed cs ds (p .1)
 
--- a row with one answer refuses by that
-pub one-refusal : (r : Answer) (cs : Row) → All (λ (c : Bool × Answer). c .1 ≡ r) cs → isSome (firstOf cs) ≡ true → firstOf cs ≡ some r
+-- a row with one refusal refuses by that
+pub one-refusal : (r : Refusal) (cs : Row) → All (λ (c : Bool × Refusal). c .1 ≡ r) cs → isSome (firstOf cs) ≡ true → firstOf cs ≡ some (asAnswer r)
 unfolding firstOf
 one-refusal r [] h e = absurd (false≢true e)
 one-refusal r (c ∷ cs) h e =
     split (c .0)
-    (λ t. row-refuses (c .0) (c .1) cs t ∙ ap some (h .0))
+    (λ t. row-refuses (c .0) (c .1) cs t ∙ ap (λ x. some (asAnswer x)) (h .0))
     (λ t. let p = row-passes (c .0) (c .1) cs t in p ∙ one-refusal r cs (h .1) (ap isSome (sym p) ∙ e))
 
--- what holds of every answer of a row holds of what it refuses by
-pub row-answer : (P : Answer → Type 0) (cs : Row) → All (λ (c : Bool × Answer). P (c .1)) cs → {r : Answer} → firstOf cs ≡ some r → P r
+-- what a row answers is a refusal
+pub row-refusal : (cs : Row) {a : Answer} → firstOf cs ≡ some a → (r : Refusal) × (a ≡ asAnswer r)
 unfolding firstOf
-row-answer P [] h e = some≢none (sym e)
-row-answer P (c ∷ cs) h {r} e =
+row-refusal [] e = some≢none (sym e)
+row-refusal (c ∷ cs) {a} e =
     split (c .0)
-    (λ t. let i : some (c .1) ≡ some r = sym (row-refuses (c .0) (c .1) cs t) ∙ e in
-    let j : c .1 ≡ r = cc in subst P j (h .0))
-    (λ t. row-answer P cs (h .1) (sym (row-passes (c .0) (c .1) cs t) ∙ e))
+    (λ t. let i : some (asAnswer (c .1)) ≡ some a = sym (row-refuses (c .0) (c .1) cs t) ∙ e in (c .1, cc))
+    (λ t. row-refusal cs (sym (row-passes (c .0) (c .1) cs t) ∙ e))
 
--- an answer that carries no value: what every check of a row gives, none refused included
-unfoldable pub NoValue : Answer → Type 0
-NoValue (gives []) = Unit
-NoValue (gives (v ∷ vs)) = ⊥
-NoValue nothing = Unit
-NoValue (refused n vs) = Unit
+pub row-never-gives : (cs : Row) {vs : List ℕ} {C : Type 0} → firstOf cs ≡ some (gives vs) → C
+row-never-gives cs e = absurd (gives-refused (row-refusal cs e .1))
+  where
+    isRefused : Answer → Bool
+    isRefused (gives vs) = false
+    isRefused nothing = false
+    isRefused (refused n vs) = true
+
+    gives-refused : {vs us : List ℕ} {n : ℕ} → gives vs ≡ refused n us → ⊥
+    gives-refused e = false≢true (ap isRefused e)

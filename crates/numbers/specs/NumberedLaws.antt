@@ -7,8 +7,8 @@ use native.Mathlib.Omega.{arith}
 use lib.ListN.{length, getD, take, drop, length-take}
 use lib.Seq.{getD-take, take-at}
 use Rattle.laws.specs.Lists.{All}
-use Rattle.node.specs.Answers.{Answer, gives, nothing, refused}
-use Rattle.node.specs.RowLaws.{row-answer, rows-passed}
+use Rattle.node.specs.Answers.{Answer, gives, nothing}
+use Rattle.node.specs.RowLaws.{row-never-gives, rows-passed}
 use Rattle.node.specs.Nodes.{KBWG}
 use Rattle.graph.specs.Runs.{Graph, node, ascends}
 use Rattle.graph.specs.Words.{Word, words, count}
@@ -113,15 +113,9 @@ module _ (limit : ℕ) (g : Graph) (c : Counts limit g) (up : ascends KBWG g ≡
   }
 
 -- ---- "counts where counting its N nodes, with lists long enough, gives none"
-Refusal : Answer → Type 0
-Refusal (gives v) = ⊥
-Refusal nothing = ⊥
-Refusal (refused n v) = Unit
-
 pub counted-lent : (limit : ℕ) (g : Graph) (before after : List ℕ) (lentWork : ℕ) → Counted limit g before lentWork (gives []) after
     → Counts limit g × (take (length g) after ≡ counts g)
-unfolding Refusal
-counted-lent limit g before after lentWork (unfit e) = absurd (row-answer Refusal (countRow g (length before) lentWork) (tt, (tt, (tt, (tt, tt)))) e)
+counted-lent limit g before after lentWork (unfit e) = row-never-gives (countRow g (length before) lentWork) e
 counted-lent limit g before after lentWork (all e l f) = (
   record { fit = rows-passed (graphRow g) _ e; loopless = l; few = f },
   take-at (counts g) (drop (length g) before) (length g) (table-length (length g) (count KBWG g)),

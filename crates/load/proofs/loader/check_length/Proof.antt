@@ -1,3 +1,4 @@
+-- `check_length` meets its contract: each refusal by its condition of begin's row, those before it being false.
 use native.Mathlib.Omega.{arith}
 use mathlib.Core.Path.{sym}
 use Rattle.load.specs.BeginLaws.{begin-empty, begin-ragged, begin-over, begin-short, begin-ready}
@@ -13,7 +14,7 @@ returns-2 : tie.Need-returns-2
 returns-2 c = sym (begin-ragged _ _ (c .if2 .taken))
 
 returns-3 : tie.Need-returns-3
-returns-3 c = sym (begin-over _ _ (c .before .before .if1 .left) (c .before .if2 .left) (c .if3 .taken))
+returns-3 c = sym (begin-over _ _ (c .before .before .if1 .left) (c .before .if2 .left) (omega arith))
 
 returns-4 : tie.Need-returns-4
 returns-4 c = sym (begin-short _ _ (c .before .before .before .if1 .left) (c .before .before .if2 .left) (omega arith) (omega arith))

@@ -45,13 +45,13 @@ returns-3 c = let a = c .before .before .before .before .before .before .args in
 slice-reshare-prefix-check-nodes : tie.Need-slice-reshare-prefix-check-nodes
 slice-reshare-prefix-check-nodes c = let a = c .before .before .before .before .before .before .args in
     let ok = is-sound (a .self) (length (a .nodes .now)) (sym (c .before .before .before .before .is-sound .ensures) ∙ not-false _ (c .before .before .before .if1 .left)) in
-    let t = sound (a .self) _ ok .length in
+    let t = sound (a .self) _ ok .announced in
     omega (arith, t .room)
 
 slice-aggregate-check-nodes : tie.Need-slice-aggregate-check-nodes
 slice-aggregate-check-nodes c = let a = c .before .before .before .before .before .before .before .args in
     let ok = is-sound (a .self) (length (a .nodes .now)) (sym (c .before .before .before .before .before .is-sound .ensures) ∙ not-false _ (c .before .before .before .before .if1 .left)) in
-    let t = sound (a .self) _ ok .length in
+    let t = sound (a .self) _ ok .announced in
     sym (length-take-le (a .self .announced / 4) (a .nodes .now) (omega (arith, t .room)))
 
 check-nodes-requires : tie.Need-check-nodes-requires
@@ -69,13 +69,13 @@ enum-told-3 c = search needs
 slice-read-nodes : tie.Need-slice-read-nodes
 slice-read-nodes c = let a = c .before .before .before .before .before .before .before .before .before .before .before .before .args in
     let ok = is-sound (a .self) (length (a .nodes .now)) (sym (c .before .before .before .before .before .before .before .before .before .before .is-sound .ensures) ∙ not-false _ (c .before .before .before .before .before .before .before .before .before .if1 .left)) in
-    let t = sound (a .self) _ ok .length in
+    let t = sound (a .self) _ ok .announced in
     omega (arith, t .room)
 
 slice-write-nodes : tie.Need-slice-write-nodes
 slice-write-nodes c = let a = c .before .before .before .before .before .before .before .before .before .before .before .before .args in
     let ok = is-sound (a .self) (length (a .nodes .now)) (sym (c .before .before .before .before .before .before .before .before .before .before .is-sound .ensures) ∙ not-false _ (c .before .before .before .before .before .before .before .before .before .if1 .left)) in
-    let t = sound (a .self) _ ok .length in
+    let t = sound (a .self) _ ok .announced in
     omega (arith, t .room)
 
 same-length : tie.Need-same-length
@@ -84,7 +84,7 @@ same-length c = search needs
 returns-4 : tie.Need-returns-4
 returns-4 c = let a = c .before .before .before .before .before .before .before .before .before .before .before .before .args in
     let ok = is-sound (a .self) (length (a .nodes .now)) (sym (c .before .before .before .before .before .before .before .before .before .before .is-sound .ensures) ∙ not-false _ (c .before .before .before .before .before .before .before .before .before .if1 .left)) in
-    let t = sound (a .self) _ ok .length in
+    let t = sound (a .self) _ ok .announced in
     let e = sym (c .before .before .before .before .check-nodes .ensures) ∙ ap refusal (c .before .before .enum-told3 .given .1) in
     let f = finish-judged (a .self) (a .nodes .now) ok (ap misfitOf (c .before .before .before .before .before .before .before .enum-told .given .1)) (c .before .before .before .before .before .before .if2 .left) _ e in
     let one : a .self .announced ≡ 4 = omega (arith, t .whole, c .before .if3 .taken) in
@@ -116,7 +116,7 @@ same-length-4 c = search needs
 returns-7 : tie.Need-returns-7
 returns-7 c = let a = c .before .before .before .before .before .before .before .before .before .before .before .args in
     let ok = is-sound (a .self) (length (a .nodes .now)) (sym (c .before .before .before .before .before .before .before .before .before .is-sound .ensures) ∙ not-false _ (c .before .before .before .before .before .before .before .before .if1 .left)) in
-    let t = sound (a .self) _ ok .length in
+    let t = sound (a .self) _ ok .announced in
     let e = sym (c .before .before .before .check-nodes .ensures) ∙ ap refusal (c .before .enum-told3 .given .1) in
     let f = finish-judged (a .self) (a .nodes .now) ok (ap misfitOf (c .before .before .before .before .before .before .enum-told .given .1)) (c .before .before .before .before .before .if2 .left) _ e in
     let more : a .self .announced ≡ 4 → ⊥ = λ q. c .if3 .left (omega arith) in
