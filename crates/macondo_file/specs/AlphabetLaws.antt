@@ -1,5 +1,5 @@
--- How many letters there are, how high the number written for a tile can be, and that each tile below the label count has a number of
--- its own. The idea: the letters are the tiles from 1 up, so a letter's place among them tells its tile.
+-- How many letters there are, how high the number written for a tile can be, that a tile's label stands at it among the code points, and
+-- that no other tile has it. The idea: the letters are the tiles from 1 up, so a letter's place among them tells its tile.
 use mathlib.Core.Path.{_≡_, sym, ap, _∙_}
 use mathlib.Core.Bool.{true, false}
 use mathlib.Core.Logic.{_≢_}
@@ -7,13 +7,15 @@ use mathlib.Core.List.{List, List·Memᴰ}
 use Prim.Native.Nat.{ℕ, zero, suc, _-_, _≤_, _<_}
 use native.Mathlib.Omega.{arith}
 use lib.Dec.{eqb}
-use lib.ListN.{length, getD}
+use lib.ListN.{length, getD, length-map}
 use borrow.Author.Tests.{eqb-true, eqb-false, ne-eqb}
 use Rattle.laws.specs.Cases.{split}
 use Rattle.laws.specs.Firsts.{placeIn, place-le, place-lt, place-at}
+use Rattle.laws.specs.Members.{getD-map-in}
 use Rattle.laws.specs.Sorting.{in-sorted, sorted-in, sorted-length}
 use Rattle.graph.specs.Counting.{table}
 use Rattle.macondo_file.specs.Alphabet.{precedes, letters, letterOf}
+use Rattle.macondo_file.specs.File.{codePoints}
 use Rattle.graph.specs.TableLaws.{table-length, table-in, in-table}
 
 module _ (labels : List ℕ) where
@@ -45,6 +47,19 @@ module _ (labels : List ℕ) where
   pub letter-place : (t : ℕ) → 0 < t → letterOf labels t ≡ placeIn (letters labels) t
   unfolding letterOf
   letter-place t z = rw (ne-eqb t 0 (λ e. omega arith), letterOf)
+
+  -- ---- the code points
+  -- the one at a tile's letter is the tile's label
+  pub code-point-at : (t : ℕ) → 0 < t → t < length labels → (z : ℕ) → getD (codePoints labels) (letterOf labels t) z ≡ getD labels t 0
+  code-point-at t some h z =
+      let label : ℕ → ℕ = λ u. getD labels u 0 in
+      let m = letters-in t some h in
+      ap (λ r. getD (codePoints labels) r z) (letter-place t some)
+      ∙ getD-map-in label (letters labels) (placeIn (letters labels) t) 0 z (place-lt (letters labels) t m)
+      ∙ ap label (place-at (letters labels) t m)
+
+  pub code-points-length : length (codePoints labels) ≡ length labels - 1
+  code-points-length = length-map (letters labels) (λ t. getD labels t 0) ∙ letters-length
 
   -- ---- a letter tells its tile
   abbrev tileOf : ℕ → ℕ

@@ -12,7 +12,7 @@ use Rattle.laws.specs.Cases.{split}
 use Rattle.laws.specs.Lists.{All}
 use Rattle.laws.specs.Members.{in-map, map-in, in-kept}
 use Rattle.laws.specs.NoRepeats.{NoRepeats, no-repeats-append, no-repeats-kept, no-repeats-map}
-use Rattle.node.specs.Nodes.{KBWG, tile, arc}
+use Rattle.node.specs.Nodes.{KBWG, arc}
 use Rattle.graph.specs.Runs.{Graph}
 use Rattle.graph.specs.Words.{Word, inOrder, wordsWithin, words}
 use Rattle.graph.specs.WordsAscend.{ascending-once, words-ascend}

@@ -7,18 +7,17 @@ use mathlib.Core.List.{List, [], _∷_, _++_, append-assoc, append-nil, List·Me
 use Prim.Native.Nat.{ℕ, _+_, _-_, _*_, _^_, _≤_, _<_}
 use native.Mathlib.Omega.{arith}
 use lib.Dec.{eqb, leb}
-use lib.ListN.{length, getD, drop, length-append, length-map, length-drop, List·getD-eq-default}
+use lib.ListN.{length, getD, drop, length-append, length-drop, List·getD-eq-default}
 use lib.Seq.{take-at, drop-at, getD-at, getD-drop}
 use borrow.Author.Tests.{leb-false, eqb-true, eqb-false}
 use Rattle.laws.specs.Cases.{split, or-false-right}
-use Rattle.laws.specs.Firsts.{placeIn, place-lt, place-at}
 use Rattle.laws.specs.Lists.{someOf}
-use Rattle.laws.specs.Members.{at-in, in-map, getD-map-in, none-of}
+use Rattle.laws.specs.Members.{at-in, in-map, none-of}
 use Rattle.endian.specs.Bytes.{bigEndian, bigEndians, fromBig, bigNumbers}
 use Rattle.endian.specs.BigLaws.{big-length, bigs-length, big-back, numbers-back}
 use Rattle.graph.specs.Runs.{Graph}
 use Rattle.macondo_file.specs.Alphabet.{codePoint, letters, letterOf}
-use Rattle.macondo_file.specs.AlphabetLaws.{letters-length, letters-in, in-letters, letter-place}
+use Rattle.macondo_file.specs.AlphabetLaws.{in-letters, code-point-at, code-points-length}
 use Rattle.macondo_file.specs.File.{Format, dawg, gaddag, marks, sets, macondoNodes, codePoints, macondoFile}
 use Rattle.macondo_file.specs.Reading.{blockWords, countAt, numbersAt, after, lettersIn, setsIn, nodesIn, macondoWords, codePointIn}
 use Rattle.macondo_file.specs.Row.{noCodePoint}
@@ -82,14 +81,11 @@ module _ (g : Graph) (labels : List ℕ) (f : Format) (name : List ℕ) where
   front-length : length front ≡ 5 + length name
   front-length = let a = magic-length f in length-append (marks f .magic) (length name ∷ name) ∙ omega arith
 
-  pub code-points-length : length (codePoints labels) ≡ length labels - 1
-  code-points-length = length-map (letters labels) (λ t. getD labels t 0) ∙ letters-length labels
-
   pub file-length : length (macondoFile g labels f name)
       ≡ 17 + length name + 4 * (length labels - 1) + 8 * length (sets g labels f) + 4 * length (macondoNodes g labels f)
   file-length =
       let a = front-length in
-      let b = code-points-length in
+      let b = code-points-length labels in
       let c = section-length 4 (codePoints labels) in
       let d = section-length 8 (sets g labels f) in
       let e = section-length 4 (macondoNodes g labels f) in
@@ -114,7 +110,7 @@ module _ {g : Graph} {labels name : List ℕ} {lentWork : ℕ} (c : Checked g la
   file = macondoFile g labels f name
 
   letters-counted : length (codePoints labels) < 256 ^ 4
-  letters-counted = let a = code-points-length g labels f name in let b = c .fifty in omega arith
+  letters-counted = let a = code-points-length labels in let b = c .fifty in omega arith
 
   letter-count-back : countAt (lettersIn file) ≡ length (codePoints labels)
   letter-count-back = ap countAt (letters-read g labels f name) ∙ section-count 4 (codePoints labels) (setPart g labels f name) letters-counted
@@ -154,7 +150,7 @@ module _ {g : Graph} {labels name : List ℕ} {lentWork : ℕ} (c : Checked g la
 
   -- ---- the header
   pub letters-told : countAt (lettersIn file) ≡ length labels - 1
-  letters-told = letter-count-back ∙ code-points-length g labels f name
+  letters-told = letter-count-back ∙ code-points-length labels
 
   pub bytes-told : length file
       ≡ 5 + getD file 4 0 + (4 + 4 * countAt (lettersIn file)) + (4 + 8 * countAt (setsIn file)) + (4 + 4 * countAt (nodesIn file))
@@ -188,21 +184,14 @@ module _ {g : Graph} {labels name : List ℕ} {lentWork : ℕ} (c : Checked g la
         let b = in-letters labels (r .0) (r .1) in
         rw (r .2) (label-below (r .0) (b .0) (b .1)))
 
-    -- the code point at a tile's place is its label
     pub labels-read : (t : ℕ) → 0 < t → t < length labels → codePointIn file (letterOf labels t) ≡ getD labels t 0
-    labels-read t z h =
-        let label : ℕ → ℕ = λ u. getD labels u 0 in
-        let m = letters-in labels t z h in
-        let at = placeIn (letters labels) t in
-        ap₂ (λ l r. getD l r 0x5E) letters-back (letter-place labels t z)
-        ∙ getD-map-in label (letters labels) at 0 0x5E (place-lt (letters labels) t m)
-        ∙ ap label (place-at (letters labels) t m)
+    labels-read t z h = ap (λ l. getD l (letterOf labels t) 0x5E) letters-back ∙ code-point-at labels t z h 0x5E
 
     -- and tile 0's stands nowhere
     zero-read : codePointIn file (letterOf labels 0) ≡ 0x5E
     unfolding letterOf
     zero-read =
-        let a = code-points-length g labels f name in
+        let a = code-points-length labels in
         let b = c .fifty in
         ap (λ l. getD l 50 0x5E) letters-back ∙ List·getD-eq-default (codePoints labels) 0x5E (omega arith)
 
