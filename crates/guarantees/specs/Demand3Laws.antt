@@ -113,7 +113,7 @@ demand-3 limit =
       macondo = λ g labels name f lentWork lent file w.
           let done = macondo-wrote g labels name f lentWork lent file w in (
             macondo-equation g labels name f lentWork lent file w,
-            λ u. rw (done .1) (macondo-spells g labels name f lentWork (length lent) (done .0) u),
+            rw (done .1) (macondo-spells g labels name f lentWork (length lent) (done .0)),
           );
       lxd = λ g labels title date lentWork lent file w.
           let done = lxd-wrote g labels title date lentWork lent file w in (

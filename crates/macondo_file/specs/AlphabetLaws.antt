@@ -1,9 +1,9 @@
 -- How many letters there are, how high the number written for a tile can be, that a tile's label stands at it among the code points, and
 -- that no other tile has it. The idea: the letters are the tiles from 1 up, so a letter's place among them tells its tile.
-use mathlib.Core.Path.{_≡_, sym, ap, _∙_}
+use mathlib.Core.Path.{_≡_, refl, sym, ap, _∙_}
 use mathlib.Core.Bool.{true, false}
 use mathlib.Core.Logic.{_≢_}
-use mathlib.Core.List.{List, List·Memᴰ}
+use mathlib.Core.List.{List, [], _∷_, List·Memᴰ}
 use Prim.Native.Nat.{ℕ, zero, suc, _-_, _≤_, _<_}
 use native.Mathlib.Omega.{arith}
 use lib.Dec.{eqb}
@@ -12,11 +12,16 @@ use borrow.Author.Tests.{eqb-true, eqb-false, ne-eqb}
 use Rattle.laws.specs.Cases.{split}
 use Rattle.laws.specs.Firsts.{placeIn, place-le, place-lt, place-at}
 use Rattle.laws.specs.Members.{getD-map-in}
-use Rattle.laws.specs.Sorting.{in-sorted, sorted-in, sorted-length}
+use Rattle.laws.specs.Sorting.{insertedAll, in-sorted, sorted-in, sorted-length}
 use Rattle.graph.specs.Counting.{table}
 use Rattle.macondo_file.specs.Alphabet.{precedes, letters, letterOf}
 use Rattle.macondo_file.specs.File.{codePoints}
 use Rattle.graph.specs.TableLaws.{table-length, table-in, in-table}
+
+-- labels that descend: tile 2 ranks first, and so does its code point
+letters-ranked : codePoints (0x3F ∷ 0x42 ∷ 0x41 ∷ []) ≡ 0x41 ∷ 0x42 ∷ []
+unfolding letters insertedAll table
+letters-ranked = refl
 
 module _ (labels : List ℕ) where
   pub letters-length : length (letters labels) ≡ length labels - 1

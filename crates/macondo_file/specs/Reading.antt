@@ -48,8 +48,8 @@ nodesIn file = after 8 (setsIn file)
 unfoldable pub macondoWords : List ℕ → List Word
 macondoWords file = blockWords (numbersAt 8 (setsIn file)) (numbersAt 4 (nodesIn file)) (countAt (nodesIn file)) 0
 
--- the code point that the file has for a letter; the 50 of tile 0 has none, and is read as tile 0 "stands at code point 5E hexadecimal
--- in the arc order"
+-- the code point that the file has for a letter; the 50 of tile 0 has none there, and is read as 5E, where tile 0 stands "in the arc
+-- order"
 abbrev pub codePointIn : List ℕ → ℕ → ℕ
 codePointIn file r = getD (numbersAt 4 (lettersIn file)) r 0x5E
 

@@ -69,6 +69,10 @@ module _ (limit : ℕ) (g : Graph) (c : Counts limit g) (up : ascends KBWG g ≡
       let r = head-lent (counts g) counted 4_294_967_296 (omega arith) (rw n (is .counts-are)) p (omega arith) in
       lent-on (lentPart counted) p (r .0) ∙ ap on (r .1 ∙ table-at (length g) (count KBWG g) p h)
 
+  count-is : (p : ℕ) → p < length g → getD counted p 0 ≡ count KBWG g p
+  count-is p h =
+      sym (getD-take (length g) counted p 0 h) ∙ ap (λ l. getD l p 0) (is .counts-are) ∙ table-at (length g) (count KBWG g) p h
+
   walk : Walkable g (lentPart nodes) (lentPart counted)
   walk = record { steps = fits .steps; loopless = c .loopless; same = same; count-lent = count-lent }
 
@@ -94,14 +98,17 @@ module _ (limit : ℕ) (g : Graph) (c : Counts limit g) (up : ascends KBWG g ≡
 
   pub numbered : (p : ℕ) → 0 < p → p < length g → Numbered limit g nodes counted p
   unfolding wordByIndex
-  numbered p z h = record {
-    equation = words-equation KBWG g p (record { itself = c .loopless p; below = λ q r. c .loopless q });
-    ascending = words-ascend KBWG g up p;
-    named = λ i room k r. named g (lentPart nodes) (lentPart counted) walk long room p i h k r;
-    given-back = λ i k. back p i k (index-of p z h (getD (words KBWG g p) i []));
-    other-words = λ w n. other p w n (index-of p z h w);
-    other-numbers = λ i room k. other-numbers g (lentPart nodes) (lentPart counted) walk long room p i h k;
-  }
+  numbered p z h =
+      let e = count-is p h in
+      record {
+        equation = words-equation KBWG g p (record { itself = c .loopless p; below = λ q r. c .loopless q });
+        count-is = e;
+        named = λ i room k r. named g (lentPart nodes) (lentPart counted) walk long room p i h (rw e at k) r;
+        ascending = words-ascend KBWG g up p;
+        given-back = λ i k. back p i (rw e at k) (index-of p z h (getD (words KBWG g p) i []));
+        other-words = λ w n. other p w n (index-of p z h w);
+        other-numbers = λ i room k. other-numbers g (lentPart nodes) (lentPart counted) walk long room p i h (rw e at k);
+      }
 
 -- ---- "counts where counting its N nodes, with lists long enough, gives none"
 Refusal : Answer → Type 0
