@@ -243,4 +243,8 @@ module _ {g : Graph} {labels name : List ℕ} {lentWork : ℕ} (c : Checked g la
   start-read = file-read c f few ∙ sym (ap (blockWords (sets g labels f) nodes (length nodes)) (start-number g labels f))
 
   pub words-read : (w : Word) → List·Memᴰ w (macondoWords (macondoFile g labels f name)) ↔ List·Memᴰ w (map (renamed labels) (endingInLetters g f))
-  words-read w = rw (start-read, ← all-words) (read-heard (length nodes) (start g (marks f .root)) (start-block c f shallow) w)
+  words-read w =
+      let s = start g (marks f .root) in
+      let n = length nodes in
+      let same = read-heard n s (start-block c f shallow) w in
+      rw start-read (subst (λ ws. Read n s w ↔ List·Memᴰ w (map (renamed labels) (kept (heard g labels) ws))) all-words same)
