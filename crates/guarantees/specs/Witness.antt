@@ -14,7 +14,7 @@ use Rattle.node.specs.Answers.{gives, refused, firstOf}
 use Rattle.node.specs.Nodes.{KBWG, fits}
 use Rattle.node.specs.declared.Layout.the-variants.{Kwg}
 use Rattle.graph.specs.Runs.{run, ascends, largestArc, lastEnds}
-use Rattle.graph.specs.Words.{inOrder, spelled, wordsWithin, words, count}
+use Rattle.graph.specs.Words.{Word, inOrder, spelled, wordsWithin, words, count}
 use Rattle.graph.specs.Counting.{table, Counts, Counted, all}
 use Rattle.graph.specs.ChecksLaws.{fit}
 use Rattle.graph.specs.UpwardLaws.{leadsUp, upward-loopless}
@@ -29,8 +29,10 @@ use Rattle.export.specs.Written.{Written}
 use Rattle.macondo_file.specs.Alphabet.{letters, letterOf}
 use Rattle.macondo_file.specs.File.{Format, dawg, gaddag, arcsOf, setOf, blocks, sets, blockOf, macondoNodes, macondoFile}
 use Rattle.macondo_file.specs.Row.{macondoRow, toMacondo}
+use Rattle.macondo_file.specs.Spelling as macondo
 use Rattle.lxd_file.specs.File.{runs, child, lxdNode, lxdNodes, lxdFile}
 use Rattle.lxd_file.specs.Row.{lxdRow, toLxd}
+use Rattle.lxd_file.specs.Spelling as lxd
 use Rattle.alphagrams.specs.Alphagrams.{NeverDescends, AlphagramLexicon, Alpha}
 use Rattle.alphagrams.specs.MeaningLaws.{alpha-means}
 use Rattle.guarantees.specs.Demand3.{Ready, Wrote, table as loaded}
@@ -100,18 +102,45 @@ G-macondo f = toMacondo G labels [] f 40 bytes
 abbrev G-lxd : Written
 G-lxd = toLxd G labels (0x47 ∷ []) [] 40 bytes
 
-dawg-written : G-macondo dawg .answer ≡ gives (57 ∷ [])
+-- node 1's arc is 0, so the gaddag begins at node 0
+macondo-answers : (G-macondo dawg .answer ≡ gives (57 ∷ [])) × (G-macondo gaddag .answer ≡ gives (73 ∷ []))
 unfolding toMacondo macondoRow firstOf largestArc lastEnds ascends deeper run insertedAll table met blockAt letters letterOf arcsOf setOf bitSet blocks sets blockOf macondoNodes macondoFile bigEndians
-dawg-written = refl
+macondo-answers = (refl, refl)
 
--- node 1's arc is 0, so this one begins at node 0
-gaddag-written : G-macondo gaddag .answer ≡ gives (73 ∷ [])
-unfolding toMacondo macondoRow firstOf largestArc lastEnds ascends deeper run insertedAll table met blockAt letters letterOf arcsOf setOf bitSet blocks sets blockOf macondoNodes macondoFile bigEndians
-gaddag-written = refl
-
-lxd-written : G-lxd .answer ≡ gives (84 ∷ [])
+lxd-answer : G-lxd .answer ≡ gives (84 ∷ [])
 unfolding toLxd lxdRow firstOf largestArc lastEnds deeper run met blockAt runs child lxdNode lxdNodes lxdFile byteOf nodeBytes words wordsWithin inOrder spelled
-lxd-written = refl
+lxd-answer = refl
+
+-- the files, and the words that they spell
+dawg-file : Wrote (G-macondo dawg) (take 57 (G-macondo dawg .bytes))
+dawg-file = record { size = 57; answered = macondo-answers .0; bytes = refl }
+
+gaddag-file : Wrote (G-macondo gaddag) (take 73 (G-macondo gaddag .bytes))
+gaddag-file = record { size = 73; answered = macondo-answers .1; bytes = refl }
+
+lxd-file : Wrote G-lxd (take 84 (G-lxd .bytes))
+lxd-file = record { size = 84; answered = lxd-answer; bytes = refl }
+
+abbrev wordsOfDawg : List Word
+wordsOfDawg = (1 ∷ []) ∷ (1 ∷ 2 ∷ []) ∷ (2 ∷ 2 ∷ []) ∷ []
+
+abbrev wordsOfGaddag : List Word
+wordsOfGaddag = (0 ∷ 1 ∷ []) ∷ (0 ∷ 1 ∷ 2 ∷ []) ∷ (0 ∷ 2 ∷ 2 ∷ []) ∷ []
+
+abbrev wordsOfLxd : List Word
+wordsOfLxd = (0x41 ∷ []) ∷ (0x41 ∷ 0x42 ∷ []) ∷ (0x42 ∷ 0x42 ∷ []) ∷ []
+
+spelt-dawg : macondo.Spells (take 57 (G-macondo dawg .bytes)) labels wordsOfDawg
+unfolding words wordsWithin inOrder spelled run
+spelt-dawg = demand-3 4_294_967_295 .macondo G labels [] dawg 40 bytes (take 57 (G-macondo dawg .bytes)) dawg-file .1
+
+spelt-gaddag : macondo.Spells (take 73 (G-macondo gaddag .bytes)) labels wordsOfGaddag
+unfolding words wordsWithin inOrder spelled run
+spelt-gaddag = demand-3 4_294_967_295 .macondo G labels [] gaddag 40 bytes (take 73 (G-macondo gaddag .bytes)) gaddag-file .1
+
+spelt-lxd : lxd.Spells (take 84 (G-lxd .bytes)) wordsOfLxd
+unfolding words wordsWithin inOrder spelled run
+spelt-lxd = demand-3 4_294_967_295 .lxd G labels (0x47 ∷ []) [] 40 bytes (take 84 (G-lxd .bytes)) lxd-file .1
 
 -- every premise at once, with what it brings
 pub record Met : Type 0 where
@@ -119,9 +148,12 @@ pub record Met : Type 0 where
   pub ready : Ready 20 Kwg lent G-pieces 4_294_967_295 5 counted
   pub numbered : Numbered 4_294_967_295 G (loaded 20 Kwg lent G-pieces) counted 2
   pub lent-longer : Numbered 4_294_967_295 G otherNodes otherCounts 2
-  pub dawg-file : Wrote (G-macondo dawg) (take 57 (G-macondo dawg .bytes))
-  pub gaddag-file : Wrote (G-macondo gaddag) (take 73 (G-macondo gaddag .bytes))
-  pub lxd-file : Wrote G-lxd (take 84 (G-lxd .bytes))
+  pub dawg-written : Wrote (G-macondo dawg) (take 57 (G-macondo dawg .bytes))
+  pub dawg-spelt : macondo.Spells (take 57 (G-macondo dawg .bytes)) labels wordsOfDawg
+  pub gaddag-written : Wrote (G-macondo gaddag) (take 73 (G-macondo gaddag .bytes))
+  pub gaddag-spelt : macondo.Spells (take 73 (G-macondo gaddag .bytes)) labels wordsOfGaddag
+  pub lxd-written : Wrote G-lxd (take 84 (G-lxd .bytes))
+  pub lxd-spelt : lxd.Spells (take 84 (G-lxd .bytes)) wordsOfLxd
 
 pub G-met : Met
 unfolding loadPieces fedPieces feedAll begin feed finish firstOf holding stateAfter nodesAfter wholeNodes partNode firstMisfit fitting fits zeros largestArc lastEnds
@@ -132,9 +164,12 @@ G-met =
       ready = G-ready;
       numbered = demand .numbering 20 Kwg lent G-pieces 5 counted G-ready 2 (omega arith) (omega arith);
       lent-longer = demand .lending 20 Kwg lent G-pieces 5 counted G-ready otherNodes otherCounts G-lent 2 (omega arith) (omega arith);
-      dawg-file = record { size = 57; answered = dawg-written; bytes = refl };
-      gaddag-file = record { size = 73; answered = gaddag-written; bytes = refl };
-      lxd-file = record { size = 84; answered = lxd-written; bytes = refl };
+      dawg-written = dawg-file;
+      dawg-spelt = spelt-dawg;
+      gaddag-written = gaddag-file;
+      gaddag-spelt = spelt-gaddag;
+      lxd-written = lxd-file;
+      lxd-spelt = spelt-lxd;
     }
 
 never-descends : AlphagramLexicon G
