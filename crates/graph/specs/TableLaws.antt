@@ -1,6 +1,7 @@
--- A table of numbers: how long it is, what stands where, and a list that begins with one.
+-- A table of numbers: how long it is, what stands where, its members, and a list that begins with one.
 use mathlib.Core.Path.{_≡_, refl, ap, ap₂}
-use mathlib.Core.List.{List, [], _∷_, _++_}
+use mathlib.Core.Logic.{⊎-elim}
+use mathlib.Core.List.{List, [], _∷_, _++_, List·Memᴰ, List·Memᴰ·head, List·Memᴰ·tail, List·Memᴰ·not-nil, List·Memᴰ·cases-cons}
 use Prim.Native.Nat.{ℕ, zero, suc, _≤_, _<_}
 use native.Mathlib.Omega.{arith}
 use lib.ListN.{length, getD, drop}
@@ -16,6 +17,21 @@ unfolding table
 table-at zero f i h = absurd (omega arith)
 table-at (suc n) f zero h = refl
 table-at (suc n) f (suc i) h = table-at n (λ k. f (suc k)) i (omega arith)
+
+pub table-in : (n : ℕ) (f : ℕ → ℕ) (i : ℕ) → i < n → List·Memᴰ (f i) (table n f)
+unfolding table
+table-in zero f i h = absurd (omega arith)
+table-in (suc n) f zero h = List·Memᴰ·head refl
+table-in (suc n) f (suc i) h = List·Memᴰ·tail (table-in n (λ k. f (suc k)) i (omega arith))
+
+pub in-table : (n : ℕ) (f : ℕ → ℕ) (x : ℕ) → List·Memᴰ x (table n f) → (i : ℕ) × (i < n) × (x ≡ f i)
+unfolding table
+in-table zero f x m = absurd (List·Memᴰ·not-nil m)
+in-table (suc n) f x m =
+    ⊎-elim
+    (λ e. (0, omega arith, e))
+    (λ k. let r = in-table n (λ j. f (suc j)) x k in let h = r .1 in (suc (r .0), omega arith, r .2))
+    (List·Memᴰ·cases-cons m)
 
 -- a list whose first numbers are those of a table
 pub begins-with-table : (n : ℕ) (f : ℕ → ℕ) (l : List ℕ) → n ≤ length l → ((p : ℕ) → p < n → getD l p 0 ≡ f p) → l ≡ table n f ++ drop n l

@@ -1,19 +1,29 @@
--- On a graph whose runs ascend the words from a node ascend strictly. The idea: the words of one node begin with its tile, and those
--- of the nodes after it with higher ones.
+-- On a graph whose runs ascend the words from a node ascend strictly, so that none comes twice. The idea: the words of one node begin
+-- with its tile, and those of the nodes after it with higher ones.
 use mathlib.Core.Path.{_≡_, refl}
 use mathlib.Core.Bool.{true, false, _||_}
-use mathlib.Core.List.{List, [], _∷_, _++_, map}
+use mathlib.Core.List.{List, [], _∷_, _++_, map, head-eq-of-cons-eq, tail-eq-of-cons-eq, nil≢cons}
 use Prim.Native.Nat.{ℕ, zero, suc, zero-le, _≤_, _<_}
 use native.Mathlib.Omega.{arith}
 use lib.Dec.{eqb, ltb}
 use borrow.Author.Tests.{ltb-true}
 use lib.ListN.{length, getD, drop}
 use Rattle.laws.specs.Cases.{split, and-left, and-right}
-use Rattle.laws.specs.Lists.{All, all-append, all-weaken}
+use Rattle.laws.specs.Lists.{All, all-append, all-weaken, all-mem}
+use Rattle.laws.specs.NoRepeats.{NoRepeats}
 use Rattle.node.specs.Nodes.{Places, tile, arc, accepts, isEnd}
 use Rattle.graph.specs.Runs.{Graph, run, ascends}
 use Rattle.graph.specs.Words.{Word, inOrder, spelled, wordsWithin, words}
 use Rattle.graph.specs.Order.{_≺_, prefix, lower, later, Ascending}
+
+pub ≺-differ : {u v : Word} → u ≺ v → u ≡ v → ⊥
+≺-differ prefix e = nil≢cons e
+≺-differ (lower h) e = let k = head-eq-of-cons-eq e in omega arith
+≺-differ (later h) e = ≺-differ h (tail-eq-of-cons-eq e)
+
+pub ascending-once : (ws : List Word) → Ascending ws → NoRepeats ws
+ascending-once [] a = tt
+ascending-once (w ∷ ws) a = ((λ m. ≺-differ (all-mem (w ≺_) ws w (a .0) m) refl), ascending-once ws (a .1))
 
 -- a word's first tile: at least t, or t
 abbrev pub From : ℕ → Word → Type 0

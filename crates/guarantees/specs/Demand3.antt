@@ -1,10 +1,9 @@
--- Demand 3 of document 01, undivided: however a graph file is cut it ends as in one piece; where it loads, counts and ascends, numbers
--- below a node's count name exactly its words, in order, each word gives its number back and everything else gets none; every file that
--- is written spells exactly the words it should. It speaks of the definitions that the contracts of the calls name.
+-- Demand 3, undivided: however a graph file is cut it ends as in one piece; where it loads, counts and ascends, the numbers below a
+-- node's count name exactly its words, in order, each word gives its number back and everything else gets none; every file that is
+-- written spells exactly the words it should. It speaks of the definitions that the contracts of the calls name.
 use mathlib.Core.Path.{_≡_}
 use mathlib.Core.Bool.{true}
-use mathlib.Core.List.{List, [], _∷_, List·Memᴰ}
-use mathlib.Core.Logic.{_↔_}
+use mathlib.Core.List.{List, [], _∷_}
 use Prim.Native.Nat.{ℕ, _<_}
 use lib.ListN.{take, drop}
 use Rattle.laws.specs.Lists.{joinAll}
@@ -12,14 +11,13 @@ use Rattle.node.specs.Answers.{gives}
 use Rattle.node.specs.Nodes.{KBWG}
 use Rattle.node.specs.declared.Layout.{Layout}
 use Rattle.graph.specs.Runs.{Graph, run, ascends}
-use Rattle.graph.specs.Words.{Word, inOrder, spelled, words}
+use Rattle.graph.specs.Words.{inOrder, spelled, words}
 use Rattle.graph.specs.Counting.{Counted}
 use Rattle.pieces.specs.Pieces.{LoadsAsWhole, LoadsHoweverCut, loadPieces}
 use Rattle.numbers.specs.Numbered.{Lent, Numbered}
 use Rattle.export.specs.Starts.{start}
 use Rattle.export.specs.Written.{Written}
 use Rattle.macondo_file.specs.File.{Format, marks}
-use Rattle.macondo_file.specs.Reading.{macondoWords}
 use Rattle.macondo_file.specs.Row.{toMacondo}
 use Rattle.macondo_file.specs.Spelling as macondo
 use Rattle.lxd_file.specs.Row.{toLxd}
@@ -30,7 +28,7 @@ use Rattle.lxd_file.specs.Spelling as lxd
 abbrev pub WordsAt : Graph → ℕ → Type 0
 WordsAt g p = words KBWG g p ≡ inOrder (spelled KBWG (words KBWG g)) (run KBWG (drop p g))
 
--- "once written": the call answered the file's length, and these are the bytes
+-- once written: the call answered the file's length, and these are the bytes
 pub record Wrote (w : Written) (file : List ℕ) : Type 0 where
   pub size : ℕ
   pub answered : w .answer ≡ gives (size ∷ [])
@@ -56,7 +54,7 @@ pub record Demand3 (limit : ℕ) : Type 0 where
   pub loading : (announced : ℕ) (layout : Layout) (lent : Graph) (pieces : List (List ℕ)) → LoadsAsWhole announced layout lent pieces
   -- however a graph file is cut
   pub cutting : (layout : Layout) (lent : Graph) (pieces : List (List ℕ)) → LoadsHoweverCut layout lent (joinAll pieces) pieces
-  -- from every node above 0: numbers name words, words give numbers back, and all else gets none
+  -- from every node above 0: the numbers below its count name its words, its words give their numbers back, and all else gets none
   pub numbering : (announced : ℕ) (layout : Layout) (lent : Graph) (pieces : List (List ℕ)) (n : ℕ) (counted : List ℕ)
       → Ready announced layout lent pieces limit n counted
       → (p : ℕ) → 0 < p → p < n → Numbered limit (take n (table announced layout lent pieces)) (table announced layout lent pieces) counted p
@@ -65,11 +63,13 @@ pub record Demand3 (limit : ℕ) : Type 0 where
       → Ready announced layout lent pieces limit n counted
       → (nodes counts : List ℕ) → Lent (take n (table announced layout lent pieces)) nodes counts
       → (p : ℕ) → 0 < p → p < n → Numbered limit (take n (table announced layout lent pieces)) nodes counts p
-  -- "every Macondo or LXD file, once written, spells exactly the words of its start node, renamed, less those ending in tile 0 in Macondo"
+  -- every Macondo file, once written, spells exactly the words of its start node, renamed, less those ending in tile 0: each once, with
+  -- the labels as its code points, to the file's last byte
   pub macondo : (g : Graph) (labels name : List ℕ) (f : Format) (lentWork : ℕ) (lent file : List ℕ)
       → Wrote (toMacondo g labels name f lentWork lent) file
-      → WordsAt g (start g (marks f .root)) × ((w : Word) → List·Memᴰ w (macondoWords file) ↔ List·Memᴰ w (macondo.spelt g labels f))
-  -- its words as a list, in order; and its header tells how many nodes and words are read
+      → WordsAt g (start g (marks f .root)) × macondo.Spells file labels (macondo.endingInLetters g f)
+  -- every LXD file, once written, spells exactly the words of its start node, renamed: as a list, in order; and its header tells how many
+  -- nodes and words are read
   pub lxd : (g : Graph) (labels title date : List ℕ) (lentWork : ℕ) (lent file : List ℕ)
       → Wrote (toLxd g labels title date lentWork lent) file
       → WordsAt g (start g 0) × lxd.Spells file (lxd.spelt g labels)

@@ -43,13 +43,13 @@ module _ (announced : ℕ) (layout : Layout) (lent : Graph) (pieces : List (List
   lists-left =
       record {
         nodes-are = ap (λ k. take k (table announced layout lent pieces)) nodes-loaded;
-        counts-are = counted-lent limit _ (r .lentCounts) counted (r .lentWork) (r .counts) .1;
+        counts-are = counted-lent limit _ _ _ _ (r .counts) .1;
       }
 
   numbers : (nodes counts : List ℕ) → Lent (take n (table announced layout lent pieces)) nodes counts
       → (p : ℕ) → 0 < p → p < n → Numbered limit (take n (table announced layout lent pieces)) nodes counts p
   numbers nodes counts is p z h =
-      numbered limit (take n (table announced layout lent pieces)) (counted-lent limit _ (r .lentCounts) counted (r .lentWork) (r .counts) .0)
+      numbered limit (take n (table announced layout lent pieces)) (counted-lent limit _ _ _ _ (r .counts) .0)
       (r .ascending) nodes counts is p z (rw nodes-loaded h)
 
 -- ---- where a writer answers a length, no check refused, and the bytes are the file's
@@ -106,7 +106,7 @@ demand-3 limit =
       macondo = λ g labels name f lentWork lent file w.
           let done = macondo-wrote g labels name f lentWork lent file w in (
             macondo-equation g labels name f lentWork lent file w,
-            λ u. rw (done .1) (macondo-spells g labels name f lentWork (length lent) (done .0) u),
+            rw (done .1) (macondo-spells g labels name f lentWork (length lent) (done .0)),
           );
       lxd = λ g labels title date lentWork lent file w.
           let done = lxd-wrote g labels title date lentWork lent file w in (

@@ -1,7 +1,7 @@
--- The five nodes of document 01 meet the premises of what is promised: of demand 3, fed in pieces, finished, counted, numbered and written
--- both ways, and of alphagram lexicons.
+-- The five nodes of document 01 meet the premises of what is promised: of demand 3, fed in pieces, one of them refused, finished, counted,
+-- numbered and written in every format, and of alphagram lexicons.
 use mathlib.Core.Path.{_≡_, refl}
-use mathlib.Core.List.{List, [], _∷_}
+use mathlib.Core.List.{List, [], _∷_, _++_}
 use Prim.Native.Nat.{ℕ, zero, suc, _≤_, _<_}
 use native.Mathlib.Omega.{arith}
 use lib.Dec.{lit<}
@@ -10,27 +10,29 @@ use Rattle.laws.specs.BitSets.{bitSet}
 use Rattle.laws.specs.Lists.{all-mem}
 use Rattle.laws.specs.Sorting.{insertedAll}
 use Rattle.endian.specs.Bytes.{wholeNodes, partNode, nodeBytes, bigEndians}
-use Rattle.node.specs.Answers.{gives, firstOf}
+use Rattle.node.specs.Answers.{gives, refused, firstOf}
 use Rattle.node.specs.Nodes.{KBWG, fits}
 use Rattle.node.specs.declared.Layout.the-variants.{Kwg}
 use Rattle.graph.specs.Runs.{run, ascends, largestArc, lastEnds}
-use Rattle.graph.specs.Words.{inOrder, spelled, wordsWithin, words, count}
+use Rattle.graph.specs.Words.{Word, inOrder, spelled, wordsWithin, words, count}
 use Rattle.graph.specs.Counting.{table, Counts, Counted, all}
 use Rattle.graph.specs.ChecksLaws.{fit}
 use Rattle.graph.specs.UpwardLaws.{leadsUp, upward-loopless}
 use Rattle.load.specs.Repacking.{fitting, firstMisfit}
 use Rattle.load.specs.Loading.{begin, feed, finish, holding, stateAfter, nodesAfter, zeros}
 use Rattle.pieces.specs.Pieces.{loadPieces, fedPieces, feedAll}
-use Rattle.numbers.specs.Numbered.{Numbered}
+use Rattle.numbers.specs.Numbered.{Lent, Numbered}
 use Rattle.export.specs.Starts.{deeper}
 use Rattle.export.specs.Blocks.{met, blockAt}
 use Rattle.export.specs.Latin1.{byteOf}
 use Rattle.export.specs.Written.{Written}
 use Rattle.macondo_file.specs.Alphabet.{letters, letterOf}
-use Rattle.macondo_file.specs.File.{dawg, arcsOf, setOf, blocks, sets, blockOf, macondoNodes, macondoFile}
+use Rattle.macondo_file.specs.File.{Format, dawg, gaddag, arcsOf, setOf, blocks, sets, blockOf, macondoNodes, macondoFile}
 use Rattle.macondo_file.specs.Row.{macondoRow, toMacondo}
+use Rattle.macondo_file.specs.Spelling as macondo
 use Rattle.lxd_file.specs.File.{runs, child, lxdNode, lxdNodes, lxdFile}
 use Rattle.lxd_file.specs.Row.{lxdRow, toLxd}
+use Rattle.lxd_file.specs.Spelling as lxd
 use Rattle.alphagrams.specs.Alphagrams.{NeverDescends, AlphagramLexicon, Alpha}
 use Rattle.alphagrams.specs.MeaningLaws.{alpha-means}
 use Rattle.guarantees.specs.Demand3.{Ready, Wrote, table as loaded}
@@ -50,11 +52,12 @@ pub G-counts : Counts 4_294_967_295 G
 unfolding firstOf largestArc lastEnds leadsUp
 G-counts = record { fit = refl; loopless = upward-loopless G refl; few = few }
 
--- G as a KWG file, cut inside nodes, with a piece of no bytes
+-- G as a KWG file, cut inside nodes, with a piece of no bytes, and among them one that is a byte longer than what is missing
 abbrev pub G-pieces : List (List ℕ)
 G-pieces =
     (0x02 ∷ 0x00 ∷ 0x40 ∷ 0x00 ∷ 0x00 ∷ [])
     ∷ (0x00 ∷ 0x40 ∷ [])
+    ∷ replicate 14 0xFF
     ∷ []
     ∷ (0x00 ∷ 0x04 ∷ 0x00 ∷ 0x80 ∷ 0x01 ∷ 0x04 ∷ 0x00 ∷ 0x40 ∷ 0x02 ∷ 0x00 ∷ 0x00 ∷ 0xC0 ∷ 0x02 ∷ [])
     ∷ []
@@ -65,6 +68,13 @@ lent = replicate 6 7
 
 abbrev counted : List ℕ
 counted = 3 ∷ 0 ∷ 3 ∷ 1 ∷ 1 ∷ 7 ∷ []
+
+-- the same nodes and counts at the head of other lists
+abbrev otherNodes : List ℕ
+otherNodes = G ++ replicate 3 0xFFFFFFFF
+
+abbrev otherCounts : List ℕ
+otherCounts = 3 ∷ 0 ∷ 3 ∷ 1 ∷ 1 ∷ 5 ∷ 6 ∷ []
 
 abbrev bytes : List ℕ
 bytes = replicate 90 7
@@ -77,35 +87,89 @@ pub G-ready : Ready 20 Kwg lent G-pieces 4_294_967_295 5 counted
 unfolding loadPieces fedPieces feedAll begin feed finish firstOf holding stateAfter nodesAfter wholeNodes partNode firstMisfit fitting fits zeros largestArc lastEnds ascends
 G-ready = record { loads = refl; lentCounts = lent; lentWork = 10; counts = G-counted; ascending = refl }
 
-abbrev G-macondo : Written
-G-macondo = toMacondo G labels [] dawg 40 bytes
+-- "5+ piece longer than what is missing", and left out
+G-answers : fedPieces 20 Kwg lent G-pieces .answers ≡ gives [] ∷ gives [] ∷ refused 5 [] ∷ gives [] ∷ gives [] ∷ []
+unfolding fedPieces feedAll begin feed firstOf holding stateAfter nodesAfter wholeNodes partNode firstMisfit fitting fits zeros
+G-answers = refl
+
+G-lent : Lent G otherNodes otherCounts
+unfolding table words wordsWithin inOrder spelled run
+G-lent = record { nodes-are = refl; counts-are = refl }
+
+abbrev G-macondo : Format → Written
+G-macondo f = toMacondo G labels [] f 40 bytes
 
 abbrev G-lxd : Written
 G-lxd = toLxd G labels (0x47 ∷ []) [] 40 bytes
 
+-- node 1's arc is 0, so the gaddag begins at node 0
+macondo-answers : (G-macondo dawg .answer ≡ gives (57 ∷ [])) × (G-macondo gaddag .answer ≡ gives (73 ∷ []))
+unfolding toMacondo macondoRow firstOf largestArc lastEnds ascends deeper run insertedAll table met blockAt letters letterOf arcsOf setOf bitSet blocks sets blockOf macondoNodes macondoFile bigEndians
+macondo-answers = (refl, refl)
+
+lxd-answer : G-lxd .answer ≡ gives (84 ∷ [])
+unfolding toLxd lxdRow firstOf largestArc lastEnds deeper run met blockAt runs child lxdNode lxdNodes lxdFile byteOf nodeBytes words wordsWithin inOrder spelled
+lxd-answer = refl
+
+-- the files, and the words that they spell
+dawg-file : Wrote (G-macondo dawg) (take 57 (G-macondo dawg .bytes))
+dawg-file = record { size = 57; answered = macondo-answers .0; bytes = refl }
+
+gaddag-file : Wrote (G-macondo gaddag) (take 73 (G-macondo gaddag .bytes))
+gaddag-file = record { size = 73; answered = macondo-answers .1; bytes = refl }
+
+lxd-file : Wrote G-lxd (take 84 (G-lxd .bytes))
+lxd-file = record { size = 84; answered = lxd-answer; bytes = refl }
+
+abbrev wordsOfDawg : List Word
+wordsOfDawg = (1 ∷ []) ∷ (1 ∷ 2 ∷ []) ∷ (2 ∷ 2 ∷ []) ∷ []
+
+abbrev wordsOfGaddag : List Word
+wordsOfGaddag = (0 ∷ 1 ∷ []) ∷ (0 ∷ 1 ∷ 2 ∷ []) ∷ (0 ∷ 2 ∷ 2 ∷ []) ∷ []
+
+abbrev wordsOfLxd : List Word
+wordsOfLxd = (0x41 ∷ []) ∷ (0x41 ∷ 0x42 ∷ []) ∷ (0x42 ∷ 0x42 ∷ []) ∷ []
+
+spelt-dawg : macondo.Spells (take 57 (G-macondo dawg .bytes)) labels wordsOfDawg
+unfolding words wordsWithin inOrder spelled run
+spelt-dawg = demand-3 4_294_967_295 .macondo G labels [] dawg 40 bytes (take 57 (G-macondo dawg .bytes)) dawg-file .1
+
+spelt-gaddag : macondo.Spells (take 73 (G-macondo gaddag .bytes)) labels wordsOfGaddag
+unfolding words wordsWithin inOrder spelled run
+spelt-gaddag = demand-3 4_294_967_295 .macondo G labels [] gaddag 40 bytes (take 73 (G-macondo gaddag .bytes)) gaddag-file .1
+
+spelt-lxd : lxd.Spells (take 84 (G-lxd .bytes)) wordsOfLxd
+unfolding words wordsWithin inOrder spelled run
+spelt-lxd = demand-3 4_294_967_295 .lxd G labels (0x47 ∷ []) [] 40 bytes (take 84 (G-lxd .bytes)) lxd-file .1
+
 -- every premise at once, with what it brings
 pub record Met : Type 0 where
+  pub answers : fedPieces 20 Kwg lent G-pieces .answers ≡ gives [] ∷ gives [] ∷ refused 5 [] ∷ gives [] ∷ gives [] ∷ []
   pub ready : Ready 20 Kwg lent G-pieces 4_294_967_295 5 counted
   pub numbered : Numbered 4_294_967_295 G (loaded 20 Kwg lent G-pieces) counted 2
-  pub macondo : Wrote G-macondo (take 57 (G-macondo .bytes))
-  pub lxd : Wrote G-lxd (take 84 (G-lxd .bytes))
-
-macondo-written : G-macondo .answer ≡ gives (57 ∷ [])
-unfolding toMacondo macondoRow firstOf largestArc lastEnds ascends deeper run insertedAll table met blockAt letters letterOf arcsOf setOf bitSet blocks sets blockOf macondoNodes macondoFile bigEndians
-macondo-written = refl
-
-lxd-written : G-lxd .answer ≡ gives (84 ∷ [])
-unfolding toLxd lxdRow firstOf largestArc lastEnds deeper run met blockAt runs child lxdNode lxdNodes lxdFile byteOf nodeBytes words wordsWithin inOrder spelled
-lxd-written = refl
+  pub lent-longer : Numbered 4_294_967_295 G otherNodes otherCounts 2
+  pub dawg-written : Wrote (G-macondo dawg) (take 57 (G-macondo dawg .bytes))
+  pub dawg-spelt : macondo.Spells (take 57 (G-macondo dawg .bytes)) labels wordsOfDawg
+  pub gaddag-written : Wrote (G-macondo gaddag) (take 73 (G-macondo gaddag .bytes))
+  pub gaddag-spelt : macondo.Spells (take 73 (G-macondo gaddag .bytes)) labels wordsOfGaddag
+  pub lxd-written : Wrote G-lxd (take 84 (G-lxd .bytes))
+  pub lxd-spelt : lxd.Spells (take 84 (G-lxd .bytes)) wordsOfLxd
 
 pub G-met : Met
 unfolding loadPieces fedPieces feedAll begin feed finish firstOf holding stateAfter nodesAfter wholeNodes partNode firstMisfit fitting fits zeros largestArc lastEnds
 G-met =
+    let demand = demand-3 4_294_967_295 in
     record {
+      answers = G-answers;
       ready = G-ready;
-      numbered = demand-3 4_294_967_295 .numbering 20 Kwg lent G-pieces 5 counted G-ready 2 (omega arith) (omega arith);
-      macondo = record { size = 57; answered = macondo-written; bytes = refl };
-      lxd = record { size = 84; answered = lxd-written; bytes = refl };
+      numbered = demand .numbering 20 Kwg lent G-pieces 5 counted G-ready 2 (omega arith) (omega arith);
+      lent-longer = demand .lending 20 Kwg lent G-pieces 5 counted G-ready otherNodes otherCounts G-lent 2 (omega arith) (omega arith);
+      dawg-written = dawg-file;
+      dawg-spelt = spelt-dawg;
+      gaddag-written = gaddag-file;
+      gaddag-spelt = spelt-gaddag;
+      lxd-written = lxd-file;
+      lxd-spelt = spelt-lxd;
     }
 
 never-descends : AlphagramLexicon G

@@ -5,6 +5,7 @@ pub mod Cleared
 pub mod Firsts
 pub mod Lists
 pub mod Members
+pub mod NoRepeats
 pub mod Sets
 pub mod Sorting
 pub mod Without

@@ -30,6 +30,11 @@ not-member x (y ∷ l) e m =
 pub mem-member : (x : ℕ) (l : List ℕ) → List·Memᴰ x l → member x l ≡ true
 mem-member x l m = split (member x l) (λ e. e) (λ e. absurd (not-member x l e m))
 
+pub at-in : {A : Type 0} (l : List A) (i : ℕ) (z : A) → i < length l → List·Memᴰ (getD l i z) l
+at-in [] i z h = absurd (omega arith)
+at-in (x ∷ l) zero z h = List·Memᴰ·head refl
+at-in (x ∷ l) (suc i) z h = List·Memᴰ·tail (at-in l i z (omega arith))
+
 pub in-drop : {A : Type 0} (x : A) (n : ℕ) (l : List A) → List·Memᴰ x (drop n l) → List·Memᴰ x l
 in-drop x zero l m = m
 in-drop x (suc n) [] m = m
@@ -47,6 +52,11 @@ module _ {A B : Type 0} (f : A → B) where
   pub map-in : (l : List A) (x : A) → List·Memᴰ x l → List·Memᴰ (f x) (map f l)
   map-in [] x m = absurd (List·Memᴰ·not-nil m)
   map-in (y ∷ l) x m = ⊎-elim (λ i. List·Memᴰ·head (ap f i)) (λ k. List·Memᴰ·tail (map-in l x k)) (List·Memᴰ·cases-cons m)
+
+  pub getD-map-in : (l : List A) (n : ℕ) (d : A) (e : B) → n < length l → getD (map f l) n e ≡ f (getD l n d)
+  getD-map-in [] n d e h = absurd (omega arith)
+  getD-map-in (x ∷ l) zero d e h = refl
+  getD-map-in (x ∷ l) (suc n) d e h = getD-map-in l n d e (omega arith)
 
 module _ {A : Type 0} (f : A → Bool) where
   pub in-kept : (l : List A) (x : A) → List·Memᴰ x (kept f l) → List·Memᴰ x l × (f x ≡ true)

@@ -1,22 +1,25 @@
--- The arcs of a block are those of its run, and there are at most as many as labels. The idea: in a run that ascends every node takes
--- a tile of its own below the label count.
+-- The arcs of a block are those of its run, each with a letter of its own, and there are at most as many as labels. The idea: in a run
+-- that ascends every node takes a tile of its own below the label count.
 use mathlib.Core.Path.{_≡_, refl}
-use mathlib.Core.Bool.{true}
-use mathlib.Core.List.{List, [], _∷_, map, List·Memᴰ, List·Memᴰ·head, List·Memᴰ·tail}
+use mathlib.Core.Bool.{true, false}
+use mathlib.Core.Logic.{⊎-elim}
+use mathlib.Core.List.{List, [], _∷_, map, List·Memᴰ, List·Memᴰ·head, List·Memᴰ·tail, List·Memᴰ·not-nil, List·Memᴰ·cases-cons, List·Memᴰ·eq-of-singleton}
 use Prim.Native.Nat.{ℕ, zero-le, _+_, _≤_, _<_}
 use native.Mathlib.Omega.{arith}
 use lib.ListN.{length, drop}
 use Rattle.laws.specs.Cases.{split}
 use Rattle.laws.specs.Lists.{kept}
 use Rattle.laws.specs.Members.{in-map, map-in, in-kept, kept-in, kept-length}
+use Rattle.laws.specs.NoRepeats.{NoRepeats, no-repeats-kept, no-repeats-sorted, map-no-repeats, map-apart}
 use Rattle.laws.specs.Sorting.{in-sorted, sorted-in, sorted-length}
 use Rattle.node.specs.Nodes.{KBWG, tile, arc, isEnd}
 use Rattle.graph.specs.Runs.{Graph, run, ascends}
 use Rattle.graph.specs.WordsAscend.{ascends-head, ascends-tail, ascends-drop}
 use Rattle.export.specs.Starts.{runOf, hasArc}
-use Rattle.graph.specs.RunLaws.{in-graph}
+use Rattle.graph.specs.RunLaws.{run-last, run-next, in-graph}
 use Rattle.export.specs.ChainLaws.{arcsFrom, arc-from, from-arc}
-use Rattle.macondo_file.specs.Alphabet.{precedes}
+use Rattle.macondo_file.specs.Alphabet.{precedes, letterOf}
+use Rattle.macondo_file.specs.AlphabetLaws.{letter-apart}
 use Rattle.macondo_file.specs.File.{arcsOf}
 use Rattle.macondo_file.specs.RowLaws.{Checked}
 
@@ -76,7 +79,52 @@ module _ (n : ℕ) where
   run-most [] a h = zero-le
   run-most (v ∷ l) a h = let r = run-from v l a h in omega arith
 
+-- ---- the tiles of a run
+run-above : (v : ℕ) (l : Graph) → ascends KBWG (v ∷ l) ≡ true → isEnd KBWG v ≡ false → (w : ℕ) → List·Memᴰ w (run KBWG l)
+    → tile KBWG v < tile KBWG w
+unfolding run
+run-above v [] a e w m = absurd (List·Memᴰ·not-nil m)
+run-above v (u ∷ l) a e w m =
+    let up = ascends-head KBWG v u l a e in
+    split (isEnd KBWG u)
+    (λ t. rw (List·Memᴰ·eq-of-singleton (rw (run-last KBWG u l t) at m)) up)
+    (λ t. ⊎-elim
+    (λ i. rw i up)
+    (λ k. let r = run-above u l (ascends-tail KBWG v u l a) t w k in omega arith)
+    (List·Memᴰ·cases-cons (rw (run-next KBWG u l t) at m)))
+
+run-tiles : (l : Graph) → ascends KBWG l ≡ true → NoRepeats (map (tile KBWG) (run KBWG l))
+unfolding run
+run-tiles [] a = tt
+run-tiles (v ∷ l) a =
+    split (isEnd KBWG v)
+    (λ e. rw (e, run) ((λ m. List·Memᴰ·not-nil m), tt))
+    (λ e. rw (e, run) (
+      (λ m.
+          let r = in-map (tile KBWG) (run KBWG l) (tile KBWG v) m in
+          let h = run-above v l a e (r .0) (r .1) in
+          let i = r .2 in
+          omega arith),
+      run-tiles l (ascends-drop KBWG 1 (v ∷ l) a),
+    ))
+
 module _ {g : Graph} {labels name : List ℕ} {lentWork : ℕ} (c : Checked g labels name lentWork) where
+  run-once : (p : ℕ) → NoRepeats (map (tile KBWG) (runOf g p))
+  run-once p = run-tiles (drop p g) (ascends-drop KBWG p g (c .ascending))
+
+  pub arcs-once : (p : ℕ) → NoRepeats (arcsOf g labels p)
+  unfolding arcsOf
+  arcs-once p =
+      no-repeats-sorted (λ v w. precedes labels (tile KBWG v) (tile KBWG w)) (kept hasArc (runOf g p))
+      (no-repeats-kept hasArc (runOf g p) (map-no-repeats (tile KBWG) (runOf g p) (run-once p)))
+
+  -- no two nodes of a run have one letter
+  pub letters-apart : (p v w : ℕ) → List·Memᴰ v (runOf g p) → List·Memᴰ w (runOf g p)
+      → letterOf labels (tile KBWG v) ≡ letterOf labels (tile KBWG w) → v ≡ w
+  letters-apart p v w m n e =
+      map-apart (tile KBWG) (runOf g p) (run-once p) v w m n
+      (letter-apart labels (c .fifty) (tile KBWG v) (tile KBWG w) (c .labelled v (in-graph KBWG g p v m)) (c .labelled w (in-graph KBWG g p w n)) e)
+
   pub run-few : (p : ℕ) → length (runOf g p) ≤ 50
   run-few p =
       let a = run-most (length labels) (drop p g) (ascends-drop KBWG p g (c .ascending)) (λ v m. c .labelled v (in-graph KBWG g p v m)) in

@@ -10,4 +10,6 @@ pub mod BlockLaws
 pub mod BlockReading
 pub mod ReadingLaws
 pub mod Spelling
+pub mod WordLaws
+pub mod OnceLaws
 pub mod SpellingLaws

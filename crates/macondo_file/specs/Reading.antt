@@ -47,3 +47,12 @@ nodesIn file = after 8 (setsIn file)
 -- "block 0's words": no path follows as many arcs as there are nodes
 unfoldable pub macondoWords : List ℕ → List Word
 macondoWords file = blockWords (numbersAt 8 (setsIn file)) (numbersAt 4 (nodesIn file)) (countAt (nodesIn file)) 0
+
+-- the code point that the file has for a letter; the 50 of tile 0 has none there, and is read as 5E, where tile 0 stands "in the arc
+-- order"
+abbrev pub codePointIn : List ℕ → ℕ → ℕ
+codePointIn file r = getD (numbersAt 4 (lettersIn file)) r 0x5E
+
+-- the words of the file in code points
+abbrev pub wordsInCodePoints : List ℕ → List Word
+wordsInCodePoints file = map (map (codePointIn file)) (macondoWords file)

@@ -1,18 +1,26 @@
--- The sections of a Macondo file, read back: the reader sees the sets and nodes that were written. Each section's count says how far
--- it goes. And the file's length.
+-- The sections of a Macondo file, read back: the reader sees the code points, sets and nodes that were written. Each section's count
+-- says how far it goes. And the file's length.
 use mathlib.Core.Path.{_≡_, refl, sym, ap, ap₂, _∙_}
-use mathlib.Core.List.{List, [], _∷_, _++_, append-assoc, append-nil, List·Memᴰ}
+use mathlib.Core.Bool.{false, _&&_}
+use mathlib.Core.Logic.{_≢_}
+use mathlib.Core.List.{List, [], _∷_, _++_, append-assoc, append-nil, List·Memᴰ, Memᴰ·cast}
 use Prim.Native.Nat.{ℕ, _+_, _-_, _*_, _^_, _≤_, _<_}
 use native.Mathlib.Omega.{arith}
-use lib.ListN.{length, getD, drop, length-append, length-map}
-use lib.Seq.{take-at, drop-at, getD-at}
+use lib.Dec.{eqb, leb}
+use lib.ListN.{length, getD, drop, length-append, length-drop, List·getD-eq-default}
+use lib.Seq.{take-at, drop-at, getD-at, getD-drop}
+use borrow.Author.Tests.{leb-false, eqb-true, eqb-false}
+use Rattle.laws.specs.Cases.{split, or-false-right}
+use Rattle.laws.specs.Lists.{someOf}
+use Rattle.laws.specs.Members.{at-in, in-map, none-of}
 use Rattle.endian.specs.Bytes.{bigEndian, bigEndians, fromBig, bigNumbers}
 use Rattle.endian.specs.BigLaws.{big-length, bigs-length, big-back, numbers-back}
 use Rattle.graph.specs.Runs.{Graph}
-use Rattle.macondo_file.specs.Alphabet.{letters}
-use Rattle.macondo_file.specs.AlphabetLaws.{letters-length}
+use Rattle.macondo_file.specs.Alphabet.{codePoint, letters, letterOf}
+use Rattle.macondo_file.specs.AlphabetLaws.{in-letters, code-point-at, code-points-length}
 use Rattle.macondo_file.specs.File.{Format, dawg, gaddag, marks, sets, macondoNodes, codePoints, macondoFile}
-use Rattle.macondo_file.specs.Reading.{blockWords, countAt, numbersAt, after, lettersIn, setsIn, nodesIn, macondoWords}
+use Rattle.macondo_file.specs.Reading.{blockWords, countAt, numbersAt, after, lettersIn, setsIn, nodesIn, macondoWords, codePointIn}
+use Rattle.macondo_file.specs.Row.{noCodePoint}
 use Rattle.macondo_file.specs.RowLaws.{Checked}
 use Rattle.macondo_file.specs.BlockLaws.{sets-few, blocks-few, sets-below, nodes-below}
 
@@ -73,14 +81,11 @@ module _ (g : Graph) (labels : List ℕ) (f : Format) (name : List ℕ) where
   front-length : length front ≡ 5 + length name
   front-length = let a = magic-length f in length-append (marks f .magic) (length name ∷ name) ∙ omega arith
 
-  pub code-points-length : length (codePoints labels) ≡ length labels - 1
-  code-points-length = length-map (letters labels) (λ t. getD labels t 0) ∙ letters-length labels
-
   pub file-length : length (macondoFile g labels f name)
       ≡ 17 + length name + 4 * (length labels - 1) + 8 * length (sets g labels f) + 4 * length (macondoNodes g labels f)
   file-length =
       let a = front-length in
-      let b = code-points-length in
+      let b = code-points-length labels in
       let c = section-length 4 (codePoints labels) in
       let d = section-length 8 (sets g labels f) in
       let e = section-length 4 (macondoNodes g labels f) in
@@ -104,11 +109,14 @@ module _ {g : Graph} {labels name : List ℕ} {lentWork : ℕ} (c : Checked g la
   abbrev file : List ℕ
   file = macondoFile g labels f name
 
+  letters-counted : length (codePoints labels) < 256 ^ 4
+  letters-counted = let a = code-points-length labels in let b = c .fifty in omega arith
+
+  letter-count-back : countAt (lettersIn file) ≡ length (codePoints labels)
+  letter-count-back = ap countAt (letters-read g labels f name) ∙ section-count 4 (codePoints labels) (setPart g labels f name) letters-counted
+
   sets-read : setsIn file ≡ setPart g labels f name
-  sets-read =
-      let a = code-points-length g labels f name in
-      let b = c .fifty in
-      ap (after 4) (letters-read g labels f name) ∙ section-after 4 (codePoints labels) (setPart g labels f name) (omega arith)
+  sets-read = ap (after 4) (letters-read g labels f name) ∙ section-after 4 (codePoints labels) (setPart g labels f name) letters-counted
 
   sets-counted : length (sets g labels f) < 256 ^ 4
   sets-counted =
@@ -126,6 +134,9 @@ module _ {g : Graph} {labels name : List ℕ} {lentWork : ℕ} (c : Checked g la
   sets-back : numbersAt 8 (setsIn file) ≡ sets g labels f
   sets-back = ap (numbersAt 8) sets-read ∙ section-numbers 8 (sets g labels f) (nodePart g labels f name) sets-counted (sets-below c f)
 
+  set-count-back : countAt (setsIn file) ≡ length (sets g labels f)
+  set-count-back = ap countAt sets-read ∙ section-count 8 (sets g labels f) (nodePart g labels f name) sets-counted
+
   nodes-back : numbersAt 4 (nodesIn file) ≡ macondoNodes g labels f
   nodes-back = ap (numbersAt 4) nodes-read ∙ section-numbers 4 (macondoNodes g labels f) [] (omega arith) (nodes-below c f few)
 
@@ -136,3 +147,56 @@ module _ {g : Graph} {labels name : List ℕ} {lentWork : ℕ} (c : Checked g la
   pub file-read : macondoWords file ≡ blockWords (sets g labels f) (macondoNodes g labels f) (length (macondoNodes g labels f)) 0
   unfolding macondoWords
   file-read i = blockWords (sets-back i) (nodes-back i) (count-back i) 0
+
+  -- ---- the header
+  pub letters-told : countAt (lettersIn file) ≡ length labels - 1
+  letters-told = letter-count-back ∙ code-points-length labels
+
+  pub bytes-told : length file
+      ≡ 5 + getD file 4 0 + (4 + 4 * countAt (lettersIn file)) + (4 + 8 * countAt (setsIn file)) + (4 + 4 * countAt (nodesIn file))
+  bytes-told =
+      let a = file-length g labels f name in
+      let b = name-read g labels f name in
+      let d = letters-told in
+      let e = set-count-back in
+      let h = count-back in
+      omega arith
+
+  -- ---- the code points
+  module _ (ok : someOf noCodePoint (drop 1 labels) ≡ false) where
+    label-below : (t : ℕ) → 0 < t → t < length labels → getD labels t 0 < 256 ^ 4
+    label-below t z h =
+        let label = getD labels t 0 in
+        let n = length-drop 1 labels in
+        let i : 1 + (t - 1) ≡ t = omega arith in
+        let m = at-in (drop 1 labels) (t - 1) 0 (omega arith) in
+        let e = getD-drop 1 labels (t - 1) 0 ∙ ap (λ k. getD labels k 0) i in
+        let no = none-of noCodePoint (drop 1 labels) ok label (Memᴰ·cast (sym e) m) in
+        let most = leb-false 0x110000 label (or-false-right (leb 0xD800 label && leb label 0xDFFF) (leb 0x110000 label) no) in
+        omega arith
+
+    letters-back : numbersAt 4 (lettersIn file) ≡ codePoints labels
+    letters-back =
+        ap (numbersAt 4) (letters-read g labels f name)
+        ∙ section-numbers 4 (codePoints labels) (setPart g labels f name) letters-counted
+        (λ v m.
+        let r = in-map (λ t. getD labels t 0) (letters labels) v m in
+        let b = in-letters labels (r .0) (r .1) in
+        rw (r .2) (label-below (r .0) (b .0) (b .1)))
+
+    pub labels-read : (t : ℕ) → 0 < t → t < length labels → codePointIn file (letterOf labels t) ≡ getD labels t 0
+    labels-read t z h = ap (λ l. getD l (letterOf labels t) 0x5E) letters-back ∙ code-point-at labels t z h 0x5E
+
+    -- and tile 0's stands nowhere
+    zero-read : codePointIn file (letterOf labels 0) ≡ 0x5E
+    unfolding letterOf
+    zero-read =
+        let a = code-points-length labels in
+        let b = c .fifty in
+        ap (λ l. getD l 50 0x5E) letters-back ∙ List·getD-eq-default (codePoints labels) 0x5E (omega arith)
+
+    pub tile-read : (t : ℕ) → t < length labels → codePointIn file (letterOf labels t) ≡ codePoint labels t
+    tile-read t h =
+        split (eqb t 0)
+        (λ e. rw (eqb-true t 0 e) zero-read)
+        (λ e. let n : t ≢ 0 = eqb-false t 0 e in rw (e, codePoint) (labels-read t (omega arith) h))

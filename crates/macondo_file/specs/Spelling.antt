@@ -1,20 +1,23 @@
--- What a Macondo file spells, from demand 3 of document 01: "exactly the words of its start node, renamed, less those ending in tile 0".
+-- What a Macondo file spells, from demand 3 and document 01, "Files for other programs": the words of its start node, renamed, less
+-- those ending in tile 0.
 use mathlib.Core.Path.{_≡_}
 use mathlib.Core.Bool.{Bool, false, not}
 use mathlib.Core.List.{List, [], _∷_, map, List·Memᴰ}
 use mathlib.Core.Logic.{_↔_}
 use mathlib.Core.Option.{none}
-use Prim.Native.Nat.{ℕ}
+use Prim.Native.Nat.{ℕ, _+_, _-_, _*_, _<_}
 use lib.Dec.{eqb}
+use lib.ListN.{length, getD}
 use Rattle.laws.specs.Lists.{kept}
+use Rattle.laws.specs.NoRepeats.{NoRepeats}
 use Rattle.node.specs.Answers.{firstOf}
 use Rattle.node.specs.Nodes.{KBWG}
 use Rattle.graph.specs.Runs.{Graph}
 use Rattle.graph.specs.Words.{Word, words}
 use Rattle.export.specs.Starts.{start}
-use Rattle.macondo_file.specs.Alphabet.{letterOf}
+use Rattle.macondo_file.specs.Alphabet.{codePoint, letterOf}
 use Rattle.macondo_file.specs.File.{Format, marks, macondoFile}
-use Rattle.macondo_file.specs.Reading.{macondoWords}
+use Rattle.macondo_file.specs.Reading.{countAt, lettersIn, setsIn, nodesIn, macondoWords, codePointIn, wordsInCodePoints}
 use Rattle.macondo_file.specs.Row.{macondoRow}
 
 abbrev pub endsInZero : Word → Bool
@@ -26,12 +29,28 @@ endsInZero (t ∷ u ∷ us) = endsInZero (u ∷ us)
 abbrev pub renamed : List ℕ → Word → Word
 renamed labels = map (letterOf labels)
 
--- the words that the file should spell
-abbrev pub spelt : Graph → List ℕ → Format → List Word
-spelt g labels f = map (renamed labels) (kept (λ w. not (endsInZero w)) (words KBWG g (start g (marks f .root))))
+-- the words that the file should spell: those of the start node, less those ending in tile 0
+abbrev pub endingInLetters : Graph → Format → List Word
+endingInLetters g f = kept (λ w. not (endsInZero w)) (words KBWG g (start g (marks f .root)))
 
--- every file that the writer accepts spells them, and no others (the arc order moves words, so this is by members)
+-- the file spells the words of tiles with these labels
+pub record Spells (file labels : List ℕ) (ws : List Word) : Type 0 where
+  -- what is read are the words, renamed, and no others (the arc order moves words, so this is by members)
+  pub read : (w : Word) → List·Memᴰ w (macondoWords file) ↔ List·Memᴰ w (map (renamed labels) ws)
+  -- none is read twice
+  pub no-repeats : NoRepeats (macondoWords file)
+  pub as-many : length (macondoWords file) ≡ length ws
+  -- "the code points stand in rank order": the letter written for a tile has the tile's label there
+  pub labels-read : (t : ℕ) → 0 < t → t < length labels → codePointIn file (letterOf labels t) ≡ getD labels t 0
+  -- so the words are read in code points too
+  pub shown : (w : Word) → List·Memᴰ w (wordsInCodePoints file) ↔ List·Memᴰ w (map (map (codePoint labels)) ws)
+  -- a code point for each tile from 1 up; and name and sections, as long as their counts say, fill the file to its last byte
+  pub letters-told : countAt (lettersIn file) ≡ length labels - 1
+  pub bytes-told : length file
+      ≡ 5 + getD file 4 0 + (4 + 4 * countAt (lettersIn file)) + (4 + 8 * countAt (setsIn file)) + (4 + 4 * countAt (nodesIn file))
+
+-- every file that the writer accepts
 abbrev pub MacondoSpells : Type 0
 MacondoSpells =
     (g : Graph) (labels name : List ℕ) (f : Format) (lentWork lentFile : ℕ) → firstOf (macondoRow g labels name f lentWork lentFile) ≡ none
-    → (w : Word) → List·Memᴰ w (macondoWords (macondoFile g labels f name)) ↔ List·Memᴰ w (spelt g labels f)
+    → Spells (macondoFile g labels f name) labels (endingInLetters g f)

@@ -10,6 +10,7 @@ use lib.Dec.{eqb, ltb}
 use borrow.Author.Tests.{ltb-true, ltb-false, eqb-true, eqb-false, eq-eqb}
 use lib.ListN.{length, getD, drop, length-drop, length-append, length-map}
 use lib.Seq.{drop-cons}
+use Rattle.laws.specs.Members.{getD-map-in}
 use Rattle.laws.specs.Cases.{split, and-left, and-right}
 use Rattle.node.specs.Answers.{gives, nothing}
 use Rattle.lookup.specs.Steps.{Try, on, stop, _>>=_}
@@ -18,7 +19,7 @@ use Rattle.graph.specs.Runs.{Graph, node, run}
 use Rattle.graph.specs.Words.{Word, spelled, words, count}
 use Rattle.lookup.specs.WalkLaws.{difference-on}
 use Rattle.lookup.specs.Walks.{Turn, last, down, wordsHere, turnIn, wordFrom}
-use Rattle.numbers.specs.RunWords.{own-leaf, own-arc, no-leaf, no-arc, own-word, words-end, words-on, first-word, total, at-later, getD-map-in, accepts-one, accepts-zero}
+use Rattle.numbers.specs.RunWords.{own-leaf, own-arc, no-leaf, no-arc, own-word, words-end, words-on, first-word, total, at-later, accepts-one, accepts-zero}
 use Rattle.numbers.specs.Walkable.{Walkable}
 
 module _ (g : Graph) (nodes counted : List ℕ) (walk : Walkable g nodes counted) where

@@ -9,6 +9,7 @@ use lib.Dec.{eqb}
 use borrow.Author.Tests.{eqb-true, eqb-false, ne-eqb}
 use lib.ListN.{length, getD, drop, length-append, length-map}
 use lib.Seq.{getD-append-add}
+use Rattle.laws.specs.Members.{getD-map-in}
 use Rattle.laws.specs.Cases.{split}
 use Rattle.node.specs.Answers.{Answer, gives, nothing}
 use Rattle.lookup.specs.Steps.{Try, on, stop, _>>=_, answer, lent, difference, sum}
@@ -19,7 +20,7 @@ use Rattle.laws.specs.Lists.{all-mem}
 use Rattle.graph.specs.WordsAscend.{From}
 use Rattle.lookup.specs.WalkLaws.{lent-on, difference-on, sum-on}
 use Rattle.lookup.specs.Walks.{findIn, passed, indexFrom}
-use Rattle.numbers.specs.RunWords.{own-arc, no-arc, own-word, own-fits, first-word, size-fits, getD-map-in, accepts-one, accepts-zero}
+use Rattle.numbers.specs.RunWords.{own-arc, no-arc, own-word, own-fits, first-word, size-fits, accepts-one, accepts-zero}
 use Rattle.numbers.specs.Walkable.{Walkable}
 use Rattle.numbers.specs.TileSearch.{NotIn, nonempty, FoundIs, found, absent, find, in-found, alone, longer}
 

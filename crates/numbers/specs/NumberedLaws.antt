@@ -1,22 +1,23 @@
 -- Every graph that counts and ascends is numbered so, from every node above 0; and counting's contract gives the premises.
 use mathlib.Core.Path.{_≡_, refl, sym, ap, _∙_}
 use mathlib.Core.Bool.{true}
-use mathlib.Core.List.{List, [], _∷_, List·Memᴰ, List·Memᴰ·head, List·Memᴰ·tail, head-eq-of-cons-eq, tail-eq-of-cons-eq, nil≢cons, Memᴰ·cast}
+use mathlib.Core.List.{List, [], _∷_, List·Memᴰ, Memᴰ·cast}
 use Prim.Native.Nat.{ℕ, zero, suc, _≤_, _<_}
 use native.Mathlib.Omega.{arith}
 use lib.ListN.{length, getD, take, drop, length-take}
 use lib.Seq.{getD-take, take-at}
 use Rattle.laws.specs.Lists.{All}
+use Rattle.laws.specs.Members.{at-in}
 use Rattle.node.specs.Answers.{Answer, gives, nothing}
 use Rattle.node.specs.RowLaws.{row-never-gives, rows-passed}
 use Rattle.node.specs.Nodes.{KBWG}
 use Rattle.graph.specs.Runs.{Graph, node, ascends}
 use Rattle.graph.specs.Words.{Word, words, count}
-use Rattle.graph.specs.Order.{_≺_, prefix, lower, later, Ascending}
+use Rattle.graph.specs.Order.{_≺_, Ascending}
 use Rattle.graph.specs.Checks.{graphRow}
 use Rattle.graph.specs.ChecksLaws.{Fit, fit}
 use Rattle.graph.specs.Counting.{counts, countRow, Counted, unfit, all, Counts}
-use Rattle.graph.specs.WordsAscend.{From, both, words-ascend}
+use Rattle.graph.specs.WordsAscend.{≺-differ, From, both, words-ascend}
 use Rattle.graph.specs.WordsEquation.{words-equation}
 use Rattle.lookup.specs.Steps.{lentPart, lent, on}
 use Rattle.lookup.specs.Walks.{wordIndex, wordByIndex}
@@ -26,16 +27,6 @@ use Rattle.numbers.specs.ByNumber.{named, other-numbers}
 use Rattle.numbers.specs.ByWord.{IndexIs, number, no-word, index}
 use Rattle.numbers.specs.Walkable.{Walkable}
 use Rattle.numbers.specs.Numbered.{Lent, Numbered}
-
-≺-differ : {u v : Word} → u ≺ v → u ≡ v → ⊥
-≺-differ prefix e = nil≢cons e
-≺-differ (lower h) e = let k = head-eq-of-cons-eq e in omega arith
-≺-differ (later h) e = ≺-differ h (tail-eq-of-cons-eq e)
-
-at-mem : (l : List Word) (i : ℕ) → i < length l → List·Memᴰ (getD l i []) l
-at-mem [] i h = absurd (omega arith)
-at-mem (w ∷ l) zero h = List·Memᴰ·head refl
-at-mem (w ∷ l) (suc i) h = List·Memᴰ·tail (at-mem l i (omega arith))
 
 all-at : (P : Word → Type 0) (l : List Word) → All P l → (i : ℕ) → i < length l → P (getD l i [])
 all-at P [] a i h = absurd (omega arith)
@@ -78,6 +69,10 @@ module _ (limit : ℕ) (g : Graph) (c : Counts limit g) (up : ascends KBWG g ≡
       let r = head-lent (counts g) counted 4_294_967_296 (omega arith) (rw n (is .counts-are)) p (omega arith) in
       lent-on (lentPart counted) p (r .0) ∙ ap on (r .1 ∙ table-at (length g) (count KBWG g) p h)
 
+  count-is : (p : ℕ) → p < length g → getD counted p 0 ≡ count KBWG g p
+  count-is p h =
+      sym (getD-take (length g) counted p 0 h) ∙ ap (λ l. getD l p 0) (is .counts-are) ∙ table-at (length g) (count KBWG g) p h
+
   walk : Walkable g (lentPart nodes) (lentPart counted)
   walk = record { steps = fits .steps; loopless = c .loopless; same = same; count-lent = count-lent }
 
@@ -95,22 +90,25 @@ module _ (limit : ℕ) (g : Graph) (c : Counts limit g) (up : ascends KBWG g ≡
   back : (p i : ℕ) → i < count KBWG g p → {x : Answer} → Index p (getD (words KBWG g p) i []) x → x ≡ gives (i ∷ [])
   back p i h (number {i = j} l e n) =
       let s = once-only (words KBWG g p) (words-ascend KBWG g up p) j i l h e in ap (λ k. gives (k ∷ [])) (omega arith)
-  back p i h (no-word n) = absurd (n (at-mem (words KBWG g p) i h))
+  back p i h (no-word n) = absurd (n (at-in (words KBWG g p) i [] h))
 
   other : (p : ℕ) (w : Word) → (List·Memᴰ w (words KBWG g p) → ⊥) → {x : Answer} → Index p w x → x ≡ nothing
-  other p w n (number {i = j} l e m) = absurd (n (Memᴰ·cast (sym e) (at-mem (words KBWG g p) j l)))
+  other p w n (number {i = j} l e m) = absurd (n (Memᴰ·cast (sym e) (at-in (words KBWG g p) j [] l)))
   other p w n (no-word m) = refl
 
   pub numbered : (p : ℕ) → 0 < p → p < length g → Numbered limit g nodes counted p
   unfolding wordByIndex
-  numbered p z h = record {
-    equation = words-equation KBWG g p (record { itself = c .loopless p; below = λ q r. c .loopless q });
-    ascending = words-ascend KBWG g up p;
-    named = λ i room k r. named g (lentPart nodes) (lentPart counted) walk long room p i h k r;
-    given-back = λ i k. back p i k (index-of p z h (getD (words KBWG g p) i []));
-    other-words = λ w n. other p w n (index-of p z h w);
-    other-numbers = λ i room k. other-numbers g (lentPart nodes) (lentPart counted) walk long room p i h k;
-  }
+  numbered p z h =
+      let e = count-is p h in
+      record {
+        equation = words-equation KBWG g p (record { itself = c .loopless p; below = λ q r. c .loopless q });
+        count-is = e;
+        named = λ i room k r. named g (lentPart nodes) (lentPart counted) walk long room p i h (rw e at k) r;
+        ascending = words-ascend KBWG g up p;
+        given-back = λ i k. back p i (rw e at k) (index-of p z h (getD (words KBWG g p) i []));
+        other-words = λ w n. other p w n (index-of p z h w);
+        other-numbers = λ i room k. other-numbers g (lentPart nodes) (lentPart counted) walk long room p i h (rw e at k);
+      }
 
 -- ---- "counts where counting its N nodes, with lists long enough, gives none"
 pub counted-lent : (limit : ℕ) (g : Graph) (before after : List ℕ) (lentWork : ℕ) → Counted limit g before lentWork (gives []) after

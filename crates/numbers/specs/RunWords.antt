@@ -3,7 +3,7 @@ use mathlib.Core.Path.{_≡_, refl, ap, _∙_}
 use mathlib.Core.Bool.{true, false}
 use mathlib.Core.Logic.{_≢_}
 use mathlib.Core.List.{List, [], _∷_, _++_, map}
-use Prim.Native.Nat.{ℕ, zero, suc, _+_, _-_, _≤_, _<_}
+use Prim.Native.Nat.{ℕ, suc, _+_, _-_, _≤_, _<_}
 use native.Mathlib.Omega.{arith}
 use lib.Dec.{eqb}
 use borrow.Author.Tests.{eqb-true, eqb-false}
@@ -19,11 +19,6 @@ use Rattle.graph.specs.Counting.{Loopless}
 use Rattle.graph.specs.LoopLaws.{clear-where-loopless}
 use Rattle.graph.specs.CountLaws.{words-end as words-at-end, words-on as words-before-end}
 use Rattle.graph.specs.ChecksLaws.{Closed}
-
-pub getD-map-in : (f : Word → Word) (l : List Word) (n : ℕ) (d e : Word) → n < length l → getD (map f l) n e ≡ f (getD l n d)
-getD-map-in f [] n d e h = absurd (omega arith)
-getD-map-in f (x ∷ l) zero d e h = refl
-getD-map-in f (x ∷ l) (suc n) d e h = getD-map-in f l n d e (omega arith)
 
 pub accepts-one : (v : ℕ) → accepts KBWG v ≡ true → acceptsBit KBWG v ≡ 1
 accepts-one v e = eqb-true (acceptsBit KBWG v) 1 e

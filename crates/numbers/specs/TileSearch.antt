@@ -100,7 +100,7 @@ module _ (g : Graph) (nodes counted : List ℕ) (walk : Walkable g nodes counted
   map-tail t (x ∷ ws) w m =
       ⊎-elim (λ i. (x, List·Memᴰ·head refl, i)) (λ k. let r = map-tail t ws w k in (r .0, List·Memᴰ·tail (r .1), r .2)) (List·Memᴰ·cases-cons m)
 
-  -- "the tile alone" is spelled only by a node that accepts
+  -- "its tile alone" is spelled only by a node that accepts
   pub alone : (v : ℕ) → accepts KBWG v ≡ false → List·Memᴰ (tile KBWG v ∷ []) (spelled KBWG W v) → ⊥
   alone v a m =
       split (eqb (arc KBWG v) 0)
