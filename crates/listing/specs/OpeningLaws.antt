@@ -20,8 +20,8 @@ use Rattle.load.specs.FinishLaws.{finished-within}
 use Rattle.load.specs.Loading.{finish}
 use Rattle.load.specs.Said.{saidBegin, saidFinish}
 use Rattle.count.specs.Said.{limit}
-use Rattle.pieces.specs.Pieces.{Loads, loadWhole, oneFeed}
-use Rattle.pieces.specs.Said.{loadedAs}
+use Rattle.pieces.specs.Pieces.{Loads, loadPieces, fedPieces}
+use Rattle.pieces.specs.Said.{leaves, loadedAs}
 use Rattle.pieces.specs.declared.Loaded.{Loaded as LoadedInPieces}
 use Rattle.graph.specs.TableLaws.{table-length, table-at}
 use Rattle.numbers.specs.NumberedLaws.{counted-lent}
@@ -33,7 +33,7 @@ use Rattle.listing.specs.declared.opening.Loaded.{Loaded}
 use Rattle.listing.specs.declared.opening.Loaded.the-variants.{Nodes, Refused as LoadRefused}
 
 -- ---- the load
-module _ {l : Loads} (r : LoadedInPieces) {nodes : List ℕ} (h : loadedAs r nodes ≡ l) where
+module _ {l : Loads} (r : LoadedInPieces) (lent : List ℕ) {answers nodes : List ℕ} (h : loadedAs r answers nodes ≡ leaves lent l) where
   pub begin-refused : (n : ℕ) {vs : List ℕ} → saidBegin (r .begun) ≡ refused n vs → LoadsAs l (LoadRefused n) nodes
   begin-refused n {vs} e =
       let b : l .begun ≡ refused n vs = sym (ap (λ x. x .begun) h) ∙ e in
@@ -53,10 +53,10 @@ last-gives (refused k vs) b e = let z : _≡_ {A = ℕ} 0 1 = cc in absurd (omeg
 
 pub loaded-within : (input lentNodes : List ℕ) {n : ℕ} → loadAnswer (load input lentNodes) ≡ gives (n ∷ [])
     → n ≤ length (load input lentNodes .nodes)
-unfolding loadWhole
+unfolding loadPieces
 loaded-within input lentNodes e =
     let l = load input lentNodes in
-    let fed = oneFeed (length input) Kwg lentNodes input in
+    let fed = fedPieces (length input) Kwg lentNodes (input ∷ []) in
     finished-within (fed .state) (fed .nodes) (last-gives (l .begun) (l .finished) e)
 
 pub nodes-within : (input lentNodes : List ℕ) {nodes : List ℕ} {n : ℕ} → LoadsAs (load input lentNodes) (Nodes n) nodes → n ≤ length nodes

@@ -29,7 +29,7 @@ pub enum Loaded {
 fn load(input: &[u8], nodes: &mut [u32]) -> Loaded
     ensures { λ r. ⌜ LoadsAs (loading (now (input .entry)) (now (nodes .entry))) r (now (nodes .exit)) ⌝ }
 {
-    let loaded = pieces::load_in_pieces(input.len(), Layout::Kwg, input, &[], nodes);
+    let loaded = pieces::load_in_pieces(input.len(), Layout::Kwg, input, &[], &mut [], nodes);
     let begun = loaded.begun;
     let finished = loaded.finished;
     match begun {
