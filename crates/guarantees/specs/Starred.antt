@@ -20,7 +20,7 @@ use Rattle.lookup.specs.Steps.{lent, difference, sum}
 use Rattle.lookup.specs.Walks.{findIn, passed, indexFrom, wordIndex, wordsHere, turnIn, wordFrom, wordByIndex, stepTo}
 use Rattle.letters.specs.LetterBits.{letterBits, filled, tilesOf}
 use Rattle.letters.specs.AlphaSets.{copies, spent, ended, completes, closing, along, crossCopies, crossLetters, crossFrom, crossSet}
-use Rattle.pieces.specs.Pieces.{Loads, loadWhole, oneFeed}
+use Rattle.pieces.specs.Pieces.{Loads, loadPieces, loadWhole, fedPieces, feedAll}
 use Rattle.export.specs.Starts.{start}
 use Rattle.export.specs.Blocks.{met, blockAt}
 use Rattle.export.specs.Latin1.{byteOf}
@@ -100,5 +100,5 @@ cases =
     ∷ []
 
 pub starred : All Holds cases
-unfolding cases fits fitting run inOrder spelled wordsWithin words table loadWhole oneFeed begin feed finish firstOf holding stateAfter nodesAfter wholeNodes partNode firstMisfit zeros largestArc lastEnds lent difference sum findIn passed indexFrom wordIndex wordsHere turnIn wordFrom wordByIndex stepTo bitSet letterBits filled tilesOf copies spent ended completes closing along crossCopies crossLetters crossFrom crossSet insertedAll met blockAt letters letterOf arcsOf setOf blocks sets blockOf macondoNodes byteOf runs child lxdNode lxdNodes
+unfolding cases fits fitting run inOrder spelled wordsWithin words table loadPieces fedPieces feedAll begin feed finish firstOf holding stateAfter nodesAfter wholeNodes partNode firstMisfit zeros largestArc lastEnds lent difference sum findIn passed indexFrom wordIndex wordsHere turnIn wordFrom wordByIndex stepTo bitSet letterBits filled tilesOf copies spent ended completes closing along crossCopies crossLetters crossFrom crossSet insertedAll met blockAt letters letterOf arcsOf setOf blocks sets blockOf macondoNodes byteOf runs child lxdNode lxdNodes
 starred = (refl, (refl, (refl, (refl, (refl, (refl, (refl, (refl, (refl, (refl, (refl, tt)))))))))))

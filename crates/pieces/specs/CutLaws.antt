@@ -1,19 +1,20 @@
 -- A file cut at given lengths, and loaded so.
 use mathlib.Core.Path.{_≡_, refl, sym, ap, _∙_}
-use mathlib.Core.List.{List, [], _∷_, _++_, append-nil}
-use Prim.Native.Nat.{ℕ, _+_, _-_, _≤_, _<_, min}
+use mathlib.Core.List.{List, [], _∷_, _++_, append-nil, map}
+use Prim.Native.Nat.{ℕ, zero, suc, _+_, _-_, _≤_, _<_, min}
 use native.Mathlib.Omega.{arith}
 use lib.Dec.{ltb}
 use native.Mathlib.Numerals.{add-one}
-use lib.ListN.{length, getD, take, drop, length-drop, drop-of-length-le, take-append-drop}
-use lib.Seq.{take-all, drop-drop, drop-cons}
+use lib.ListN.{length, getD, take, drop, set, length-drop, length-set, drop-of-length-le, take-append-drop}
+use lib.Seq.{sets, take-all, drop-drop, drop-cons, set-out}
 use borrow.Author.Tests.{ltb-true, ltb-false}
 use Rattle.laws.specs.Lists.{joinAll}
 use Rattle.laws.specs.Cases.{split}
 use Rattle.node.specs.declared.Layout.{Layout}
 use Rattle.graph.specs.Runs.{Graph}
-use Rattle.pieces.specs.Pieces.{feedAll, fedPieces, fedWhole, joined, oneFeed, Loads, loadPieces, loadWhole, cutAt}
-use Rattle.pieces.specs.PiecesLaws.{loads-as-whole, loads-however-cut}
+use Rattle.pieces.specs.Pieces.{feedAll, fedPieces, LoadsHoweverCut, loadPieces, cutAt}
+use Rattle.pieces.specs.PiecesLaws.{loads-however-cut}
+use Rattle.pieces.specs.Said.{refusalIn, Left, leaves}
 use Rattle.load.specs.Loading.{Begins, begin, Feeds, feed, Finishes, finish}
 use Rattle.load.specs.declared.loader.Loader.{Loader}
 
@@ -37,51 +38,51 @@ cut-piece bytes from c end h e =
       drop-of-length-le bytes {i = end} (omega arith) ∙ sym (drop-of-length-le (drop from bytes) {i = c} (omega arith)),
     ))
 
--- ---- the load in pieces is the load in one piece
-pub pieces-as-whole : (announced : ℕ) (layout : Layout) (nodes : Graph) (pieces : List (List ℕ))
-    → loadPieces announced layout nodes pieces ≡ loadWhole announced layout nodes (joined announced layout nodes pieces)
-unfolding loadPieces loadWhole fedWhole oneFeed
-pieces-as-whole announced layout nodes pieces =
-    let l = loads-as-whole announced layout nodes pieces in
-    rw (l .state, l .table)
+-- a file of the announced length loads as in one piece, wherever it is cut
+pub cut-anywhere : (layout : Layout) (nodes : Graph) (cuts bytes : List ℕ) → LoadsHoweverCut layout nodes bytes (cutAt cuts bytes)
+cut-anywhere layout nodes cuts bytes = rw (cut-joins cuts bytes) at (loads-however-cut layout nodes (cutAt cuts bytes))
 
-cut-as-whole : (layout : Layout) (nodes : Graph) (cuts bytes : List ℕ)
-    → loadPieces (length bytes) layout nodes (cutAt cuts bytes) ≡ loadWhole (length bytes) layout nodes bytes
-unfolding loadPieces loadWhole
-cut-as-whole layout nodes cuts bytes =
-    let l = rw (cut-joins cuts bytes) at (loads-however-cut layout nodes (cutAt cuts bytes)) in
-    rw (l .state, l .table)
+-- ---- values written into a list that has no room for them
+sets-past : (l xs : List ℕ) (i : ℕ) → length l ≤ i → sets l i xs ≡ l
+sets-past l [] i h = refl
+sets-past l (x ∷ xs) i h = rw (set-out l i x h) (sets-past l xs (suc i) (omega arith))
 
-pub as-whole : (layout : Layout) (nodes : Graph) (cuts bytes : List ℕ) {announced : ℕ} → announced ≡ length bytes
-    → loadPieces announced layout nodes (cutAt cuts bytes) ≡ loadWhole announced layout nodes bytes
-as-whole layout nodes cuts bytes e = rw e (cut-as-whole layout nodes cuts bytes)
+sets-room : (l : List ℕ) (n : ℕ) (xs : List ℕ) (i : ℕ) → length l ≤ i + n → sets l i (take n xs) ≡ sets l i xs
+sets-room l zero xs i h = sym (sets-past l xs i (omega arith))
+sets-room l (suc n) [] i h = refl
+sets-room l (suc n) (x ∷ xs) i h = let e = length-set l i x in sets-room (set l i x) n xs (suc i) (omega arith)
 
 -- ---- the feeds of the pieces, one at a time
-abbrev pub lastState : Loader → Graph → List ℕ → List ℕ → Loader
-lastState s nodes cuts bytes = feedAll s nodes (cutAt cuts bytes) .state
+-- what the feeds from piece i on leave: their answers told from place i on, the state and the nodes
+abbrev pub fedFrom : List ℕ → ℕ → Loader → Graph → List ℕ → List ℕ → List ℕ × Loader × Graph
+fedFrom answers i s nodes cuts bytes =
+    let all = feedAll s nodes (cutAt cuts bytes) in
+    (sets answers i (map refusalIn (all .answers)), all .state, all .nodes)
 
-abbrev pub lastNodes : Loader → Graph → List ℕ → List ℕ → Graph
-lastNodes s nodes cuts bytes = feedAll s nodes (cutAt cuts bytes) .nodes
-
-module _ (s : Loader) (nodes : Graph) (cuts bytes : List ℕ) (i from : ℕ) where
-  pub feed-next : (end : ℕ) {after : Feeds} → i < length cuts → from ≤ length bytes → end ≡ min (from + getD cuts i 0) (length bytes)
-      → after ≡ feed s nodes (take (end - from) (drop from bytes))
-      → (lastState (after .state) (after .nodes) (drop (i + 1) cuts) (drop end bytes) ≡ lastState s nodes (drop i cuts) (drop from bytes))
-      × (lastNodes (after .state) (after .nodes) (drop (i + 1) cuts) (drop end bytes) ≡ lastNodes s nodes (drop i cuts) (drop from bytes))
+module _ (answers : List ℕ) (s : Loader) (nodes : Graph) (cuts bytes : List ℕ) (i from : ℕ) where
+  pub feed-next : (end : ℕ) {after : Feeds} {more : List ℕ} → i < length cuts → from ≤ length bytes
+      → end ≡ min (from + getD cuts i 0) (length bytes) → after ≡ feed s nodes (take (end - from) (drop from bytes))
+      → more ≡ set answers i (refusalIn (after .answer))
+      → fedFrom more (i + 1) (after .state) (after .nodes) (drop (i + 1) cuts) (drop end bytes) ≡ fedFrom answers i s nodes (drop i cuts) (drop from bytes)
   unfolding feedAll cutAt
-  feed-next end h l e f =
+  feed-next end h l e f t =
       let p = cut-piece bytes from (getD cuts i 0) end l e in
-      rw (f, p .0, p .1, add-one, drop-cons cuts i 0 h) (refl, refl)
+      rw (t, f, p .0, p .1, add-one, drop-cons cuts i 0 h)
 
-  pub feed-rest : {after : Feeds} → length cuts ≤ i → after ≡ feed s nodes (drop from bytes)
-      → (after .state ≡ lastState s nodes (drop i cuts) (drop from bytes)) × (after .nodes ≡ lastNodes s nodes (drop i cuts) (drop from bytes))
+  pub feed-rest : {after : Feeds} {more : List ℕ} → length cuts ≤ i → after ≡ feed s nodes (drop from bytes)
+      → more ≡ set answers i (refusalIn (after .answer))
+      → (more, after .state, after .nodes) ≡ fedFrom answers i s nodes (drop i cuts) (drop from bytes)
   unfolding feedAll cutAt
-  feed-rest h f = rw (f, drop-of-length-le cuts h) (refl, refl)
+  feed-rest h f t = rw (t, f, drop-of-length-le cuts h)
 
 -- what begin, the feeds and finish leave is the load in pieces
-pub loaded : (announced : ℕ) (layout : Layout) (nodes : Graph) (cuts bytes : List ℕ) {b : Begins} {s : Loader} {after : Graph} {last : Finishes}
-    → b ≡ begin announced layout (length nodes) → s ≡ lastState (b .state) nodes cuts bytes → after ≡ lastNodes (b .state) nodes cuts bytes
+pub loaded : (announced : ℕ) (layout : Layout) (nodes : Graph) (cuts bytes lent answers : List ℕ)
+    {b : Begins} {s : Loader} {after : Graph} {last : Finishes}
+    → b ≡ begin announced layout (length nodes) → (answers, s, after) ≡ fedFrom lent 0 (b .state) nodes cuts bytes
     → last ≡ finish s after
-    → _≡_ {A = Loads} (record { begun = b .answer; state = s; finished = last .answer; nodes = last .nodes }) (loadPieces announced layout nodes (cutAt cuts bytes))
+    → _≡_ {A = Left} (record { begun = b .answer; answers = answers; state = s; finished = last .answer; nodes = last .nodes })
+    (leaves lent (loadPieces announced layout nodes (cutAt cuts bytes)))
 unfolding loadPieces fedPieces
-loaded announced layout nodes cuts bytes p q r t = rw (t, q, r, p)
+loaded announced layout nodes cuts bytes lent answers p q t =
+    let all = feedAll (begin announced layout (length nodes) .state) nodes (cutAt cuts bytes) in
+    rw (t, ap (λ x. x .0) q, ap (λ x. x .1) q, ap (λ x. x .2) q, p, sets-room lent (length lent) (map refusalIn (all .answers)) 0 (omega arith))

@@ -104,26 +104,31 @@ pub record LoadsHoweverCut (layout : Layout) (nodes : Graph) (file : List ℕ) (
       ≡ map (λ bytes. oneFeed (length file) layout nodes bytes .answer) (upToEach [] pieces)
 
 -- ---- begin, feeds and finish together
+-- What begin, each feed and finish answer, the state after the last feed, and the nodes after finish.
 pub record Loads : Type 0 where
   pub begun : Answer
+  pub fed : List Answer
   pub state : Loader
   pub finished : Answer
   pub nodes : Graph
 
-abbrev pub finishLoad : Answer → Loader → Graph → Loads
-finishLoad begun s nodes =
-    let last = finish s nodes in
-    record { begun = begun; state = s; finished = last .answer; nodes = last .nodes }
-
 unfoldable pub loadPieces : ℕ → Layout → Graph → List (List ℕ) → Loads
 loadPieces announced layout nodes pieces =
-    finishLoad (begin announced layout (length nodes) .answer) (fedPieces announced layout nodes pieces .state) (fedPieces announced layout nodes pieces .nodes)
+    let all = fedPieces announced layout nodes pieces in
+    let last = finish (all .state) (all .nodes) in
+    record {
+      begun = begin announced layout (length nodes) .answer;
+      fed = all .answers;
+      state = all .state;
+      finished = last .answer;
+      nodes = last .nodes;
+    }
 
-unfoldable pub loadWhole : ℕ → Layout → Graph → List ℕ → Loads
-loadWhole announced layout nodes bytes =
-    finishLoad (begin announced layout (length nodes) .answer) (oneFeed announced layout nodes bytes .state) (oneFeed announced layout nodes bytes .nodes)
+-- all bytes as one piece
+abbrev pub loadWhole : ℕ → Layout → Graph → List ℕ → Loads
+loadWhole announced layout nodes bytes = loadPieces announced layout nodes (bytes ∷ [])
 
--- pieces of so many bytes each, and the rest as a last one; "A cut past the end takes what is there"
+-- pieces of so many bytes each, and the rest as a last one; a piece past the end has the bytes that are there
 unfoldable pub cutAt : List ℕ → List ℕ → List (List ℕ)
 cutAt [] bytes = bytes ∷ []
 cutAt (c ∷ cs) bytes = take c bytes ∷ cutAt cs (drop c bytes)

@@ -252,7 +252,7 @@ module _ (layout : Layout) (nodes : Graph) (pieces : List (List ℕ)) where
       → LoadsHoweverCut layout nodes (joinAll pieces) pieces
   cut s after a said p w n = record { state = rw (p, w); table = rw (p, w); finished = rw (p, w); answered = rw p n }
 
-  -- "however a graph file is cut it ends as in one piece"
+  -- however a graph file is cut, it ends as in one piece
   pub loads-however-cut : LoadsHoweverCut layout nodes (joinAll pieces) pieces
   loads-however-cut =
       let announced = length (joinAll pieces) in

@@ -1,8 +1,43 @@
--- What a load in pieces leaves, in the terms of its definition.
+-- What a load in pieces leaves: the terms of its definition, with each feed's answer told by a number.
+use mathlib.Core.List.{List, map}
+use Prim.Native.Nat.{ℕ}
+use lib.ListN.{length, take}
+use lib.Seq.{sets}
+use Rattle.node.specs.Answers.{Answer, gives, nothing, refused}
 use Rattle.graph.specs.Runs.{Graph}
 use Rattle.load.specs.Said.{saidBegin, saidFinish}
+use Rattle.load.specs.declared.loader.Loader.{Loader}
 use Rattle.pieces.specs.Pieces.{Loads}
 use Rattle.pieces.specs.declared.Loaded.{Loaded}
 
-abbrev pub loadedAs : Loaded → Graph → Loads
-loadedAs r nodes = record { begun = saidBegin (r .begun); state = r .loader; finished = saidFinish (r .finished); nodes = nodes }
+-- an answer as one number: that of its refusal, or 0
+abbrev pub refusalIn : Answer → ℕ
+refusalIn (gives vs) = 0
+refusalIn nothing = 0
+refusalIn (refused n vs) = n
+
+-- the numbers of the answers at the front of a lent list, as many as it has room for; "entries past that stay"
+abbrev pub told : List ℕ → List Answer → List ℕ
+told lent answers = sets lent 0 (take (length lent) (map refusalIn answers))
+
+pub record Left : Type 0 where
+  pub begun : Answer
+  pub answers : List ℕ
+  pub state : Loader
+  pub finished : Answer
+  pub nodes : Graph
+
+-- what a load leaves, over a list lent for the feeds' answers
+abbrev pub leaves : List ℕ → Loads → Left
+leaves lent l = record { begun = l .begun; answers = told lent (l .fed); state = l .state; finished = l .finished; nodes = l .nodes }
+
+-- what the call left: its result and the two lists
+abbrev pub loadedAs : Loaded → List ℕ → Graph → Left
+loadedAs r answers nodes =
+    record {
+      begun = saidBegin (r .begun);
+      answers = answers;
+      state = r .loader;
+      finished = saidFinish (r .finished);
+      nodes = nodes;
+    }

@@ -1,10 +1,12 @@
 // A whole load, its file cut into pieces: what the calls of a loader come to.
 ghost use mathlib.Core.Path.{_≡_};
 ghost use Prim.Native.Nat.{_+_, _≤_, min};
-ghost use lib.ListN.{length};
-ghost use Rattle.pieces.specs.Pieces.{joined, cutAt, loadWhole};
-ghost use Rattle.pieces.specs.Said.{loadedAs};
+ghost use lib.ListN.{set};
+ghost use Rattle.load.specs.Said.{saidFeed};
+ghost use Rattle.pieces.specs.Pieces.{cutAt, loadPieces};
+ghost use Rattle.pieces.specs.Said.{refusalIn, leaves, loadedAs};
 use load::BeginAnswer;
+use load::FeedAnswer;
 use load::Finished;
 use load::Loader;
 use node::Layout;
@@ -16,47 +18,72 @@ pub struct Loaded {
     pub finished: Finished,
 }
 
-fn piece_end(from: usize, cut: u32, length: usize) -> usize
-    requires { ⌜ from ≤ «length» ⌝ }
-    ensures { λ r. ⌜ r ≡ min (from + cut) «length» ⌝ }
+fn piece_end(from: usize, cut: u32, end: usize) -> usize
+    requires { ⌜ from ≤ end ⌝ }
+    ensures { λ r. ⌜ r ≡ min (from + cut) end ⌝ }
 {
     let cut = cut as usize;
-    if cut < length - from {
-        from + cut
-    } else {
-        length
+    if cut < end - from { from + cut } else { end }
+}
+
+fn feed_refusal(answer: FeedAnswer) -> u32
+    ensures { λ r. ⌜ r ≡ refusalIn (saidFeed answer) ⌝ }
+{
+    match answer {
+        FeedAnswer::Taken => 0,
+        FeedAnswer::BadState => 4,
+        FeedAnswer::TooLong => 5,
+        FeedAnswer::DoesNotFit {
+            node: _,
+            tile: _,
+            arc_index: _,
+        } => 6,
     }
 }
 
-// Feeds the bytes in pieces of the lengths in cuts and then the rest; a cut past the end takes what is there.
+// Puts a feed's answer at its place, if the list has that place.
+fn tell(answers: &mut [u32], place: usize, answer: FeedAnswer)
+    ensures { λ r. ⌜ now (answers .exit) ≡ set (now (answers .entry)) place (refusalIn (saidFeed answer)) ⌝ }
+{
+    let number = feed_refusal(answer);
+    if place < answers.len() {
+        answers[place] = number;
+    }
+}
+
+// Feeds the bytes in pieces of the lengths in cuts and then the rest; a cut past the end takes what is there. Each feed's answer goes
+// to answers, in order: its refusal's number, or 0. Where answers is shorter than the feeds are many, the later ones are not told.
 pub fn load_in_pieces(
     announced: usize,
     layout: Layout,
     bytes: &[u8],
     cuts: &[u32],
+    answers: &mut [u32],
     nodes: &mut [u32],
 ) -> Loaded
-    ensures as_joined { λ r. ⌜ loadedAs r (now (nodes .exit)) ≡ loadWhole announced layout (now (nodes .entry)) (joined announced layout (now (nodes .entry)) (cutAt (now (cuts .entry)) (now (bytes .entry)))) ⌝ }
-    ensures as_whole_file { λ r. ⌜ (announced ≡ length (now (bytes .entry)) → loadedAs r (now (nodes .exit)) ≡ loadWhole announced layout (now (nodes .entry)) (now (bytes .entry))) ⌝ }
+    ensures { λ r. ⌜ loadedAs r (now (answers .exit)) (now (nodes .exit)) ≡ leaves (now (answers .entry)) (loadPieces announced layout (now (nodes .entry)) (cutAt (now (cuts .entry)) (now (bytes .entry)))) ⌝ }
 {
     let begun = Loader::begin(announced, layout, nodes);
-    let answer = begun.answer;
+    let begin_answer = begun.answer;
     let mut loader = begun.loader;
     let mut from: usize = 0;
     let mut i: usize = 0;
     while i < cuts.len() {
-        let cut = cuts[i];
-        i += 1;
-        let end = piece_end(from, cut, bytes.len());
+        let end = piece_end(from, cuts[i], bytes.len());
         let fed = loader.feed(&bytes[from..end], nodes);
+        let answer = fed.answer;
+        tell(answers, i, answer);
         loader = fed.loader;
         from = end;
+        i += 1;
     }
     let fed = loader.feed(&bytes[from..], nodes);
+    let answer = fed.answer;
+    tell(answers, i, answer);
     let last = fed.loader;
     let finished = last.finish(nodes);
     Loaded {
-        begun: answer,
+        begun: begin_answer,
         loader: last,
         finished,
     }

@@ -1,45 +1,36 @@
+-- `load_in_pieces` meets its contract: the feeds that are left, from the state, nodes and answers reached, leave what all feeds leave.
 use borrow.Author.Needs.{needs}
 use native.Mathlib.Omega.{arith}
-use mathlib.Core.Path.{_≡_, refl, ap, _∙_}
-use Prim.Native.Nat.{_-_, _≤_}
+use mathlib.Core.Path.{_≡_, ap, _∙_}
+use Prim.Native.Nat.{_-_, _≤_, _<_}
 use lib.ListN.{length, drop, length-drop}
 use lib.Seq.{take-all}
 use Rattle.load.specs.Loading.{feed}
-use Rattle.pieces.specs.CutLaws.{lastState, lastNodes, feed-next, feed-rest, loaded, pieces-as-whole, as-whole}
-use Rattle.pieces.specs.Pieces.{cutAt}
+use Rattle.pieces.specs.CutLaws.{fedFrom, feed-next, feed-rest, loaded}
 use Rattle.pieces.proofs.load_in_pieces.Statement.{statement}
 use Rattle.pieces.proofs.load_in_pieces.Tie as tie
-use Rattle.pieces.proofs.load_in_pieces.Reads as reads
-use Rattle.pieces.proofs.load_in_pieces.Lts as lts
-use Rattle.load.proofs.loader.Loader.begin.Reads as begin-reads
-use Rattle.load.proofs.loader.Loader.feed.Reads as feed-reads
-use Rattle.load.proofs.loader.Loader.finish.Reads as finish-reads
-use Rattle.pieces.proofs.piece_end.Reads as piece-end-reads
 
 abbrev Inv-loop : tie.InvT-loop
-Inv-loop announced bytes cuts nodes₀ answer loader₀ from₀ i₀ nodes loader from i = (i ≤ length cuts)
+Inv-loop announced bytes cuts answers₀ nodes₀ begin-answer loader₀ from₀ i₀ answers nodes loader from i = (i ≤ length cuts)
     × (from ≤ length bytes)
+    × (length answers ≡ length answers₀)
     × (length nodes ≡ length nodes₀)
-    × (lastState loader nodes (drop i cuts) (drop from bytes) ≡ lastState loader₀ nodes₀ cuts bytes)
-    × (lastNodes loader nodes (drop i cuts) (drop from bytes) ≡ lastNodes loader₀ nodes₀ cuts bytes)
+    × (fedFrom answers i loader nodes (drop i cuts) (drop from bytes) ≡ fedFrom answers₀ 0 loader₀ nodes₀ cuts bytes)
 
 abbrev μ-loop : tie.MeasureT-loop
-μ-loop announced bytes cuts nodes₀ answer loader₀ from₀ i₀ nodes loader from i = length cuts - i
+μ-loop announced bytes cuts answers₀ nodes₀ begin-answer loader₀ from₀ i₀ answers nodes loader from i = length cuts - i
 
 begin-requires : tie.Need-begin-requires Inv-loop μ-loop
 begin-requires c κs = search needs
 
 loop-holds : tie.Need-loop-holds Inv-loop μ-loop
-loop-holds c = (omega arith, omega arith, refl, refl, refl)
+loop-holds c = search needs
 
-mul-cut : tie.Need-mul-cut Inv-loop μ-loop
-mul-cut c = search needs
+mul-piece-end : tie.Need-mul-piece-end Inv-loop μ-loop
+mul-piece-end c = search needs
 
-shared-slice-read-cut : tie.Need-shared-slice-read-cut Inv-loop μ-loop
-shared-slice-read-cut c = search needs
-
-add-i : tie.Need-add-i Inv-loop μ-loop
-add-i c = search needs
+shared-slice-read-piece-end : tie.Need-shared-slice-read-piece-end Inv-loop μ-loop
+shared-slice-read-piece-end c = search needs
 
 piece-end-requires : tie.Need-piece-end-requires Inv-loop μ-loop
 piece-end-requires c κs = search needs
@@ -56,15 +47,40 @@ part-feed-end c = search needs
 feed-requires : tie.Need-feed-requires Inv-loop μ-loop
 feed-requires c κs = search needs
 
+tell-requires : tie.Need-tell-requires Inv-loop μ-loop
+tell-requires c κs = search needs
+
+abbrev start : tie.At-loop Inv-loop μ-loop → tie.Start Inv-loop μ-loop
+start c = c .before .before .before .before .before .before .before .before
+
+-- once a piece is fed and its answer is told
+abbrev turn : tie.After-tell Inv-loop μ-loop → tie.In-loop Inv-loop μ-loop
+turn c = c .before .before .before .before .before .before .before .before .before
+
+one-more : (c : tie.After-tell Inv-loop μ-loop) → turn c .before .loop .i < length (start (turn c .before) .args .cuts .now)
+one-more c = turn c .loop-test .taken
+
+add-i : tie.Need-add-i Inv-loop μ-loop
+add-i c = let m = c .before .before .before in omega (arith, one-more m, start (turn m .before) .good .1 .1 .1 .0 .0)
+
 loop-less : tie.Need-loop-less Inv-loop μ-loop
-loop-less c = search needs
+loop-less c = omega (arith, one-more (c .before .before .before))
 
 loop-again : tie.Need-loop-again Inv-loop μ-loop
-loop-again c = let a = c .before .before .before .before .before .before .before .before .before .before .before .before .before .before .before .before .args in
-    let l = c .before .before .before .before .before .before .before .before .before .loop in
-    let fed = c .before .before .before .feed in
-    let n = feed-next (l .loader) (l .nodes) (a .cuts .now) (a .bytes .now) (l .i) (l .from) (c .before .before .before .before .before .before .piece-end .result) (c .before .before .before .before .before .before .before .before .loop-test .taken) (l .inv .1) (c .before .before .before .before .before .before .piece-end .ensures) (fed .ensures) in
-    (omega (arith, c .before .before .before .before .before .before .before .before .loop-test .taken), omega (arith, c .before .before .before .before .before .before .piece-end .ensures), fed .kept .1 .1 .0 ∙ l .inv .2, n .0 ∙ l .inv .3, n .1 ∙ l .inv .4)
+loop-again c = let m = c .before .before .before in
+    let a = start (turn m .before) .args in
+    let l = turn m .before .loop in
+    let end = m .before .before .before .before .before .before .before .piece-end in
+    let fed = m .before .before .before .before .feed in
+    let next =
+    feed-next (l .answers) (l .loader) (l .nodes) (a .cuts .now) (a .bytes .now) (l .i) (l .from) (end .result)
+    (one-more m) (l .inv .1) (end .ensures) (fed .ensures) (m .tell .ensures) in (
+      omega (arith, one-more m),
+      omega (arith, end .ensures),
+      m .tell .kept .0 ∙ l .inv .2,
+      fed .kept .1 .1 .0 ∙ l .inv .3,
+      next ∙ l .inv .4,
+    )
 
 sub-feed-2 : tie.Need-sub-feed-2 Inv-loop μ-loop
 sub-feed-2 c = search needs
@@ -78,22 +94,34 @@ part-feed-end-2 c = search needs
 feed-requires-2 : tie.Need-feed-requires-2 Inv-loop μ-loop
 feed-requires-2 c κs = search needs
 
+tell-requires-2 : tie.Need-tell-requires-2 Inv-loop μ-loop
+tell-requires-2 c κs = search needs
+
 finish-requires : tie.Need-finish-requires Inv-loop μ-loop
 finish-requires c κs = search needs
 
 same-length : tie.Need-same-length Inv-loop μ-loop
 same-length c = search needs
 
+same-length-2 : tie.Need-same-length-2 Inv-loop μ-loop
+same-length-2 c = search needs
+
+-- once the rest is fed and its answer is told
+abbrev ended : tie.After-tell2 Inv-loop μ-loop → tie.After-loop Inv-loop μ-loop
+ended c = c .before .before .before .before .before .before .before
+
 returns : tie.Need-returns Inv-loop μ-loop
-returns c = let a = c .before .before .before .before .before .before .before .before .before .before .before .before .before .before .before .before .before .before .args in
-    let l = c .before .before .before .before .before .before .before .before .before .before .before .loop in
+returns c = let m = c .before .before .before .before .before .before .before in
+    let at = ended m .before in
+    let a = start at .args in
+    let l = at .loop in
     let bytes = a .bytes .now in
     let rest = take-all (length bytes - l .from) (drop (l .from) bytes) (simp length-drop (omega arith)) in
-    let r = feed-rest (l .loader) (l .nodes) (a .cuts .now) bytes (l .i) (l .from) (c .before .before .before .before .before .before .before .before .before .before .loop-test .left) (c .before .before .before .before .before .before .before .feed2 .ensures ∙ ap (feed (l .loader) (l .nodes)) rest) in
-    let p = loaded (a .announced) (a .layout) (a .nodes .now) (a .cuts .now) bytes (c .before .before .before .before .before .before .before .before .before .before .before .before .before .begin .ensures) (r .0 ∙ l .inv .3) (r .1 ∙ l .inv .4) (c .before .before .finish .ensures) in (
-      p ∙ pieces-as-whole (a .announced) (a .layout) (a .nodes .now) (cutAt (a .cuts .now) bytes),
-      λ e. p ∙ as-whole (a .layout) (a .nodes .now) (a .cuts .now) bytes e,
-    )
+    let r =
+    feed-rest (l .answers) (l .loader) (l .nodes) (a .cuts .now) bytes (l .i) (l .from) (ended m .loop-test .left)
+    (m .before .before .before .before .feed2 .ensures ∙ ap (feed (l .loader) (l .nodes)) rest) (m .tell2 .ensures) in
+    loaded (a .announced) (a .layout) (a .nodes .now) (a .cuts .now) bytes (a .answers .now) _
+    (at .before .before .begin .ensures) (r ∙ l .inv .4) (c .before .before .finish .ensures)
 
 pub load-in-pieces-spec : {M : Type 1} → statement M
 load-in-pieces-spec =
@@ -103,20 +131,23 @@ load-in-pieces-spec =
     μ-loop
     begin-requires
     loop-holds
-    mul-cut
-    shared-slice-read-cut
-    add-i
+    mul-piece-end
+    shared-slice-read-piece-end
     piece-end-requires
     sub-feed
     part-feed-start
     part-feed-end
     feed-requires
+    tell-requires
+    add-i
     loop-less
     loop-again
     sub-feed-2
     part-feed-start-2
     part-feed-end-2
     feed-requires-2
+    tell-requires-2
     finish-requires
     same-length
+    same-length-2
     returns)
