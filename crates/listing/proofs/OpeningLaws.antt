@@ -24,7 +24,7 @@ use Rattle.load.specs.declared.loader.Finished.{Finished}
 use Rattle.load.specs.declared.loader.Begun.{Begun}
 use Rattle.load.specs.declared.loader.Fed.{Fed}
 use Rattle.count.specs.Said.{limit}
-use Rattle.pieces.specs.Pieces.{Loads, loadWhole, oneFeed}
+use Rattle.pieces.specs.Pieces.{Loads, feedAll, fedPieces, loadPieces, oneFeed}
 use Rattle.graph.specs.TableLaws.{table-length, table-at}
 use Rattle.numbers.specs.NumberedLaws.{counted-lent}
 use Rattle.listing.specs.Wordlist.{start, startWords, mostBytes, load, lastAnswer, loadAnswer, RefusesBy, CountWork, ReadInto, longer, unloaded, uncounted, counted, refuses, lists}
@@ -45,7 +45,7 @@ pub record Answered (l : Loads) (begun : BeginAnswer) (finished : Finished) (nod
 pub whole-load : (input lentNodes : List ℕ) (b : Begun) (f : Fed) (finished : Finished) {fedNodes nodes : List ℕ}
     → begunAs b ≡ begin (length input) Kwg (length lentNodes) → fedAs f fedNodes ≡ feed (b .loader) lentNodes input
     → finishedAs finished nodes ≡ finish (f .loader) fedNodes → Answered (load input lentNodes) (b .answer) finished nodes
-unfolding loadWhole oneFeed
+unfolding loadPieces fedPieces feedAll oneFeed
 whole-load input lentNodes b f finished {fedNodes} {nodes} e d g =
     let s : b .loader ≡ begin (length input) Kwg (length lentNodes) .state = ap (λ x. x .state) e in
     let fed : fedAs f fedNodes ≡ oneFeed (length input) Kwg lentNodes input = d ∙ ap (λ x. feed x lentNodes input) s in
@@ -73,7 +73,7 @@ last-gives (refused k vs) b e = let z : _≡_ {A = ℕ} 0 1 = cc in absurd (omeg
 
 pub loaded-within : (input lentNodes : List ℕ) {n : ℕ} → loadAnswer (load input lentNodes) ≡ gives (n ∷ [])
     → n ≤ length (load input lentNodes .nodes)
-unfolding loadWhole
+unfolding loadPieces fedPieces feedAll oneFeed
 loaded-within input lentNodes e =
     let l = load input lentNodes in
     let fed = oneFeed (length input) Kwg lentNodes input in
