@@ -134,7 +134,16 @@ static void same_loader(const char *name, int line, machirsun_loader loader, mac
             name, line);
 }
 
+static void same_finished(const char *name, int line, machirsun_finished finished, machirsun_finished expected)
+{
+    compare(finished.refusal == expected.refusal && finished.arc == expected.arc && finished.nodes == expected.nodes &&
+                finished.node == expected.node && finished.tile == expected.tile,
+            name, line);
+}
+
+/* The fields that are not named are 0. */
 #define SAME_LOADER(loader, ...) same_loader(#loader, __LINE__, loader, (machirsun_loader){__VA_ARGS__})
+#define SAME_FINISHED(finished, ...) same_finished(#finished, __LINE__, finished, (machirsun_finished){__VA_ARGS__})
 
 static void begins(void)
 {
@@ -180,14 +189,14 @@ static void feeds_and_finishes(void)
     SAME(fed.refusal == MACHIRSUN_TOO_LONG && fed.arc == 0 && fed.node == 0 && fed.tile == 0);
     SAME_LOADER(fed.loader, .announced = 20, .taken = 7, .held_count = 3, .held = {0, 0, 0x40});
     finished = machirsun_finish(loader, LENT(nodes));
-    SAME(finished.refusal == MACHIRSUN_MISSING && finished.arc == 0 && finished.nodes == 0 && finished.node == 0 && finished.tile == 0);
+    SAME_FINISHED(finished, .refusal = MACHIRSUN_MISSING);
     SAME_LIST(nodes, (uint32_t[]){0x240, 7, 7, 7, 7, 7});
 
     fed = machirsun_feed(loader, FILE_OF_G + 7, 13, LENT(nodes));
     SAME(fed.refusal == 0 && fed.arc == 0 && fed.node == 0 && fed.tile == 0);
     SAME_LOADER(fed.loader, .announced = 20, .taken = 20);
     finished = machirsun_finish(fed.loader, LENT(nodes));
-    SAME(finished.refusal == 0 && finished.arc == 0 && finished.nodes == 5 && finished.node == 0 && finished.tile == 0);
+    SAME_FINISHED(finished, .nodes = 5);
     SAME_LIST(nodes, (uint32_t[]){0x240, 0x40, 0x481, 0x442, 0xC2, 7});
 }
 
@@ -206,8 +215,7 @@ static void keeps_a_refusal(void)
     SAME(fed.refusal == MACHIRSUN_DOES_NOT_FIT && fed.arc == 3 && fed.node == 1 && fed.tile == 64);
     SAME_LOADER(fed.loader, .announced = 8, .taken = 4, .node = 1, .refusal = MACHIRSUN_DOES_NOT_FIT, .arc = 3, .tile = 64);
     finished = machirsun_finish(fed.loader, LENT(nodes));
-    SAME(finished.refusal == MACHIRSUN_DOES_NOT_FIT && finished.arc == 3 && finished.nodes == 0);
-    SAME(finished.node == 1 && finished.tile == 64);
+    SAME_FINISHED(finished, .refusal = MACHIRSUN_DOES_NOT_FIT, .arc = 3, .node = 1, .tile = 64);
     SAME_LIST(nodes, (uint32_t[]){0x40, 7, 7});
 }
 
@@ -246,18 +254,15 @@ static void judges_nodes(void)
     static const uint8_t arc_2[8] = {0, 0, 0x40, 0, 2, 0, 0x40, 0}, no_end[8] = {0, 0, 0x40, 0, 0, 0, 0, 0};
     static const uint8_t kbwg[8] = {0x40, 1, 0, 0, 0xC3, 0, 0, 0};
     uint32_t nodes[3] = {7, 7, 7};
-    machirsun_finished finished;
 
-    SAME(finish_of(LENT(one), MACHIRSUN_KWG, LENT(nodes)).nodes == 2);
+    SAME_FINISHED(finish_of(LENT(one), MACHIRSUN_KWG, LENT(nodes)), .nodes = 2);
     SAME_LIST(nodes, (uint32_t[]){0x40, 0x40, 7});
-    SAME(finish_of(LENT(tile_63), MACHIRSUN_KWG, LENT(nodes)).nodes == 2);
+    SAME_FINISHED(finish_of(LENT(tile_63), MACHIRSUN_KWG, LENT(nodes)), .nodes = 2);
     SAME_LIST(nodes, (uint32_t[]){0x7F, 0x7F, 7});
-    SAME(finish_of(LENT(kbwg), MACHIRSUN_KBWG, LENT(nodes)).nodes == 2);
+    SAME_FINISHED(finish_of(LENT(kbwg), MACHIRSUN_KBWG, LENT(nodes)), .nodes = 2);
     SAME_LIST(nodes, (uint32_t[]){0x140, 0xC3, 7});
-    finished = finish_of(LENT(arc_2), MACHIRSUN_KWG, LENT(nodes));
-    SAME(finished.refusal == MACHIRSUN_ARC_PAST_END && finished.arc == 2 && finished.nodes == 0 && finished.node == 0 && finished.tile == 0);
-    finished = finish_of(LENT(no_end), MACHIRSUN_KWG, LENT(nodes));
-    SAME(finished.refusal == MACHIRSUN_NO_END && finished.arc == 0 && finished.nodes == 0 && finished.node == 0 && finished.tile == 0);
+    SAME_FINISHED(finish_of(LENT(arc_2), MACHIRSUN_KWG, LENT(nodes)), .refusal = MACHIRSUN_ARC_PAST_END, .arc = 2);
+    SAME_FINISHED(finish_of(LENT(no_end), MACHIRSUN_KWG, LENT(nodes)), .refusal = MACHIRSUN_NO_END);
 }
 
 static void repacks(void)

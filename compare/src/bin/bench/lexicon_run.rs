@@ -8,6 +8,10 @@ use machirsun::Format;
 const WORDS: usize = 200_000;
 const GADDAG_WORDS: usize = 40_000;
 
+// A lexicon that fits the nearest cache, gone through so often that its words add up to as many.
+const FEW: usize = 500;
+const AGAIN: usize = WORDS / FEW;
+
 pub fn print() {
     let mut random = Random::new(2026);
     let words = lexicon::made_up_words(&mut random, WORDS);
@@ -24,7 +28,12 @@ pub fn print() {
     bench.count();
     bench.words_to_numbers(&words);
     bench.numbers_to_words(&words);
-    bench.seek(&words, &mut random);
+    bench.seek_along("`seek`, along all words", &words, 1);
+    bench.seek_anywhere(&mut random);
+    let few: Words = words.iter().step_by(WORDS / FEW).cloned().collect();
+    let small = Bench::new(lexicon::dawg(&few));
+    let name = format!("`seek`, along {FEW} words {AGAIN} times");
+    small.seek_along(&name, &few, AGAIN);
     bench.run_cursor();
     bench.letter_bits();
     let alphagrams = Bench::new(lexicon::dawg(&alphagrams(&words)));

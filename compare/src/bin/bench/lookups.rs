@@ -62,42 +62,42 @@ impl Bench {
         row("number to word, all", times);
     }
 
-    // Along every word, where each step needs the one before; then at every node for any tile, which mostly is not there.
-    pub fn seek(&self, words: &Words, random: &mut Random) {
-        let (nodes, rust) = (&self.nodes, &self.rust);
-        let behind: extern "C" fn(&Graph, u32, u8) -> Sought = black_box(behind_a_call::seek);
-        let ours = |place, tile| machirsun::seek(nodes, place, tile).unwrap();
-        let theirs = |place: u32, tile| u32::try_from(rust.seek(place as i32, tile)).ok();
-        let called = |place, tile| {
-            let sought = behind(rust, place, tile);
-            sought.found.then_some(sought.place)
+    // Along every word, so often: each step needs the one before.
+    pub fn seek_along(&self, name: &str, words: &Words, times: usize) {
+        let seeks = Seeks::of(self);
+        let again = |along: &dyn Fn(&Vec<u8>) -> u32| {
+            (0..times).fold(0, |total, _| u32::wrapping_add(total, sum(words, along)))
         };
-        let any: Vec<(u32, u8)> = (0..nodes.len() as u32)
+        let ours = |word: &Vec<u8>| along(word, |p, t| seeks.ours(p, t)).unwrap_or(0);
+        let theirs = |word: &Vec<u8>| along(word, |p, t| seeks.theirs(p, t)).unwrap_or(0);
+        let called = |word: &Vec<u8>| along(word, |p, t| seeks.called(p, t)).unwrap_or(0);
+        for word in words {
+            let end = ours(word);
+            assert!(end > 0);
+            assert_eq!((end, end), (theirs(word), called(word)));
+        }
+        row(name, in_turns(|| again(&ours), || again(&theirs)));
+        row(CALLED, in_turns(|| again(&ours), || again(&called)));
+    }
+
+    // At every node for any tile, which mostly is not there.
+    pub fn seek_anywhere(&self, random: &mut Random) {
+        let seeks = Seeks::of(self);
+        let places = 0..self.nodes.len() as u32;
+        let any: Vec<(u32, u8)> = places
             .map(|place| (place, random.within(1, 27) as u8))
             .collect();
+        let ours = |&(place, tile): &(u32, u8)| seeks.ours(place, tile).unwrap_or(0);
+        let theirs = |&(place, tile): &(u32, u8)| seeks.theirs(place, tile).unwrap_or(0);
+        let called = |&(place, tile): &(u32, u8)| seeks.called(place, tile).unwrap_or(0);
         for &(place, tile) in &any {
-            let answer = ours(place, tile);
-            assert_eq!((answer, answer), (theirs(place, tile), called(place, tile)));
+            let found = seeks.ours(place, tile);
+            assert_eq!(found, seeks.theirs(place, tile));
+            assert_eq!(found, seeks.called(place, tile));
         }
-        for word in words {
-            let end = along(word, ours);
-            assert!(end.is_some());
-            assert_eq!((end, end), (along(word, theirs), along(word, called)));
-        }
-
-        let our_words = || sum(words, |word| along(word, ours).unwrap_or(0));
-        let their_words = || sum(words, |word| along(word, theirs).unwrap_or(0));
-        let called_words = || sum(words, |word| along(word, called).unwrap_or(0));
-        row("`seek`, along all words", in_turns(our_words, their_words));
-        row(CALLED, in_turns(our_words, called_words));
-        let our_any = || sum(&any, |&(place, tile)| ours(place, tile).unwrap_or(0));
-        let their_any = || sum(&any, |&(place, tile)| theirs(place, tile).unwrap_or(0));
-        let called_any = || sum(&any, |&(place, tile)| called(place, tile).unwrap_or(0));
-        row(
-            "`seek`, at each node any tile",
-            in_turns(our_any, their_any),
-        );
-        row(CALLED, in_turns(our_any, called_any));
+        let times = in_turns(|| sum(&any, ours), || sum(&any, theirs));
+        row("`seek`, at each node any tile", times);
+        row(CALLED, in_turns(|| sum(&any, ours), || sum(&any, called)));
     }
 
     // Along every run.
@@ -147,6 +147,39 @@ impl Bench {
             in_turns(our_runs, || sum(&firsts, theirs)),
         );
         row(CALLED, in_turns(our_runs, || sum(&firsts, called)));
+    }
+}
+
+// Run lookup in one graph: the engine's, the Rust's, and the Rust's behind a call.
+struct Seeks<'a> {
+    nodes: &'a [u32],
+    rust: &'a Graph,
+    behind: extern "C" fn(&Graph, u32, u8) -> Sought,
+}
+
+impl<'a> Seeks<'a> {
+    fn of(bench: &'a Bench) -> Self {
+        Self {
+            nodes: &bench.nodes,
+            rust: &bench.rust,
+            behind: black_box(behind_a_call::seek),
+        }
+    }
+
+    #[inline(always)]
+    fn ours(&self, place: u32, tile: u8) -> Option<u32> {
+        machirsun::seek(self.nodes, place, tile).expect("every step is lent")
+    }
+
+    #[inline(always)]
+    fn theirs(&self, place: u32, tile: u8) -> Option<u32> {
+        u32::try_from(self.rust.seek(place as i32, tile)).ok()
+    }
+
+    #[inline(always)]
+    fn called(&self, place: u32, tile: u8) -> Option<u32> {
+        let sought = (self.behind)(self.rust, place, tile);
+        sought.found.then_some(sought.place)
     }
 }
 
