@@ -112,14 +112,17 @@ unfolding toLxd lxdRow firstOf largestArc lastEnds deeper run met blockAt runs c
 lxd-answer = refl
 
 -- the files, and the words that they spell
+file-of : (w : Written) (n : ℕ) → w .answer ≡ gives (n ∷ []) → Wrote w (take n (w .bytes))
+file-of w n e = record { size = n; answered = e; bytes = refl }
+
 dawg-file : Wrote (G-macondo dawg) (take 57 (G-macondo dawg .bytes))
-dawg-file = record { size = 57; answered = macondo-answers .0; bytes = refl }
+dawg-file = file-of (G-macondo dawg) 57 (macondo-answers .0)
 
 gaddag-file : Wrote (G-macondo gaddag) (take 73 (G-macondo gaddag .bytes))
-gaddag-file = record { size = 73; answered = macondo-answers .1; bytes = refl }
+gaddag-file = file-of (G-macondo gaddag) 73 (macondo-answers .1)
 
 lxd-file : Wrote G-lxd (take 84 (G-lxd .bytes))
-lxd-file = record { size = 84; answered = lxd-answer; bytes = refl }
+lxd-file = file-of G-lxd 84 lxd-answer
 
 abbrev wordsOfDawg : List Word
 wordsOfDawg = (1 ∷ []) ∷ (1 ∷ 2 ∷ []) ∷ (2 ∷ 2 ∷ []) ∷ []
