@@ -58,13 +58,13 @@ module _ (a b c d : ℕ) (ha : a < 2 ^ 8) (hb : b < 2 ^ 8) (hc : c < 2 ^ 8) (hd 
   four-below : fromBytes a b c d < 2 ^ 32
   four-below = omega arith
 
-words-read : (bs : List ℕ) → EachByte bs → EachNode (wholeNodes bs)
+nodes-read : (bs : List ℕ) → EachByte bs → EachNode (wholeNodes bs)
 unfolding wholeNodes
-words-read [] h = tt
-words-read (a ∷ []) h = tt
-words-read (a ∷ b ∷ []) h = tt
-words-read (a ∷ b ∷ c ∷ []) h = tt
-words-read (a ∷ b ∷ c ∷ d ∷ r) h = (four-below a b c d (h .0) (h .1 .0) (h .1 .1 .0) (h .1 .1 .1 .0), words-read r (h .1 .1 .1 .1))
+nodes-read [] h = tt
+nodes-read (a ∷ []) h = tt
+nodes-read (a ∷ b ∷ []) h = tt
+nodes-read (a ∷ b ∷ c ∷ []) h = tt
+nodes-read (a ∷ b ∷ c ∷ d ∷ r) h = (four-below a b c d (h .0) (h .1 .0) (h .1 .1 .0) (h .1 .1 .1 .0), nodes-read r (h .1 .1 .1 .1))
 
 bytes-back : (bs : List ℕ) → EachByte bs → nodeBytes (wholeNodes bs) ++ partNode bs ≡ bs
 unfolding wholeNodes partNode nodeBytes
@@ -88,5 +88,5 @@ module _ (layout : Layout) (bytes : List ℕ) where
 
   pub same-layout-bytes : EachByte bytes → repackedBytes (placesOf layout) (placesOf layout) bytes ≡ bytes
   same-layout-bytes h =
-      ap (λ vs. sets bytes 0 (nodeBytes vs)) (all-packed-back (placesOf layout) (whole layout) (wholeNodes bytes) (words-read bytes h))
+      ap (λ vs. sets bytes 0 (nodeBytes vs)) (all-packed-back (placesOf layout) (whole layout) (wholeNodes bytes) (nodes-read bytes h))
       ∙ subst (λ l. sets l 0 (nodeBytes (wholeNodes bytes)) ≡ l) (bytes-back bytes h) (rewritten-same (nodeBytes (wholeNodes bytes)) (partNode bytes))
