@@ -21,7 +21,7 @@ use Rattle.load.specs.Loading.{finish}
 use Rattle.load.specs.Said.{saidBegin, saidFinish}
 use Rattle.count.specs.Said.{limit}
 use Rattle.pieces.specs.Pieces.{Loads, loadPieces, fedPieces}
-use Rattle.pieces.specs.Said.{leaves, loadedAs}
+use Rattle.pieces.specs.Said.{loadLeaves, loadedAs}
 use Rattle.pieces.specs.declared.Loaded.{Loaded as LoadedInPieces}
 use Rattle.graph.specs.TableLaws.{table-length, table-at}
 use Rattle.numbers.specs.NumberedLaws.{counted-lent}
@@ -33,7 +33,7 @@ use Rattle.listing.specs.declared.opening.Loaded.{Loaded}
 use Rattle.listing.specs.declared.opening.Loaded.the-variants.{Nodes, Refused as LoadRefused}
 
 -- ---- the load
-module _ {l : Loads} (r : LoadedInPieces) (lent : List ℕ) {answers nodes : List ℕ} (h : loadedAs r answers nodes ≡ leaves lent l) where
+module _ {l : Loads} (r : LoadedInPieces) (lent : List ℕ) {answers nodes : List ℕ} (h : loadedAs r answers nodes ≡ loadLeaves lent l) where
   pub begin-refused : (n : ℕ) {vs : List ℕ} → saidBegin (r .begun) ≡ refused n vs → LoadsAs l (LoadRefused n) nodes
   begin-refused n {vs} e =
       let b : l .begun ≡ refused n vs = sym (ap (λ x. x .begun) h) ∙ e in
