@@ -13,8 +13,10 @@ pub struct Answer {
     pub flag: bool,
     /// The one number that the call answers: nodes, a place, tiles, a set, bytes written.
     pub value: u64,
-    /// The load's state after begin and feed.
+    /// The load's state after begin and feed, and after the last feed of a whole load.
     pub state: Option<Loader>,
+    /// The number of begin's refusal in a whole load; the other fields are then finish's.
+    pub begun: u32,
 }
 
 impl Answer {

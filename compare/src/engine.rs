@@ -72,6 +72,37 @@ pub fn finish(state: Loader, nodes: &mut [u32]) -> Answer {
     }
 }
 
+pub fn load_in_pieces(
+    announced: usize,
+    layout: u32,
+    bytes: &[u8],
+    cuts: &[u32],
+    answers: &mut [u32],
+    nodes: &mut [u32],
+) -> Answer {
+    let r = unsafe {
+        ffi::machirsun_load_in_pieces(
+            announced,
+            layout,
+            bytes.as_ptr(),
+            bytes.len(),
+            cuts.as_ptr(),
+            cuts.len(),
+            answers.as_mut_ptr(),
+            answers.len(),
+            nodes.as_mut_ptr(),
+            nodes.len(),
+        )
+    };
+    let last = r.finished;
+    Answer {
+        begun: r.begun,
+        value: last.nodes as u64,
+        ..misfit(last.refusal, last.node, last.tile, last.arc)
+    }
+    .with_state(r.loader)
+}
+
 pub fn repack(bytes: &mut [u8], from: u32, to: u32) -> Answer {
     let r = unsafe { ffi::machirsun_repack(bytes.as_mut_ptr(), bytes.len(), from, to) };
     misfit(r.refusal, r.node, r.tile, r.arc)

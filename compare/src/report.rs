@@ -9,6 +9,7 @@ pub enum Call {
     Begin,
     Feed,
     Finish,
+    LoadInPieces,
     Repack,
     CountWords,
     Seek,
@@ -25,10 +26,11 @@ pub enum Call {
 
 use Call::*;
 
-pub const CALLS: [Call; 15] = [
+pub const CALLS: [Call; 16] = [
     Begin,
     Feed,
     Finish,
+    LoadInPieces,
     Repack,
     CountWords,
     Seek,
@@ -76,7 +78,7 @@ impl Line {
 
 #[derive(Default)]
 pub struct Report {
-    lines: [Line; 15],
+    lines: [Line; CALLS.len()],
     pub smallest: Vec<Difference>,
 }
 

@@ -14,6 +14,8 @@ enum Change {
     Flag,
     /// The bytes taken, in a load's state.
     Taken,
+    /// What begin refused by, in a whole load.
+    Begun,
     /// One bit of an entry of a buffer: which buffer, and the entry counted from the front or, where negative, from the back.
     Entry(usize, isize),
 }
@@ -32,6 +34,7 @@ fn spoil(change: Change, outcome: &mut Outcome) {
         Refusal => answer.refusal = 14,
         Value => answer.value ^= 1,
         Flag => answer.flag ^= true,
+        Begun => answer.begun ^= 1,
         Taken => answer.state.iter_mut().for_each(|state| state.taken ^= 1),
         Entry(buffer, place) => match &mut outcome.buffers[buffer] {
             Buffer::Bytes(list) => *entry(list, place) ^= 1,
@@ -63,6 +66,7 @@ fn changes(call: Call) -> Vec<Change> {
         Call::Begin => (&[Taken], 0),
         Call::Feed => (&[Taken], 1),
         Call::Finish => (&[Value], 1),
+        Call::LoadInPieces => (&[Begun, Taken, Value], 2),
         Call::Repack => (&[], 1),
         Call::CountWords | Call::LetterBits => (&[], 2),
         Call::Seek | Call::CursorAt | Call::CursorStep | Call::WordIndex => (&[Value, Flag], 0),

@@ -43,6 +43,13 @@ pub struct Finished {
 }
 
 #[repr(C)]
+pub struct Loaded {
+    pub begun: u32,
+    pub loader: Loader,
+    pub finished: Finished,
+}
+
+#[repr(C)]
 pub struct Repacked {
     pub refusal: u32,
     pub arc: u32,
@@ -121,6 +128,19 @@ extern "C" {
     ) -> Fed;
 
     pub fn machirsun_finish(loader: Loader, nodes: *mut u32, nodes_len: usize) -> Finished;
+
+    pub fn machirsun_load_in_pieces(
+        announced: usize,
+        layout: u32,
+        bytes: *const u8,
+        bytes_len: usize,
+        cuts: *const u32,
+        cuts_len: usize,
+        answers: *mut u32,
+        answers_len: usize,
+        nodes: *mut u32,
+        nodes_len: usize,
+    ) -> Loaded;
 
     pub fn machirsun_repack(bytes: *mut u8, bytes_len: usize, from: u32, to: u32) -> Repacked;
 

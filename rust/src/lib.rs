@@ -57,6 +57,12 @@ fn plain(number: u32) -> Result<(), Refusal> {
     refused(number, 0, 0, 0)
 }
 
+#[inline]
+fn finished(last: ffi::Finished) -> Result<usize, Refusal> {
+    refused(last.refusal, last.node, last.tile, last.arc)?;
+    Ok(last.nodes)
+}
+
 /// The state of a load, by value: it holds no reference to the nodes.
 #[derive(Clone, Copy, Debug, PartialEq, Eq)]
 pub struct Loader(ffi::Loader);
@@ -101,9 +107,7 @@ impl Loader {
     /// The end of the file: the number of its nodes, which stand at the front of the lent ones.
     #[inline]
     pub fn finish(self, nodes: &mut [u32]) -> Result<usize, Refusal> {
-        let finished = unsafe { ffi::machirsun_finish(self.0, nodes.as_mut_ptr(), nodes.len()) };
-        refused(finished.refusal, finished.node, finished.tile, finished.arc)?;
-        Ok(finished.nodes)
+        finished(unsafe { ffi::machirsun_finish(self.0, nodes.as_mut_ptr(), nodes.len()) })
     }
 
     /// The length that was announced.
@@ -116,6 +120,47 @@ impl Loader {
     #[inline]
     pub fn taken(&self) -> usize {
         self.0.taken
+    }
+}
+
+/// What begin and finish answered in a whole load, and the state after the last feed.
+#[derive(Clone, Copy, Debug, PartialEq, Eq)]
+pub struct Loaded {
+    pub begun: Result<(), Refusal>,
+    pub loader: Loader,
+    pub finished: Result<usize, Refusal>,
+}
+
+/// A whole load: begin, a feed of each piece, finish. The pieces have the lengths in `cuts`, and the rest of the bytes is one more; a cut
+/// past the end takes what is there. Each feed's answer goes to `answers`, in order: the number of its refusal, or 0. Where `answers` is
+/// shorter than that, the later ones are not told; entries past them stay.
+#[inline]
+pub fn load_in_pieces(
+    announced: usize,
+    layout: Layout,
+    bytes: &[u8],
+    cuts: &[u32],
+    answers: &mut [u32],
+    nodes: &mut [u32],
+) -> Loaded {
+    let loaded = unsafe {
+        ffi::machirsun_load_in_pieces(
+            announced,
+            layout.number(),
+            bytes.as_ptr(),
+            bytes.len(),
+            cuts.as_ptr(),
+            cuts.len(),
+            answers.as_mut_ptr(),
+            answers.len(),
+            nodes.as_mut_ptr(),
+            nodes.len(),
+        )
+    };
+    Loaded {
+        begun: plain(loaded.begun),
+        loader: Loader(loaded.loader),
+        finished: finished(loaded.finished),
     }
 }
 

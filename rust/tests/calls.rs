@@ -46,6 +46,68 @@ fn a_file_loads_however_it_is_cut() {
 }
 
 #[test]
+fn a_file_loads_in_one_call_however_it_is_cut() {
+    let file = bytes(&G_FILE);
+    for first in 0..=21 {
+        for second in 0..=21 {
+            let (mut answers, mut nodes) = ([9; 4], [7; 6]);
+            let cuts = [first, second];
+            let loaded = load_in_pieces(20, Layout::Kwg, &file, &cuts, &mut answers, &mut nodes);
+            assert_eq!(loaded.begun, Ok(()));
+            assert_eq!(loaded.loader.taken(), 20);
+            assert_eq!(loaded.finished, Ok(5));
+            assert_eq!(answers, [0, 0, 0, 9]);
+            assert_eq!(nodes[..5], G);
+            assert_eq!(nodes[5], 7);
+        }
+    }
+}
+
+#[test]
+fn a_load_in_pieces_tells_each_answer() {
+    let file = bytes(&G_FILE);
+    let load = |announced, file: &[u8], cuts: &[u32], answers: &mut [u32], nodes: &mut [u32]| {
+        load_in_pieces(announced, Layout::Kwg, file, cuts, answers, nodes)
+    };
+
+    // of 12 bytes announced the second piece is too long, the rest is not
+    let (mut answers, mut nodes) = ([9; 4], [7; 6]);
+    let loaded = load(12, &file, &[8, 8], &mut answers, &mut nodes);
+    assert_eq!(answers, [0, 5, 0, 9]);
+    assert_eq!((loaded.begun, loaded.finished), (Ok(()), Ok(3)));
+    assert_eq!(loaded.loader.taken(), 12);
+    assert_eq!(nodes, [0x240, 0x40, 0xC2, 7, 7, 7]);
+
+    // the second node does not fit, which the piece that completes it tells, and each after it; there is room for three
+    let (mut answers, mut nodes) = ([9; 3], [7; 6]);
+    let wide = bytes(&[0x0040_0000, 0x4040_0003, 0x0040_0000]);
+    let misfit = Refusal::DoesNotFit {
+        node: 1,
+        tile: 64,
+        arc: 3,
+    };
+    let loaded = load(12, &wide, &[6, 2, 0], &mut answers, &mut nodes);
+    assert_eq!(answers, [0, 6, 6]);
+    assert_eq!(loaded.finished, Err(misfit));
+    assert_eq!(loaded.loader.taken(), 4);
+    assert_eq!(nodes, [0x40, 7, 7, 7, 7, 7]);
+
+    // bytes are missing, and no answer is asked for
+    let loaded = load(24, &file, &[5], &mut [], &mut nodes);
+    assert_eq!(loaded.finished, Err(Refusal::Missing));
+    assert_eq!(loaded.loader.taken(), 20);
+
+    // a refused begin
+    let (mut answers, mut nodes) = ([9; 4], [7; 6]);
+    let loaded = load(7, &file, &[5, 20], &mut answers, &mut nodes);
+    assert_eq!(answers, [4, 4, 4, 9]);
+    assert_eq!(loaded.begun, Err(Refusal::NotWholeNodes));
+    assert_eq!(loaded.finished, Err(Refusal::BadState));
+    assert_eq!(loaded.loader.announced(), 0);
+    assert_eq!(nodes, [7; 6]);
+}
+
+#[test]
 fn one_node_gets_its_copy() {
     let mut nodes = [0; 2];
     assert_eq!(load(&bytes(&[0x0040_0000]), Layout::Kwg, &mut nodes), Ok(2));

@@ -79,6 +79,37 @@ impl Checker {
         self.compare(Call::Finish, got, paper, rust, &input);
     }
 
+    /// A whole load in one call: the bytes cut into pieces of these lengths, and the rest.
+    pub fn load_in_pieces(
+        &mut self,
+        announced: usize,
+        layout: u32,
+        bytes: &[u8],
+        cuts: &[u32],
+        answers_len: usize,
+        nodes_len: usize,
+    ) {
+        let mut answers = Lent::numbers(&mut self.random, answers_len);
+        let mut nodes = Lent::numbers(&mut self.random, nodes_len);
+        let (mut told, mut expected) = (answers.clone(), nodes.clone());
+        let pieces = paper::cut(bytes, cuts);
+        let lists = (told.part_mut(), expected.part_mut());
+        let paper = paper::load_in_pieces(announced, layout, &pieces, lists.0, lists.1);
+        // "Domain of the comparison": a file of the length announced, where begin refuses nothing.
+        let rust = (paper.begun == 0 && announced == bytes.len())
+            .then(|| rust_load_in_pieces(bytes, layout, &pieces, &paper, &answers, &nodes));
+        let (told_to, to) = (answers.part_mut(), nodes.part_mut());
+        let got = engine::load_in_pieces(announced, layout, bytes, cuts, told_to, to);
+        let got = Outcome::of(got).with(answers).with(nodes);
+        let paper = Outcome::of(paper).with(told).with(expected);
+        let input = || {
+            format!(
+                "length {announced}, layout {layout}, bytes {bytes:x?}, cuts {cuts:?}, {answers_len} answers and {nodes_len} nodes lent"
+            )
+        };
+        self.compare(Call::LoadInPieces, got, paper, rust, &input);
+    }
+
     /// A feed and a finish from any state, also one that no load has.
     pub fn forged(&mut self, state: Loader, piece: &[u8], nodes: &[u32]) {
         let lent = Lent::numbers(&mut self.random, nodes.len()).after_writing(nodes);
@@ -107,14 +138,51 @@ fn rust_feed(joined: &Joined, paper: &Answer, nodes: Lent<u32>) -> Option<Outcom
     if !matches!(paper.refusal, 0 | 6) {
         return None;
     }
-    let mut bytes = joined.bytes().to_vec();
-    let repacked = rust_side::repack(&mut bytes, joined.layout(), 1);
-    let fitting = repacked.map_or_else(|refusal| refusal.node as usize, |()| bytes.len() / 4);
-    let words = bytes.as_chunks().0[..fitting].iter();
-    let words: Vec<u32> = words.map(|&word| u32::from_le_bytes(word)).collect();
+    let (repacked, words) = rust_fitting(joined.bytes(), joined.layout());
     let answer = Answer {
         state: paper.state,
         ..answered(repacked, |()| Answer::default())
     };
     Some(Outcome::of(answer).with(nodes.after_writing(&words)))
+}
+
+// The same of a whole load: a feed answers as the bytes up to its end are repacked, finish as the file loads, and the nodes that fit stand
+// in the table.
+fn rust_load_in_pieces(
+    file: &[u8],
+    layout: u32,
+    pieces: &[&[u8]],
+    paper: &Answer,
+    answers: &Lent<u32>,
+    nodes: &Lent<u32>,
+) -> Outcome {
+    let mut end = 0;
+    let mut told = Vec::new();
+    for piece in pieces.iter().take(answers.len()) {
+        end += piece.len();
+        let repacked = rust_side::repack(&mut file[..end].to_vec(), layout, 1);
+        told.push(repacked.map_or_else(|refusal| refusal.number, |()| 0));
+    }
+    let fitting = rust_fitting(file, layout).1;
+    let loaded = rust_side::load(file, layout);
+    let table = loaded.as_ref().unwrap_or(&fitting);
+    let nodes = nodes.clone().after_writing(table);
+    let answer = Answer {
+        state: paper.state,
+        ..answered(loaded, |loaded| Answer::gives(loaded.len() as u64))
+    };
+    let answers = answers.clone().after_writing(&told);
+    Outcome::of(answer).with(answers).with(nodes)
+}
+
+// What the Rust answers on repacking bytes for the table, and the nodes before the first that does not fit.
+fn rust_fitting(bytes: &[u8], layout: u32) -> (rust_side::Answered<()>, Vec<u32>) {
+    let mut bytes = bytes.to_vec();
+    let repacked = rust_side::repack(&mut bytes, layout, 1);
+    let fitting = repacked.map_or_else(|refusal| refusal.node as usize, |()| bytes.len() / 4);
+    let words = bytes.as_chunks().0[..fitting].iter();
+    (
+        repacked,
+        words.map(|&word| u32::from_le_bytes(word)).collect(),
+    )
 }

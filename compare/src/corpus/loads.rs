@@ -61,11 +61,29 @@ pub fn load(checker: &mut Checker, random: &mut Random, bytes: &[u8], layout: u3
     }
     let nodes_len = checker.around((announced / 4).max(2));
     checker.load(announced, layout, &pieces, nodes_len);
+    let cuts = cuts(random, bytes);
+    let answers_len = checker.around(cuts.len() + 1);
+    checker.load_in_pieces(announced, layout, bytes, &cuts, answers_len, nodes_len);
+}
+
+// Lengths to cut bytes by: those of random pieces, at times with the last ones left out, or with cuts past the end.
+fn cuts(random: &mut Random, bytes: &[u8]) -> Vec<u32> {
+    let pieces = pieces(random, bytes);
+    let mut cuts: Vec<u32> = pieces.iter().map(|piece| piece.len() as u32).collect();
+    let at = random.within(0, cuts.len() as u64 + 1) as usize;
+    match random.within(0, 4) {
+        0 => cuts.truncate(at),
+        1 => cuts.extend([1, 0, u32::MAX]),
+        2 => cuts.insert(at, random.word()),
+        _ => {}
+    }
+    cuts
 }
 
 pub fn run(checker: &mut Checker, size: Size, random: &mut Random) {
     lengths(checker);
     boundaries(checker, random);
+    every_cut(checker, size);
     any_bytes(checker, random, size.of(20, 300, 20_000));
     forged(checker, random, size.of(60, 1000, 60_000));
     let words = made_up_words(random, 6);
@@ -90,6 +108,24 @@ fn lengths(checker: &mut Checker) {
     for announced in (0..50).chain(near).chain([usize::MAX]) {
         for nodes_len in [0, 1, 2, 3, 12, 13] {
             checker.load(announced, announced as u32 % 3, &[&[0x40]], nodes_len);
+            checker.load_in_pieces(announced, announced as u32 % 3, &[0x40], &[0], 3, nodes_len);
+        }
+    }
+}
+
+// The five nodes, and the same with a node that does not fit, cut at every two places up to one past the end.
+fn every_cut(checker: &mut Checker, size: Size) {
+    let mut wide = file_of(&SAMPLE, 0);
+    wide[11] = 64;
+    for bytes in [file_of(&SAMPLE, 0), wide] {
+        let len = bytes.len();
+        for first in (0..=len + 1).step_by(size.of(5, 1, 1)) {
+            for second in 0..=len + 1 - first {
+                let cuts = [first as u32, second as u32];
+                for announced in [len, len - 4, len + 4, len - 1] {
+                    checker.load_in_pieces(announced, 0, &bytes, &cuts, second % 5, 6);
+                }
+            }
         }
     }
 }

@@ -153,6 +153,44 @@ pub fn repack(bytes: &mut [u8], from: u32, to: u32) -> Answer {
     Answer::default()
 }
 
+/// Pieces of these lengths, from the front, and the rest as one more; past the end there is nothing left to take.
+pub fn cut<'a>(bytes: &'a [u8], cuts: &[u32]) -> Vec<&'a [u8]> {
+    let mut rest = bytes;
+    let mut pieces = Vec::new();
+    for &cut in cuts {
+        let (piece, after) = rest.split_at(rest.len().min(cut as usize));
+        pieces.push(piece);
+        rest = after;
+    }
+    pieces.push(rest);
+    pieces
+}
+
+/// A whole load by pieces, by the joined bytes: the number of each feed's refusal goes to its place in `answers`, where there is one.
+pub fn load_in_pieces(
+    announced: usize,
+    layout: u32,
+    pieces: &[&[u8]],
+    answers: &mut [u32],
+    nodes: &mut [u32],
+) -> Answer {
+    let begun = begin(announced, layout, nodes.len());
+    let mut joined = Joined::begin(announced, layout, nodes.len());
+    let mut state = begun.state;
+    for (number, piece) in pieces.iter().enumerate() {
+        let fed = joined.feed(piece, nodes);
+        state = fed.state;
+        if let Some(answer) = answers.get_mut(number) {
+            *answer = fed.refusal;
+        }
+    }
+    let state = state.unwrap_or(fresh(0, layout));
+    Answer {
+        begun: begun.refusal,
+        ..finish(state, nodes).with_state(state)
+    }
+}
+
 /// A whole list of pieces by the joined bytes, as demand 3 says it: it knows no state, only which bytes have come.
 pub struct Joined {
     announced: usize,

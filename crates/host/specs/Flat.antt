@@ -6,6 +6,7 @@ use Prim.Native.Nat.{ℕ}
 use lib.Dec.{eqb}
 use lib.ListN.{getD}
 use Rattle.node.specs.Answers.{Answer, gives, nothing, refused}
+pub use Rattle.pieces.specs.Said.{refusalIn}
 use Rattle.node.specs.declared.Layout.{Layout}
 use Rattle.node.specs.declared.Layout.the-variants.{Kwg, Kbwg}
 
@@ -18,7 +19,7 @@ layoutNumber Kwg = 0
 layoutNumber Kbwg = 1
 
 -- ---- how fields are read
--- "6 .. (carries node, tile, arc)", "8 largest arc (carried)", "Refusal 12 carries some node"
+-- "6 node doesn't fit (carries node, tile, arc)", "8 largest arc (carried)", "Refusal 12 carries some node"
 abbrev pub carried : ℕ → ℕ → ℕ → ℕ → List ℕ
 carried n node tile arc =
     elim (eqb n 6) [
@@ -39,12 +40,7 @@ abbrev pub found : Bool → ℕ → Answer
 found true v = gives (v ∷ [])
 found false v = nothing
 
--- ---- how an answer fills fields: those that it has no value for are 0
-abbrev pub refusalIn : Answer → ℕ
-refusalIn (gives vs) = 0
-refusalIn nothing = 0
-refusalIn (refused n vs) = n
-
+-- ---- how an answer fills fields: the refusal's number by `refusalIn`, and 0 where it has no value for one
 abbrev pub valueIn : Answer → ℕ
 valueIn (gives vs) = getD vs 0 0
 valueIn nothing = 0

@@ -1,6 +1,6 @@
 -- The flat answers of repacking and loading, and a load's flat state.
 use mathlib.Core.Bool.{true, false}
-use mathlib.Core.List.{[], _∷_}
+use mathlib.Core.List.{List, [], _∷_}
 use Prim.Native.Nat.{ℕ}
 use lib.Dec.{eqb}
 use Rattle.node.specs.Answers.{Answer, gives}
@@ -10,12 +10,14 @@ use Rattle.load.specs.Loading.{Begins, Feeds, Finishes}
 use Rattle.load.specs.declared.repack.Repacked.{Repacked}
 use Rattle.load.specs.declared.repack.Repacked.the-variants.{Whole, DoesNotFit}
 use Rattle.load.specs.declared.loader.Loader.{Loader}
+use Rattle.pieces.specs.Said.{LoadLeft}
 use Rattle.host.specs.Flat.{layoutOf, layoutNumber, refusedOr, plainly, refusalIn, valueIn, nodeIn, tileIn, arcIn}
 use Rattle.host.specs.declared.loading.FlatRepacked.{FlatRepacked}
 use Rattle.host.specs.declared.loading.FlatLoader.{FlatLoader}
 use Rattle.host.specs.declared.loading.FlatBegun.{FlatBegun}
 use Rattle.host.specs.declared.loading.FlatFed.{FlatFed}
 use Rattle.host.specs.declared.loading.FlatFinished.{FlatFinished}
+use Rattle.host.specs.declared.loading.FlatLoaded.{FlatLoaded}
 
 -- ---- repacking
 abbrev pub repackedOf : FlatRepacked → Answer
@@ -89,3 +91,17 @@ finishesOf r nodes = record { answer = finishedOf r; nodes = nodes }
 
 abbrev pub flatFinished : Answer → FlatFinished
 flatFinished a = record { refusal = refusalIn a; arc = arcIn a; nodes = valueIn a; node = nodeIn a; tile = tileIn a }
+
+-- ---- a whole load, with the lists that it left
+abbrev pub loadedOf : FlatLoaded → List ℕ → Graph → LoadLeft
+loadedOf r answers nodes =
+    record {
+      begun = plainly (r .begun) (gives []);
+      answers = answers;
+      state = stateOf (r .loader);
+      finished = finishedOf (r .finished);
+      nodes = nodes;
+    }
+
+abbrev pub flatLoaded : LoadLeft → FlatLoaded
+flatLoaded l = record { begun = refusalIn (l .begun); loader = flatLoader (l .state); finished = flatFinished (l .finished) }

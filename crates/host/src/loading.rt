@@ -7,8 +7,10 @@ ghost use Rattle.node.specs.Said.{placesOf};
 ghost use Rattle.load.specs.Repacking.{said, repackAnswer, repackedBytes};
 ghost use Rattle.load.specs.Loading.{begin, feed, finish};
 ghost use Rattle.load.specs.Said.{saidBegin, saidFeed, saidFinish};
+ghost use Rattle.pieces.specs.Pieces.{cutAt, loadPieces};
+ghost use Rattle.pieces.specs.Said.{loadLeaves};
 ghost use Rattle.host.specs.Flat.{layoutOf, layoutNumber, plainly, refusalIn};
-ghost use Rattle.host.specs.FlatLoads.{keptOf, repackedOf, flatRepacked, stateOf, flatLoader, begunOf, flatBegun, fedOf, flatFed, finishedOf, finishesOf, flatFinished};
+ghost use Rattle.host.specs.FlatLoads.{keptOf, repackedOf, flatRepacked, stateOf, flatLoader, begunOf, flatBegun, fedOf, flatFed, finishedOf, finishesOf, flatFinished, loadedOf, flatLoaded};
 use load::BeginAnswer;
 use load::FeedAnswer;
 use load::Finished;
@@ -60,6 +62,14 @@ pub struct FlatFinished {
     pub nodes: usize,
     pub node: usize,
     pub tile: u8,
+}
+
+// A whole load: begun is the number of begin's refusal, or 0; the state is that after the last feed.
+#[repr(C)]
+pub struct FlatLoaded {
+    pub begun: u32,
+    pub loader: FlatLoader,
+    pub finished: FlatFinished,
 }
 
 fn layout_of(number: u32) -> Layout
@@ -319,4 +329,29 @@ pub extern "C" fn machirsun_finish(loader: FlatLoader, nodes: &mut [u32]) -> Fla
     ensures flat { λ r. ⌜ r ≡ flatFinished (finishedOf r) ⌝ }
 {
     flat_finished(state_of(loader).finish(nodes))
+}
+
+// A whole load: begin, a feed of each piece and of the rest, finish. Each feed's answer goes to answers.
+#[no_mangle]
+pub extern "C" fn machirsun_load_in_pieces(
+    announced: usize,
+    layout: u32,
+    bytes: &[u8],
+    cuts: &[u32],
+    answers: &mut [u32],
+    nodes: &mut [u32],
+) -> FlatLoaded
+    ensures answer { λ r. ⌜ loadedOf r (now (answers .exit)) (now (nodes .exit)) ≡ loadLeaves (now (answers .entry)) (loadPieces announced (layoutOf layout) (now (nodes .entry)) (cutAt (now (cuts .entry)) (now (bytes .entry)))) ⌝ }
+    ensures flat { λ r. ⌜ r ≡ flatLoaded (loadedOf r (now (answers .exit)) (now (nodes .exit))) ⌝ }
+{
+    let read = layout_of(layout);
+    let loaded = pieces::load_in_pieces(announced, read, bytes, cuts, answers, nodes);
+    let begun = loaded.begun;
+    let state = loaded.loader;
+    let finished = loaded.finished;
+    FlatLoaded {
+        begun: begin_refusal(begun),
+        loader: flat_loader(state),
+        finished: flat_finished(finished),
+    }
 }

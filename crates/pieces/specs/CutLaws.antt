@@ -14,7 +14,7 @@ use Rattle.node.specs.declared.Layout.{Layout}
 use Rattle.graph.specs.Runs.{Graph}
 use Rattle.pieces.specs.Pieces.{feedAll, fedPieces, LoadsHoweverCut, loadPieces, cutAt}
 use Rattle.pieces.specs.PiecesLaws.{loads-however-cut}
-use Rattle.pieces.specs.Said.{refusalIn, Left, leaves}
+use Rattle.pieces.specs.Said.{refusalIn, LoadLeft, loadLeaves}
 use Rattle.load.specs.Loading.{Begins, begin, Feeds, feed, Finishes, finish}
 use Rattle.load.specs.declared.loader.Loader.{Loader}
 
@@ -80,8 +80,8 @@ pub loaded : (announced : ℕ) (layout : Layout) (nodes : Graph) (cuts bytes len
     {b : Begins} {s : Loader} {after : Graph} {last : Finishes}
     → b ≡ begin announced layout (length nodes) → (answers, s, after) ≡ fedFrom lent 0 (b .state) nodes cuts bytes
     → last ≡ finish s after
-    → _≡_ {A = Left} (record { begun = b .answer; answers = answers; state = s; finished = last .answer; nodes = last .nodes })
-    (leaves lent (loadPieces announced layout nodes (cutAt cuts bytes)))
+    → _≡_ {A = LoadLeft} (record { begun = b .answer; answers = answers; state = s; finished = last .answer; nodes = last .nodes })
+    (loadLeaves lent (loadPieces announced layout nodes (cutAt cuts bytes)))
 unfolding loadPieces fedPieces
 loaded announced layout nodes cuts bytes lent answers p q t =
     let all = feedAll (begin announced layout (length nodes) .state) nodes (cutAt cuts bytes) in

@@ -17,10 +17,10 @@ refusalIn nothing = 0
 refusalIn (refused n vs) = n
 
 -- the numbers of the answers at the front of a lent list, as many as it has room for; "entries past that stay"
-abbrev pub told : List ℕ → List Answer → List ℕ
-told lent answers = sets lent 0 (take (length lent) (map refusalIn answers))
+abbrev pub answersTold : List ℕ → List Answer → List ℕ
+answersTold lent answers = sets lent 0 (take (length lent) (map refusalIn answers))
 
-pub record Left : Type 0 where
+pub record LoadLeft : Type 0 where
   pub begun : Answer
   pub answers : List ℕ
   pub state : Loader
@@ -28,11 +28,11 @@ pub record Left : Type 0 where
   pub nodes : Graph
 
 -- what a load leaves, over a list lent for the feeds' answers
-abbrev pub leaves : List ℕ → Loads → Left
-leaves lent l = record { begun = l .begun; answers = told lent (l .fed); state = l .state; finished = l .finished; nodes = l .nodes }
+abbrev pub loadLeaves : List ℕ → Loads → LoadLeft
+loadLeaves lent l = record { begun = l .begun; answers = answersTold lent (l .fed); state = l .state; finished = l .finished; nodes = l .nodes }
 
 -- what the call left: its result and the two lists
-abbrev pub loadedAs : Loaded → List ℕ → Graph → Left
+abbrev pub loadedAs : Loaded → List ℕ → Graph → LoadLeft
 loadedAs r answers nodes =
     record {
       begun = saidBegin (r .begun);

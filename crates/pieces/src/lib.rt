@@ -4,7 +4,7 @@ ghost use Prim.Native.Nat.{_+_, _≤_, min};
 ghost use lib.ListN.{set};
 ghost use Rattle.load.specs.Said.{saidFeed};
 ghost use Rattle.pieces.specs.Pieces.{cutAt, loadPieces};
-ghost use Rattle.pieces.specs.Said.{refusalIn, leaves, loadedAs};
+ghost use Rattle.pieces.specs.Said.{refusalIn, loadLeaves, loadedAs};
 use load::BeginAnswer;
 use load::FeedAnswer;
 use load::Finished;
@@ -61,7 +61,7 @@ pub fn load_in_pieces(
     answers: &mut [u32],
     nodes: &mut [u32],
 ) -> Loaded
-    ensures { λ r. ⌜ loadedAs r (now (answers .exit)) (now (nodes .exit)) ≡ leaves (now (answers .entry)) (loadPieces announced layout (now (nodes .entry)) (cutAt (now (cuts .entry)) (now (bytes .entry)))) ⌝ }
+    ensures { λ r. ⌜ loadedAs r (now (answers .exit)) (now (nodes .exit)) ≡ loadLeaves (now (answers .entry)) (loadPieces announced layout (now (nodes .entry)) (cutAt (now (cuts .entry)) (now (bytes .entry)))) ⌝ }
 {
     let begun = Loader::begin(announced, layout, nodes);
     let begin_answer = begun.answer;

@@ -50,32 +50,32 @@ feed-requires c κs = search needs
 tell-requires : tie.Need-tell-requires Inv-loop μ-loop
 tell-requires c κs = search needs
 
-abbrev start : tie.At-loop Inv-loop μ-loop → tie.Start Inv-loop μ-loop
-start c = c .before .before .before .before .before .before .before .before
+abbrev at-entry : tie.At-loop Inv-loop μ-loop → tie.Start Inv-loop μ-loop
+at-entry c = c .before .before .before .before .before .before .before .before
 
 -- once a piece is fed and its answer is told
-abbrev turn : tie.After-tell Inv-loop μ-loop → tie.In-loop Inv-loop μ-loop
-turn c = c .before .before .before .before .before .before .before .before .before
+abbrev this-turn : tie.After-tell Inv-loop μ-loop → tie.In-loop Inv-loop μ-loop
+this-turn c = c .before .before .before .before .before .before .before .before .before
 
-one-more : (c : tie.After-tell Inv-loop μ-loop) → turn c .before .loop .i < length (start (turn c .before) .args .cuts .now)
-one-more c = turn c .loop-test .taken
+cut-left : (c : tie.After-tell Inv-loop μ-loop) → this-turn c .before .loop .i < length (at-entry (this-turn c .before) .args .cuts .now)
+cut-left c = this-turn c .loop-test .taken
 
 add-i : tie.Need-add-i Inv-loop μ-loop
-add-i c = let m = c .before .before .before in omega (arith, one-more m, start (turn m .before) .good .1 .1 .1 .0 .0)
+add-i c = let m = c .before .before .before in omega (arith, cut-left m, at-entry (this-turn m .before) .good .1 .1 .1 .0 .0)
 
 loop-less : tie.Need-loop-less Inv-loop μ-loop
-loop-less c = omega (arith, one-more (c .before .before .before))
+loop-less c = omega (arith, cut-left (c .before .before .before))
 
 loop-again : tie.Need-loop-again Inv-loop μ-loop
 loop-again c = let m = c .before .before .before in
-    let a = start (turn m .before) .args in
-    let l = turn m .before .loop in
+    let a = at-entry (this-turn m .before) .args in
+    let l = this-turn m .before .loop in
     let end = m .before .before .before .before .before .before .before .piece-end in
     let fed = m .before .before .before .before .feed in
     let next =
     feed-next (l .answers) (l .loader) (l .nodes) (a .cuts .now) (a .bytes .now) (l .i) (l .from) (end .result)
-    (one-more m) (l .inv .1) (end .ensures) (fed .ensures) (m .tell .ensures) in (
-      omega (arith, one-more m),
+    (cut-left m) (l .inv .1) (end .ensures) (fed .ensures) (m .tell .ensures) in (
+      omega (arith, cut-left m),
       omega (arith, end .ensures),
       m .tell .kept .0 ∙ l .inv .2,
       fed .kept .1 .1 .0 ∙ l .inv .3,
@@ -107,18 +107,18 @@ same-length-2 : tie.Need-same-length-2 Inv-loop μ-loop
 same-length-2 c = search needs
 
 -- once the rest is fed and its answer is told
-abbrev ended : tie.After-tell2 Inv-loop μ-loop → tie.After-loop Inv-loop μ-loop
-ended c = c .before .before .before .before .before .before .before
+abbrev loop-done : tie.After-tell2 Inv-loop μ-loop → tie.After-loop Inv-loop μ-loop
+loop-done c = c .before .before .before .before .before .before .before
 
 returns : tie.Need-returns Inv-loop μ-loop
 returns c = let m = c .before .before .before .before .before .before .before in
-    let at = ended m .before in
-    let a = start at .args in
+    let at = loop-done m .before in
+    let a = at-entry at .args in
     let l = at .loop in
     let bytes = a .bytes .now in
     let rest = take-all (length bytes - l .from) (drop (l .from) bytes) (simp length-drop (omega arith)) in
     let r =
-    feed-rest (l .answers) (l .loader) (l .nodes) (a .cuts .now) bytes (l .i) (l .from) (ended m .loop-test .left)
+    feed-rest (l .answers) (l .loader) (l .nodes) (a .cuts .now) bytes (l .i) (l .from) (loop-done m .loop-test .left)
     (m .before .before .before .before .feed2 .ensures ∙ ap (feed (l .loader) (l .nodes)) rest) (m .tell2 .ensures) in
     loaded (a .announced) (a .layout) (a .nodes .now) (a .cuts .now) bytes (a .answers .now) _
     (at .before .before .begin .ensures) (r ∙ l .inv .4) (c .before .before .finish .ensures)
