@@ -42,6 +42,11 @@ FIELD(machirsun_finished, node, 16, 8);
 FIELD(machirsun_finished, tile, 24, 1);
 WHOLE(machirsun_finished, 32);
 
+FIELD(machirsun_loaded, begun, 0, 4);
+FIELD(machirsun_loaded, loader, 8, 48);
+FIELD(machirsun_loaded, finished, 56, 32);
+WHOLE(machirsun_loaded, 88);
+
 FIELD(machirsun_repacked, refusal, 0, 4);
 FIELD(machirsun_repacked, arc, 4, 4);
 FIELD(machirsun_repacked, node, 8, 8);
@@ -263,6 +268,42 @@ static void judges_nodes(void)
     SAME_LIST(nodes, (uint32_t[]){0x140, 0xC3, 7});
     SAME_FINISHED(finish_of(LENT(arc_2), MACHIRSUN_KWG, LENT(nodes)), .refusal = MACHIRSUN_ARC_PAST_END, .arc = 2);
     SAME_FINISHED(finish_of(LENT(no_end), MACHIRSUN_KWG, LENT(nodes)), .refusal = MACHIRSUN_NO_END);
+}
+
+static void loads_in_pieces(void)
+{
+    static const uint32_t cuts[3] = {7, 0, 6}, cut_5[1] = {5}, cut_6[1] = {6};
+    uint32_t nodes[6] = {7, 7, 7, 7, 7, 7}, answers[5] = {9, 9, 9, 9, 9};
+    machirsun_loaded loaded;
+
+    loaded = machirsun_load_in_pieces(20, MACHIRSUN_KWG, LENT(FILE_OF_G), LENT(cuts), LENT(answers), LENT(nodes));
+    SAME(loaded.begun == 0);
+    SAME_LOADER(loaded.loader, .announced = 20, .taken = 20);
+    SAME_FINISHED(loaded.finished, .nodes = 5);
+    SAME_LIST(answers, (uint32_t[]){0, 0, 0, 0, 9});
+    SAME_LIST(nodes, (uint32_t[]){0x240, 0x40, 0x481, 0x442, 0xC2, 7});
+
+    /* A node that does not fit, from the second piece on. */
+    loaded = machirsun_load_in_pieces(8, MACHIRSUN_KWG, LENT(TILE_64), LENT(cut_5), LENT(answers), LENT(nodes));
+    SAME(loaded.begun == 0);
+    SAME_LOADER(loaded.loader, .announced = 8, .taken = 4, .node = 1, .refusal = MACHIRSUN_DOES_NOT_FIT, .arc = 3, .tile = 64);
+    SAME_FINISHED(loaded.finished, .refusal = MACHIRSUN_DOES_NOT_FIT, .arc = 3, .node = 1, .tile = 64);
+    SAME_LIST(answers, (uint32_t[]){0, MACHIRSUN_DOES_NOT_FIT, 0, 0, 9});
+    SAME_LIST(nodes, (uint32_t[]){0x40, 0x40, 0x481, 0x442, 0xC2, 7});
+
+    /* The first piece is too long, and left out. Only one answer is told. */
+    loaded = machirsun_load_in_pieces(4, MACHIRSUN_KWG, LENT(TILE_64), LENT(cut_6), answers, 1, LENT(nodes));
+    SAME(loaded.begun == 0);
+    SAME_LOADER(loaded.loader, .announced = 4, .taken = 2, .held_count = 2, .held = {0x40, 0x40, 0});
+    SAME_FINISHED(loaded.finished, .refusal = MACHIRSUN_MISSING);
+    SAME_LIST(answers, (uint32_t[]){MACHIRSUN_TOO_LONG, MACHIRSUN_DOES_NOT_FIT, 0, 0, 9});
+
+    loaded = machirsun_load_in_pieces(19, MACHIRSUN_KBWG, LENT(FILE_OF_G), LENT(cuts), LENT(answers), LENT(nodes));
+    SAME(loaded.begun == MACHIRSUN_NOT_WHOLE_NODES);
+    SAME_LOADER(loaded.loader, .layout = MACHIRSUN_KBWG);
+    SAME_FINISHED(loaded.finished, .refusal = MACHIRSUN_BAD_STATE);
+    SAME_LIST(answers, (uint32_t[]){4, 4, 4, 4, 9});
+    SAME_LIST(nodes, (uint32_t[]){0x40, 0x40, 0x481, 0x442, 0xC2, 7});
 }
 
 static void repacks(void)
@@ -568,6 +609,7 @@ int main(void)
     keeps_a_refusal();
     refuses_states();
     judges_nodes();
+    loads_in_pieces();
     repacks();
     counts_words();
     seeks();
