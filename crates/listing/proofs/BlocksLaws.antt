@@ -154,11 +154,12 @@ module _ (nodes counts : List ℕ) (u : Unprinted) (before after : List ℕ) whe
   made-refusal n written e h p = rw e (put-front p h, refl)
 
   module _ (start count next : ℕ) (e : u ≡ Words start count next) where
-    pub made-words : (f : Filled) → next < count → length before ≡ room
-        → Fills (block (walkFrom nodes counts start) count next (length before)) before after f
-        → Makes (nextBlock nodes counts u) before after (Bytes (f .written) (Words start count (f .next)))
+    pub made-words : (f : Filled) (onward : ℕ) → next < count → length before ≡ room
+        → Fills (block (walkFrom nodes counts start) count next (length before)) before after f → onward ≡ f .next
+        → Makes (nextBlock nodes counts u) before after (Bytes (f .written) (Words start count onward))
     unfolding nextBlock
-    made-words f h l p = let p′ = rw l at p in rw (e, lt-ltb next count h, nextBlock) (p′ .front, ap (Words start count) (p′ .next))
+    made-words f onward h l p i =
+        let p′ = rw l at p in rw (e, lt-ltb next count h, nextBlock) (p′ .front, ap (Words start count) (i ∙ p′ .next))
 
     pub made-done : count ≤ next → after ≡ before → Makes (nextBlock nodes counts u) before after Done
     unfolding nextBlock

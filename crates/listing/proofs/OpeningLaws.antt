@@ -27,12 +27,16 @@ use Rattle.count.specs.Said.{limit}
 use Rattle.pieces.specs.Pieces.{Loads, feedAll, fedPieces, loadPieces, oneFeed}
 use Rattle.graph.specs.TableLaws.{table-length, table-at}
 use Rattle.numbers.specs.NumberedLaws.{counted-lent}
-use Rattle.listing.specs.Wordlist.{start, startWords, mostBytes, load, lastAnswer, loadAnswer, RefusesBy, CountWork, ReadInto, longer, unloaded, uncounted, counted, refuses, lists}
+use Rattle.listing.specs.Wordlist.{start, startWords, mostBytes, load, lastAnswer, loadAnswer, RefusesBy, CountWork, LongEnough, ReadInto, longer, unloaded, uncounted, counted, refuses, lists}
 use Rattle.listing.specs.Said.{saidLoad, LoadsAs, atStart, saidCount, CountsAs, Opening, OpensRead}
 use Rattle.listing.specs.declared.opening.Unprinted.{Unprinted}
 use Rattle.listing.specs.declared.opening.Unprinted.the-variants.{Refusal, Words}
 use Rattle.listing.specs.declared.opening.Loaded.{Loaded}
 use Rattle.listing.specs.declared.opening.Loaded.the-variants.{Nodes, Refused}
+
+-- an answer of this number refuses by it
+pub refuses-by : (m : ℕ) {n : ℕ} {a : Answer} {vs : List ℕ} → a ≡ refused m vs → m ≡ n → RefusesBy a n
+refuses-by m {n} e i = subst (λ x. RefusesBy x n) (sym e) i
 
 -- ---- the load
 -- what begin and finish answered, and the nodes then, are those of a load
@@ -149,28 +153,29 @@ read-whole buffer input read r h =
     sym (take-all (length buffer) input n) ∙ h
 
 -- ---- the whole
-module _ {input lentNodes lentCounts lentWork : List ℕ} where
+module _ {input lentNodes lentCounts lentWork : List ℕ} (n : LongEnough lentNodes lentCounts lentWork) where
   pub open-longer : mostBytes < length input → Opening input lentNodes lentCounts lentWork (Refusal 2) lentNodes lentCounts lentWork
-  open-longer h = record { ends = refuses 2; said = refl; opens = longer h }
+  open-longer h = record { enough = n; ends = refuses 2; said = refl; opens = longer h }
 
   module _ (h : length input ≤ mostBytes) {nodes : List ℕ} where
-    pub open-unloaded : (n : ℕ) → LoadsAs (load input lentNodes) (Refused n) nodes
-        → Opening input lentNodes lentCounts lentWork (Refusal n) nodes lentCounts lentWork
-    open-unloaded n a = record { ends = refuses n; said = refl; opens = rw (a .table) (unloaded h (a .said)) }
+    pub open-unloaded : (m : ℕ) → LoadsAs (load input lentNodes) (Refused m) nodes
+        → Opening input lentNodes lentCounts lentWork (Refusal m) nodes lentCounts lentWork
+    open-unloaded m a = record { enough = n; ends = refuses m; said = refl; opens = rw (a .table) (unloaded h (a .said)) }
 
-    pub open-loaded : (n : ℕ) (r : Unprinted) {counts work : List ℕ} → LoadsAs (load input lentNodes) (Nodes n) nodes
-        → CountsAs (take n nodes) lentCounts lentWork r counts work → Opening input lentNodes lentCounts lentWork r nodes counts work
-    open-loaded n (Refusal m) a c =
+    pub open-loaded : (size : ℕ) (r : Unprinted) {counts work : List ℕ} → LoadsAs (load input lentNodes) (Nodes size) nodes
+        → CountsAs (take size nodes) lentCounts lentWork r counts work → Opening input lentNodes lentCounts lentWork r nodes counts work
+    open-loaded size (Refusal m) a c =
         let k = rw (a .table) at (c .counted) in
         let w = rw (a .table) at (c .free) in
-        record { ends = refuses m; said = refl; opens = rw (a .table) (uncounted h (a .said) k (c .said) w) }
-    open-loaded n (Words s m i) a c =
+        record { enough = n; ends = refuses m; said = refl; opens = rw (a .table) (uncounted h (a .said) k (c .said) w) }
+    open-loaded size (Words s m i) a c =
         let t = c .said .0 in
         let k = rw (a .table, t) at (c .counted) in
         let w = rw (a .table) at (c .free) in
-        let all : (s ≡ start (take n nodes)) × (m ≡ length (startWords (take n nodes))) × (i ≡ 0) = (c .said .1, c .said .2, c .said .3) in
+        let all : (s ≡ start (take size nodes)) × (m ≡ length (startWords (take size nodes))) × (i ≡ 0) = (c .said .1, c .said .2, c .said .3) in
         record {
-          ends = lists (take n (load input lentNodes .nodes));
+          enough = n;
+          ends = lists (take size (load input lentNodes .nodes));
           said = rw (a .table) at all;
           opens = rw (a .table) (counted h (a .said) k w);
         }

@@ -92,6 +92,7 @@ module _ {input lentNodes lentCounts lentWork nodes counts work : List ℕ} wher
       → Prints input lentNodes lentCounts lentWork (joinAll (blocks nodes counts u))
   calls-print u o =
       record {
+        enough = o .enough;
         ends = o .ends;
         nodes = nodes;
         counts = counts;

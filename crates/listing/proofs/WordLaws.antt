@@ -1,5 +1,5 @@
 -- One number of a block: its walk's tiles in the buffer, and its line, for each answer of the walk.
-use mathlib.Core.Path.{_≡_, sym, ap, _∙_}
+use mathlib.Core.Path.{_≡_, sym, ap, _∙_, subst}
 use mathlib.Core.Bool.{true, false}
 use mathlib.Core.List.{List, [], _∷_}
 use Prim.Native.Nat.{ℕ, _≤_, _<_}
@@ -9,15 +9,29 @@ use lib.Seq.{take-at}
 use Rattle.node.specs.Answers.{Answer, gives, nothing, refused}
 use Rattle.graph.specs.Words.{Word}
 use Rattle.lookup.specs.Said.{saidWord, Put as PutTiles}
+use Rattle.lookup.specs.Walks.{wordByIndex}
 use Rattle.lookup.specs.declared.by_number.WordByIndex.{WordByIndex}
 use Rattle.lookup.specs.declared.by_number.WordByIndex.the-variants.{Tiles}
 use Rattle.listing.specs.Lines.{line, refusal}
 use Rattle.listing.proofs.LinesLaws.{line-length, refusal-length}
 use Rattle.listing.specs.Wordlist.{mostTiles}
 use Rattle.listing.specs.Blocks.{longest, goesOn}
+use Rattle.listing.specs.Printing.{walkFrom}
 use Rattle.listing.proofs.WalkedLaws.{Walked}
 use Rattle.listing.proofs.PutLaws.{put-none}
 use Rattle.listing.specs.Said.{Puts, PutWord}
+
+-- the walk of a number left this answer and these tiles
+pub record Tiled (walked : Word × Answer) (r : WordByIndex) (after : List ℕ) : Type 0 where
+  pub before : List ℕ
+  pub put : PutTiles walked before after r
+
+-- a buffer with room for the longest word takes the walk's tiles
+pub tiled : (nodes counts : List ℕ) (start number lent : ℕ) {before after : List ℕ} {r : WordByIndex}
+    → PutTiles (wordByIndex counts nodes lent start number) before after r
+    → lent ≡ mostTiles → Tiled (walkFrom nodes counts start number) r after
+tiled nodes counts start number lent {before} {after} {r} p e =
+    record { before = before; put = subst (λ l. PutTiles (wordByIndex counts nodes l start number) before after r) e p }
 
 -- the first so many of the buffer are the walk's word
 pub record WordIn (walked : Word × Answer) (n : ℕ) (buffer : List ℕ) : Type 0 where
@@ -26,15 +40,14 @@ pub record WordIn (walked : Word × Answer) (n : ℕ) (buffer : List ℕ) : Type
   pub size : n ≡ length (walked .0)
   pub few : n ≤ mostTiles
 
-pub word-in : {walked : Word × Answer} {before after : List ℕ} {r : WordByIndex} {n : ℕ} → Walked mostTiles 0 walked
-    → PutTiles walked before after r
+pub word-in : {walked : Word × Answer} {after : List ℕ} {r : WordByIndex} {n : ℕ} → Walked mostTiles 0 walked → Tiled walked r after
     → r ≡ Tiles n → WordIn walked n after
-word-in {walked} {before} {after} {r} {n} w p e =
-    let a : walked .1 ≡ gives (n ∷ []) = sym (p .said) ∙ ap saidWord e in
+word-in {walked} {after} {r} {n} w t e =
+    let a : walked .1 ≡ gives (n ∷ []) = sym (t .put .said) ∙ ap saidWord e in
     let s : n ≡ length (walked .0) = w .told n a ∙ omega arith in
     record {
       answer = a;
-      word = ap (take n) (p .tiles) ∙ take-at (walked .0) (drop (length (walked .0)) before) n (sym s);
+      word = ap (take n) (t .put .tiles) ∙ take-at (walked .0) (drop (length (walked .0)) (t .before)) n (sym s);
       size = s;
       few = omega (arith, w .fits);
     }
@@ -53,15 +66,14 @@ module _ (number : ℕ) (walked : Word × Answer) {out out′ : List ℕ} {at en
         within = omega (arith, p .place, line-room number walked h w i);
       }
 
-  pub word-refused : (n : ℕ) {before after vs : List ℕ} {r : WordByIndex} → n < 4_294_967_296 → PutTiles walked before after r
+  pub word-refused : (n : ℕ) {after vs : List ℕ} {r : WordByIndex} → n < 4_294_967_296 → Tiled walked r after
       → saidWord r ≡ refused n vs → Puts (refusal n) out at out′ end → PutWord number walked out at out′ (record { end = end; more = false })
-  word-refused n h w e p =
-      let a = sym (w .said) ∙ e in
+  word-refused n h t e p =
+      let a = sym (t .put .said) ∙ e in
       record { more = sym (ap goesOn a); puts = rw a p; within = omega (arith, p .place, refusal-length n h) }
 
-pub word-none : (number : ℕ) (walked : Word × Answer) {out before after : List ℕ} {at : ℕ} {r : WordByIndex}
-    → PutTiles walked before after r
+pub word-none : (number : ℕ) (walked : Word × Answer) {out after : List ℕ} {at : ℕ} {r : WordByIndex} → Tiled walked r after
     → saidWord r ≡ nothing → PutWord number walked out at out (record { end = at; more = false })
-word-none number walked w e =
-    let a = sym (w .said) ∙ e in
+word-none number walked t e =
+    let a = sym (t .put .said) ∙ e in
     record { more = sym (ap goesOn a); puts = rw a put-none; within = omega arith }

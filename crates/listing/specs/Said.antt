@@ -14,7 +14,7 @@ use Rattle.graph.specs.Words.{Word}
 use Rattle.graph.specs.Counting.{Counted}
 use Rattle.count.specs.Said.{limit}
 use Rattle.pieces.specs.Pieces.{Loads}
-use Rattle.listing.specs.Wordlist.{Ends, refuses, lists, start, startWords, loadAnswer, RefusesBy, CountWork, ReadInto, Opens, Prints}
+use Rattle.listing.specs.Wordlist.{Ends, refuses, lists, start, startWords, loadAnswer, RefusesBy, CountWork, LongEnough, ReadInto, Opens, Prints}
 use Rattle.listing.specs.Blocks.{lineFor, goesOn, longest, Block}
 use Rattle.listing.specs.Printing.{Next, blocks}
 use Rattle.listing.specs.declared.opening.Unprinted.{Unprinted}
@@ -67,6 +67,7 @@ saidOpen (Refusal n) (lists g) = ⊥
 saidOpen (Words s c i) (refuses m) = ⊥
 
 pub record Opening (input lentNodes lentCounts lentWork : List ℕ) (r : Unprinted) (nodes counts work : List ℕ) : Type 0 where
+  pub enough : LongEnough lentNodes lentCounts lentWork
   pub ends : Ends
   pub said : saidOpen r ends
   pub opens : Opens input lentNodes lentCounts lentWork ends nodes counts work

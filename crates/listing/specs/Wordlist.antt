@@ -35,9 +35,19 @@ listed i [] = []
 listed i (w ∷ ws) = elim (ltb mostTiles (length w)) [ true ↦ refusal 16 | false ↦ line i w ++ listed (suc i) ws ]
 
 -- ---- loading and counting
--- "reads a KWG of up to 4,096 nodes", of four bytes each
+-- "reads a KWG of up to 4,096 nodes"
+abbrev pub mostNodes : ℕ
+mostNodes = 4_096
+
+-- of four bytes each
 abbrev pub mostBytes : ℕ
 mostBytes = 16_384
+
+-- "with lists long enough": for the most nodes, their counts, and two numbers a node to count in
+pub record LongEnough (lentNodes lentCounts lentWork : List ℕ) : Type 0 where
+  pub nodes : mostNodes ≤ length lentNodes
+  pub counts : mostNodes ≤ length lentCounts
+  pub work : 2 * mostNodes ≤ length lentWork
 
 -- The first bytes of an input, as many as a buffer has room for, were read into it: so many.
 abbrev pub ReadInto : List ℕ → ℕ → List ℕ → Type 0
@@ -96,6 +106,7 @@ printed (lists g) = listed 0 (startWords g)
 
 -- The whole output for an input. It is determined, though the node in refusal 12 is the program's choice (`WholeOutput`).
 pub record Prints (input lentNodes lentCounts lentWork output : List ℕ) : Type 0 where
+  pub enough : LongEnough lentNodes lentCounts lentWork
   pub ends : Ends
   pub nodes : List ℕ
   pub counts : List ℕ

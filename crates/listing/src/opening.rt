@@ -2,7 +2,7 @@
 ghost use mathlib.Core.Path.{_≡_};
 ghost use Prim.Native.Nat.{_<_};
 ghost use lib.ListN.{length};
-ghost use Rattle.listing.specs.Wordlist.{start, mostBytes, load as loading};
+ghost use Rattle.listing.specs.Wordlist.{start, mostBytes, LongEnough, load as loading};
 ghost use Rattle.listing.specs.Said.{saidLoad, LoadsAs, atStart, CountsAs, OpensRead};
 ghost use Rattle.load.specs.Said.{saidFinish};
 use count::Counted;
@@ -103,7 +103,7 @@ fn count_loaded(nodes: &[u32], counts: &mut [u32], work: &mut [u32]) -> Unprinte
     }
 }
 
-// Opens what was read into a buffer that has room for more bytes than may be listed.
+// Opens what was read into a buffer that has room for more bytes than may be listed; the lists are long enough for all that may be.
 fn open_read(
     input: &[u8],
     read: usize,
@@ -111,7 +111,7 @@ fn open_read(
     counts: &mut [u32],
     work: &mut [u32],
 ) -> Unprinted
-    requires { ⌜ mostBytes < length (now input) ⌝ }
+    requires { ⌜ (mostBytes < length (now input)) × LongEnough (now nodes) (now counts) (now work) ⌝ }
     ensures { λ r. ⌜ OpensRead (now (input .entry)) read (now (nodes .entry)) (now (counts .entry)) (now (work .entry)) r (now (nodes .exit)) (now (counts .exit)) (now (work .exit)) ⌝ }
 {
     if MOST_BYTES < read {

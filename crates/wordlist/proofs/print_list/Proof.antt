@@ -1,7 +1,8 @@
 -- Each block lies within its buffer, and fewer lines are left after it, so that the loop ends.
 use borrow.Author.Needs.{needs}
 use mathlib.Core.Path.{sym}
-use Prim.Native.Nat.{_≤_, _<_}
+use mathlib.Core.List.{List}
+use Prim.Native.Nat.{ℕ, _≤_, _<_}
 use lib.ListN.{length}
 use lib.Seq.{length-take-le}
 use Rattle.listing.specs.Printing.{linesLeft}
@@ -37,13 +38,23 @@ returns : tie.Need-returns Inv-loop μ-loop
 returns c = search needs
 
 -- the block that was made, and what is left after it
-made : (c : tie.After-known-told Inv-loop μ-loop)
-    → (c .before .written .given .0 .0 ≤ length (c .before .before .before .next-block .last .1 .1 .1 .0))
-    × (linesLeft (c .before .written .given .0 .1 .0) < linesLeft (c .before .before .before .before .before .before .before .loop .unprinted))
-made c = let o = c .before .before .before .before .before .before .before .before in
-    let n = c .before .before .before .next-block in
-    made-block (o .«open» .last .1 .1 .0) (o .«open» .last .1 .1 .1 .0) (c .before .before .before .before .before .before .before .loop .unprinted) (c .before .before .before .before .before .before .before .loop .block) (n .last .1 .1 .1 .0) (n .result)
-    (c .before .written .given .1) (n .ensures)
+module _ (c : tie.After-known-told Inv-loop μ-loop) where
+  abbrev opened : tie.After-open Inv-loop μ-loop
+  opened = c .before .before .before .before .before .before .before .before
+
+  abbrev turn : tie.At-loop Inv-loop μ-loop
+  turn = c .before .before .before .before .before .before .before
+
+  abbrev next : tie.After-next-block Inv-loop μ-loop
+  next = c .before .before .before
+
+  abbrev after : List ℕ
+  after = next .next-block .last .1 .1 .1 .0
+
+  made : (c .before .written .given .0 .0 ≤ length after) × (linesLeft (c .before .written .given .0 .1 .0) < linesLeft (turn .loop .unprinted))
+  made =
+      made-block (opened .«open» .last .1 .1 .0) (opened .«open» .last .1 .1 .1 .0) (turn .loop .unprinted) (turn .loop .block) after
+      (next .next-block .result) (c .before .written .given .1) (next .next-block .ensures)
 
 array-share-prefix-block : tie.Need-array-share-prefix-block Inv-loop μ-loop
 array-share-prefix-block c = made c .0

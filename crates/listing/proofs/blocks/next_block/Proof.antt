@@ -27,13 +27,15 @@ fill-requires c κs = search needs
 returns-2 : tie.Need-returns-2
 returns-2 c = let a = c .before .before .before .before .before .args in
     let m = c .before .before .before .unprinted .given in
-    made-refusal (a .nodes .now) (a .counts .now) (a .unprinted) (a .out .now) _ (m .0 .0) _ (m .1) (omega (arith, refusal-length (m .0 .0) (omega arith))) (c .put-refusal .ensures)
+    made-refusal (a .nodes .now) (a .counts .now) (a .unprinted) (a .out .now) _ (m .0 .0) _ (m .1)
+    (omega (arith, refusal-length (m .0 .0) (omega arith))) (c .put-refusal .ensures)
 
 returns-3 : tie.Need-returns-3
 returns-3 c = let a = c .before .before .before .before .before .before .before .before .args in
     let m = c .before .before .before .before .before .before .unprinted2 .given in
     let f = c .fill in
-    made-words (a .nodes .now) (a .counts .now) (a .unprinted) (a .out .now) _ _ _ _ (m .1) (f .result) (c .before .before .before .before .if1 .left) (omega arith) (f .ensures)
+    made-words (a .nodes .now) (a .counts .now) (a .unprinted) (a .out .now) _ _ _ _ (m .1) (f .result) _
+    (c .before .before .before .before .if1 .left) (omega arith) (f .ensures) (omega arith)
 
 pub next-block-spec : {M : Type 1} → statement M
 next-block-spec =

@@ -1,8 +1,8 @@
 -- Each answer of finish has its number.
-use mathlib.Core.Path.{refl, sym, subst}
+use native.Mathlib.Omega.{arith}
+use mathlib.Core.Path.{ap}
 use Rattle.load.specs.Said.{saidFinish}
-use Rattle.listing.specs.Wordlist.{RefusesBy}
-use Rattle.load.specs.declared.loader.Finished.{Finished}
+use Rattle.listing.proofs.OpeningLaws.{refuses-by}
 use borrow.Author.Needs.{needs}
 use Rattle.listing.proofs.opening.after_begin.Statement.{statement}
 use Rattle.listing.proofs.opening.after_begin.Tie as tie
@@ -29,19 +29,19 @@ returns : tie.Need-returns
 returns c = search needs
 
 returns-2 : tie.Need-returns-2
-returns-2 c = subst (λ (f : Finished). RefusesBy (saidFinish f) 4) (sym (c .enum-told .given .1)) refl
+returns-2 c = refuses-by 4 (ap saidFinish (c .enum-told .given .1)) (omega arith)
 
 returns-3 : tie.Need-returns-3
-returns-3 c = subst (λ (f : Finished). RefusesBy (saidFinish f) 6) (sym (c .enum-told2 .given .1)) refl
+returns-3 c = refuses-by 6 (ap saidFinish (c .enum-told2 .given .1)) (omega arith)
 
 returns-4 : tie.Need-returns-4
-returns-4 c = subst (λ (f : Finished). RefusesBy (saidFinish f) 7) (sym (c .enum-told3 .given .1)) refl
+returns-4 c = refuses-by 7 (ap saidFinish (c .enum-told3 .given .1)) (omega arith)
 
 returns-5 : tie.Need-returns-5
-returns-5 c = subst (λ (f : Finished). RefusesBy (saidFinish f) 8) (sym (c .enum-told4 .given .1)) refl
+returns-5 c = refuses-by 8 (ap saidFinish (c .enum-told4 .given .1)) (omega arith)
 
 returns-6 : tie.Need-returns-6
-returns-6 c = subst (λ (f : Finished). RefusesBy (saidFinish f) 9) (sym (c .enum-told5 .given .1)) refl
+returns-6 c = refuses-by 9 (ap saidFinish (c .enum-told5 .given .1)) (omega arith)
 
 pub after-begin-spec : {M : Type 1} → statement M
 after-begin-spec =

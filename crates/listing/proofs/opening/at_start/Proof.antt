@@ -1,5 +1,6 @@
 -- The start is node 0's arc; where that is 0 there are no words.
 use Rattle.listing.proofs.OpeningLaws.{no-words, some-words}
+use native.Mathlib.Omega.{arith}
 use borrow.Author.Needs.{needs}
 use Rattle.listing.proofs.opening.at_start.Statement.{statement}
 use Rattle.listing.proofs.opening.at_start.Tie as tie
@@ -12,7 +13,7 @@ arc-index-requires c κs = search needs
 
 returns : tie.Need-returns
 returns c = let a = c .before .before .before .before .before .args in
-    no-words (a .nodes .now) (a .counts .now) (c .before .arc-index .ensures) (c .if1 .taken)
+    no-words (a .nodes .now) (a .counts .now) (c .before .arc-index .ensures) (omega (arith, c .if1 .taken))
 
 cast-t8 : tie.Need-cast-t8
 cast-t8 c = search needs

@@ -36,10 +36,16 @@ module _ (c : tie.After-finish) where
   abbrev from : tie.Start
   from = c .before .before .before .before .before .before .before .before .before .before .before .before
 
-  answered : Answered (load (from .args .input .now) (from .args .nodes .now)) (c .before .before .before .before .before .before .before .before .begin .result .answer) (c .finish .result) (c .finish .last .1 .0)
+  abbrev begun : tie.After-begin
+  begun = c .before .before .before .before .before .before .before .before
+
+  abbrev fed : tie.After-feed
+  fed = c .before .before .before .before .before
+
+  answered : Answered (load (from .args .input .now) (from .args .nodes .now)) (begun .begin .result .answer) (c .finish .result) (c .finish .last .1 .0)
   answered =
-      whole-load (from .args .input .now) (from .args .nodes .now) (c .before .before .before .before .before .before .before .before .begin .result) (c .before .before .before .before .before .feed .result) (c .finish .result)
-      (c .before .before .before .before .before .before .before .before .begin .ensures) (c .before .before .before .before .before .feed .ensures) (c .finish .ensures)
+      whole-load (from .args .input .now) (from .args .nodes .now) (begun .begin .result) (fed .feed .result) (c .finish .result)
+      (begun .begin .ensures) (fed .feed .ensures) (c .finish .ensures)
 
 same-length : tie.Need-same-length
 same-length c = search needs

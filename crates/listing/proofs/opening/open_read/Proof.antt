@@ -13,11 +13,11 @@ use Rattle.listing.proofs.opening.open_read.Tie as tie
 
 returns : tie.Need-returns
 returns c input h = let s = c .before .before .before .before .before in
-    open-longer (read-longer (s .args .input .now) input (s .args .read) (s .pre) (c .if1 .taken) h)
+    open-longer (s .pre .1) (read-longer (s .args .input .now) input (s .args .read) (s .pre .0) (omega (arith, c .if1 .taken)) h)
 
 -- fewer bytes were read than the buffer has room for
 within : (c : tie.After-load-arg) → let s = c .before .before .before .before .before .before in s .args .read < length (s .args .input .now)
-within c = omega (arith, c .before .before .before .before .before .before .pre, c .before .if1 .left)
+within c = omega (arith, c .before .before .before .before .before .before .pre .0, c .before .if1 .left)
 
 slice-aggregate-load : tie.Need-slice-aggregate-load
 slice-aggregate-load c = sym (length-take-le _ _ (omega (arith, within c)))
@@ -34,7 +34,8 @@ enum-known-count c = search needs
 
 slice-reshare-prefix-count-loaded : tie.Need-slice-reshare-prefix-count-loaded
 slice-reshare-prefix-count-loaded c = let a = c .before .before .before .before .before .before .before .before .before .before .before .before .before .args in
-    nodes-within (take (a .read) (a .input .now)) (a .nodes .now) (loads-as (c .before .count .given .1) (c .before .before .before .before .before .load .ensures))
+    nodes-within (take (a .read) (a .input .now)) (a .nodes .now)
+    (loads-as (c .before .count .given .1) (c .before .before .before .before .before .load .ensures))
 
 slice-aggregate-count-loaded : tie.Need-slice-aggregate-count-loaded
 slice-aggregate-count-loaded c = sym (length-take-le _ _ (slice-reshare-prefix-count-loaded (c .before)))
@@ -59,7 +60,7 @@ returns-2 c = let match = c .before .before .before .before .before .before .bef
     let e = match .before .before .before .before .before .before in
     let s = e .before .before .before .before .before .before in
     let l = loads-as (match .count .given .1) (match .before .before .before .before .load .ensures) in
-    opens-read (s .args .input .now) (s .args .read) (within e) (open-loaded (few e) _ _ l (c .before .before .before .before .count-loaded .ensures))
+    opens-read (s .args .input .now) (s .args .read) (within e) (open-loaded (s .pre .1) (few e) _ _ l (c .before .before .before .before .count-loaded .ensures))
 
 same-length-4 : tie.Need-same-length-4
 same-length-4 c = search needs
@@ -68,7 +69,7 @@ returns-3 : tie.Need-returns-3
 returns-3 c = let e = c .before .before .before .before .before .before .before in
     let s = e .before .before .before .before .before .before in
     let l = loads-as (c .before .number .given .1) (c .before .before .before .before .before .load .ensures) in
-    opens-read (s .args .input .now) (s .args .read) (within e) (open-unloaded (few e) _ l)
+    opens-read (s .args .input .now) (s .args .read) (within e) (open-unloaded (s .pre .1) (few e) _ l)
 
 pub open-read-spec : {M : Type 1} → statement M
 open-read-spec =
