@@ -5,7 +5,7 @@ use std::io::{self, BufRead, BufReader, BufWriter, Write};
 use std::process::{Child, ChildStdin, ChildStdout, Command, Stdio};
 
 enum Reply {
-    Answer(String),
+    Case(String),
     Panic,
     Died,
     Unreadable(String),
@@ -45,7 +45,7 @@ impl Worker {
             return Reply::Died;
         };
         match line.split_once(' ').unwrap_or((line, "")) {
-            (worker::ANSWER, answer) => Reply::Answer(answer.to_string()),
+            (worker::CASE, case) => Reply::Case(case.to_string()),
             (worker::PANIC, _) => Reply::Panic,
             (worker::UNREADABLE, why) => Reply::Unreadable(why.to_string()),
             _ => Reply::Unreadable(format!("the worker said {line:?}")),
@@ -80,9 +80,9 @@ pub fn write() -> Result<(), String> {
             worker = Some(living);
         }
         let line = match reply {
-            Reply::Answer(answer) => {
+            Reply::Case(case) => {
                 cases += 1;
-                format!("{request} {answer}")
+                case
             }
             // Comments, so that they never stand in a list as cases.
             Reply::Panic => {

@@ -23,9 +23,37 @@ pub struct Family {
     // The numbers of its calls, which no other family has.
     pub calls: RangeInclusive<u64>,
     pub requests: fn(&mut Requests),
-    // The Rust's answer to a call with these inputs. An error is for a request
-    // that cannot be asked; what the Rust refuses is an answer.
-    pub answer: fn(u64, &mut Inputs) -> Result<Vec<u64>, Unreadable>,
+    // The case of a call with these inputs. An error is for a request that
+    // cannot be asked; what the Rust refuses is an answer.
+    pub answer: fn(u64, &mut Inputs) -> Result<Case, Unreadable>,
+}
+
+// What a list stores of a request: its inputs as a list of words and a list of
+// bytes, and the Rust's answer.
+pub struct Case {
+    pub words: Vec<u32>,
+    pub bytes: Vec<u8>,
+    pub answer: Vec<u64>,
+}
+
+impl Case {
+    // For a call with no list of bytes.
+    fn of_words(words: Vec<u32>, answer: Vec<u64>) -> Self {
+        Self {
+            words,
+            bytes: Vec::new(),
+            answer,
+        }
+    }
+
+    fn numbers(&self, call: u64) -> Vec<u64> {
+        let mut numbers = vec![call, self.words.len() as u64];
+        numbers.extend(self.words.iter().map(|&word| u64::from(word)));
+        numbers.push(self.bytes.len() as u64);
+        numbers.extend(self.bytes.iter().map(|&byte| u64::from(byte)));
+        numbers.extend(&self.answer);
+        numbers
+    }
 }
 
 const FAMILIES: &[Family] = &[
@@ -59,5 +87,5 @@ pub fn answer(request: &str) -> Result<String, Unreadable> {
         .iter()
         .find(|family| family.calls.contains(&call))
         .ok_or_else(|| format!("no call {call}"))?;
-    Ok(join(&(family.answer)(call, &mut inputs)?))
+    Ok(join(&(family.answer)(call, &mut inputs)?.numbers(call)))
 }

@@ -5,7 +5,7 @@ use std::io::{BufRead, Write};
 use std::panic;
 
 // What the child says of a request, as the first word of its line.
-pub const ANSWER: &str = "answer";
+pub const CASE: &str = "case";
 pub const PANIC: &str = "panic";
 pub const UNREADABLE: &str = "unreadable";
 
@@ -28,7 +28,7 @@ fn answer_all() -> Result<(), String> {
     for request in std::io::stdin().lock().lines() {
         let request = request.map_err(|e| e.to_string())?;
         let line = match panic::catch_unwind(|| calls::answer(&request)) {
-            Ok(Ok(answer)) => format!("{ANSWER} {answer}"),
+            Ok(Ok(case)) => format!("{CASE} {case}"),
             Ok(Err(why)) => format!("{UNREADABLE} {why}"),
             Err(_) => PANIC.to_string(),
         };

@@ -32,6 +32,16 @@ fn answers(input: &str) -> (String, String) {
     (text(output.stdout), text(output.stderr))
 }
 
+// The line of a case: the call, its words and its bytes, each list with its
+// length before it, and the answer.
+fn case(call: u32, words: &str, bytes: &str, answer: &str) -> String {
+    let list = |numbers: &str| match numbers.split_whitespace().count() {
+        0 => "0".into(),
+        many => format!("{many} {numbers}"),
+    };
+    format!("{call} {} {} {answer}\n", list(words), list(bytes))
+}
+
 // A graph of five nodes in each layout.
 const KWG: [u32; 5] = [0x00400002, 0x00400000, 0x01800004, 0x02400004, 0x02c00000];
 const KBWG: [u32; 5] = [0x240, 0x40, 0x481, 0x442, 0xc2];
@@ -45,50 +55,59 @@ fn bytes(words: &[u32]) -> String {
 #[test]
 fn a_panic_is_reported_and_the_next_request_answered() {
     let (list, said) = answers("0 0\n0 1\n1 0 12582913\n");
-    assert_eq!(list, "0 0 0\n# panic: 0 1\n1 0 12582913 0 1 1 1\n");
+    assert_eq!(list, "0 1 0 0 0\n# panic: 0 1\n1 2 0 12582913 0 0 1 1 1\n");
     assert_eq!(said, "2 cases, 1 panic, 0 died\n");
 }
 
 #[test]
 fn an_exhausted_stack_is_reported_and_the_next_request_answered() {
     let (list, said) = answers("0 2\n0 0\n0 2\n1 1 449\n");
-    assert_eq!(list, "# died: 0 2\n0 0 0\n# died: 0 2\n1 1 449 1 1 1 1\n");
+    assert_eq!(
+        list,
+        "# died: 0 2\n0 1 0 0 0\n# died: 0 2\n1 2 1 449 0 1 1 1 1\n"
+    );
     assert_eq!(said, "died: 0 2\ndied: 0 2\n2 cases, 0 panic, 2 died\n");
 }
 
 #[test]
 fn an_abort_is_reported_and_the_next_request_answered() {
     let (list, said) = answers("0 3\n0 0\n");
-    assert_eq!(list, "# died: 0 3\n0 0 0\n");
+    assert_eq!(list, "# died: 0 3\n0 1 0 0 0\n");
     assert_eq!(said, "died: 0 3\n1 cases, 0 panic, 1 died\n");
 }
 
 #[test]
 fn the_sample_graph_is_repacked_either_way() {
     for (from, to, before, after) in [(0, 1, KWG, KBWG), (1, 0, KBWG, KWG)] {
-        let request = format!("4 {from} {to} 20 {}", bytes(&before));
-        let expected = format!("{request} 0 {}\n", bytes(&after));
-        assert_eq!(answers(&(request + "\n")).0, expected);
+        let request = format!("4 {from} {to} 20 {}\n", bytes(&before));
+        let answer = format!("0 0 0 0 {}", bytes(&after));
+        let expected = case(4, &format!("{from} {to}"), &bytes(&before), &answer);
+        assert_eq!(answers(&request).0, expected);
     }
 }
 
 #[test]
 fn the_sample_graph_loads_in_either_layout() {
-    for (layout, words) in [(0, KWG), (1, KBWG)] {
-        let request = format!("5 {layout} 20 {}", bytes(&words));
-        let expected = format!("{request} 0 5 576 64 1153 1090 194\n");
-        assert_eq!(answers(&(request + "\n")).0, expected);
+    // The cut is the sum of the bytes, modulo the places there are.
+    for (layout, words, cut) in [(0, KWG, 2), (1, KBWG, 2)] {
+        let request = format!("5 {layout} 20 {}\n", bytes(&words));
+        let answer = "0 0 5 0 0 576 64 1153 1090 194";
+        let expected = case(5, &format!("{layout} {cut}"), &bytes(&words), answer);
+        assert_eq!(answers(&request).0, expected);
     }
 }
 
 #[test]
 fn a_refused_load_says_why() {
-    let not_whole = "5 0 0 1\n5 1 3 64 0 0 1\n";
-    // The second node of two has tile 64 and arc 3; the first's arc is 2.
-    let misfit = "5 0 8 2 0 64 5 3 0 0 64 6 1 64 3\n";
-    let arcs = "5 1 8 64 2 0 0 64 3 0 0 8 3\n";
-    let no_end = "5 1 8 64 1 0 0 0 1 0 0 9\n";
-    let expected = [not_whole, misfit, arcs, no_end].concat();
+    let expected = [
+        case(5, "0 0", "", "1"),
+        case(5, "1 0", "64 0 0", "1"),
+        // The second node of two has tile 64 and arc 3; the first's arc is 2.
+        case(5, "0 3", "2 0 64 5 3 0 0 64", "6 3 0 1 64"),
+        case(5, "1 7", "64 2 0 0 64 3 0 0", "8 3 0 0 0"),
+        case(5, "1 3", "64 1 0 0 0 1 0 0", "9 0 0 0 0"),
+    ]
+    .concat();
     let requests = "5 0 0\n5 1 3 64 0 0\n5 0 8 2 0 64 5 3 0 0 64\n\
                     5 1 8 64 2 0 0 64 3 0 0\n5 1 8 64 1 0 0 0 1 0 0\n";
     assert_eq!(answers(requests).0, expected);
@@ -97,43 +116,76 @@ fn a_refused_load_says_why() {
 #[test]
 fn the_words_of_the_sample_graph_have_numbers() {
     // The words are 1, 1 2 and 2 2, from node 2.
-    let graph = "5 576 64 1153 1090 194";
+    let graph = "576 64 1153 1090 194";
     let counts = "3 0 3 1 1";
-    let mut expected = format!("6 {graph} 0 {counts}\n");
-    let mut requests = format!("6 {graph}\n");
-    for (number, word) in ["1 1", "2 1 2", "2 2 2"].iter().enumerate() {
-        requests += &format!("7 {graph} {counts} 2 {word}\n8 {graph} {counts} 2 {number}\n");
-        expected += &format!("7 {graph} {counts} 2 {word} 0 {number}\n");
-        expected += &format!("8 {graph} {counts} 2 {number} 0 {word}\n");
+    let mut requests = format!("6 5 {graph}\n");
+    let mut expected = case(6, graph, "", &format!("0 0 {counts}"));
+    for (number, word) in ["1", "1 2", "2 2"].iter().enumerate() {
+        let tiles = word.split(' ').count();
+        requests += &format!("7 5 {graph} {counts} 2 {tiles} {word}\n");
+        requests += &format!("8 5 {graph} {counts} 2 {number}\n");
+        let words = format!("2 5 {graph} {counts}");
+        expected += &case(7, &words, word, &format!("0 1 {number}"));
+        let words = format!("2 {number} 5 {graph} {counts}");
+        expected += &case(8, &words, "", &format!("0 1 {tiles} {word}"));
     }
     // No such word, none from node 0, and no such number.
-    for request in ["7", "7", "8"].iter().zip(["2 1 2", "0 1 1", "2 3"]) {
-        let request = format!("{} {graph} {counts} {}", request.0, request.1);
-        requests += &format!("{request}\n");
-        expected += &format!("{request} 1\n");
+    for (start, word) in [(2, 2), (0, 1)] {
+        requests += &format!("7 5 {graph} {counts} {start} 1 {word}\n");
+        let words = format!("{start} 5 {graph} {counts}");
+        expected += &case(7, &words, &word.to_string(), "0 0 0");
     }
+    requests += &format!("8 5 {graph} {counts} 2 3\n");
+    expected += &case(8, &format!("2 3 5 {graph} {counts}"), "", "0 0 0");
+    // By these counts the walk puts tile 1 before it finds no word.
+    let counts = "9 9 9 1 1";
+    requests += &format!("8 5 {graph} {counts} 2 7\n");
+    expected += &case(8, &format!("2 7 5 {graph} {counts}"), "", "0 0 0 1");
     assert_eq!(answers(&requests).0, expected);
+}
+
+#[test]
+fn a_loop_and_too_many_words_are_not_counted() {
+    // Node 1 leads to itself.
+    let (list, _) = answers("6 2 320 320\n");
+    assert_eq!(list, case(6, "320 320", "", "12 0 0 0"));
+    // 32 runs of two nodes that both lead to the next.
+    let run = |at: u64| match at {
+        0 | 1 => 0x240,
+        at => (at < 64) as u64 * (at / 2 * 2 + 2) * 256 + at % 2 * 64 + (at >= 64) as u64 * 128,
+    };
+    let nodes: Vec<String> = (0..66).map(|at| run(at).to_string()).collect();
+    let nodes = nodes.join(" ");
+    let (list, _) = answers(&format!("6 66 {nodes}\n"));
+    assert_eq!(
+        list,
+        case(6, &nodes, "", &format!("13 0{}", " 0".repeat(66)))
+    );
 }
 
 #[test]
 fn the_runs_of_the_sample_graph_have_tiles() {
     // Nodes 2 and 3 are a run of the tiles 1 and 2, of which 1 accepts.
-    let graph = "5 576 64 1153 1090 194";
-    let cases = [
-        ("9", "0 2", "0 3"),
-        ("9", "2 2", "0 4"),
-        ("9", "0 3", "1"),
-        ("10", "2", "1 3"),
-        ("10", "3", "0"),
-        ("12", "3 0 1 1", "1"),
-        ("12", "3 0 0 1", "0"),
-        ("13", "3 0 0 1", "7"),
-    ];
-    let mut requests = format!("11 {graph}\n");
-    let mut expected = format!("11 {graph} 1 1 6 4 4 0 0 2 0 4\n");
-    for (call, inputs, answer) in cases {
-        requests += &format!("{call} {graph} {inputs}\n");
-        expected += &format!("{call} {graph} {inputs} {answer}\n");
+    let graph = "576 64 1153 1090 194";
+    let mut requests = format!("11 5 {graph}\n");
+    let mut expected = case(11, graph, "", "0 1 1 6 4 4 0 0 2 0 4");
+    for (call, inputs, answer) in [
+        (9, "0 2", "0 1 3"),
+        (9, "2 2", "0 1 4"),
+        (9, "0 3", "0 0 0"),
+        (10, "2", "0 0 3"),
+        (10, "3", "0 1 3"),
+    ] {
+        requests += &format!("{call} 5 {graph} {inputs}\n");
+        expected += &case(call, &format!("{inputs} {graph}"), "", answer);
+    }
+    for (call, tally, answer) in [
+        (12, "0 1 1", "0 1"),
+        (12, "0 0 1", "0 0"),
+        (13, "0 0 1", "0 7"),
+    ] {
+        requests += &format!("{call} 5 {graph} 3 {tally}\n");
+        expected += &case(call, graph, tally, answer);
     }
     assert_eq!(answers(&requests).0, expected);
 }
@@ -148,35 +200,40 @@ fn big_endian(words: &[u32]) -> String {
 fn the_sample_graph_is_written_as_a_file_of_macondo() {
     // The tiles are ?, A and B; the name is G. Node 1's arc is 0, so that a
     // gaddag starts at node 0, whose tile 0 leads to the same run.
-    let graph = "5 576 64 1153 1090 194";
+    let graph = "576 64 1153 1090 194";
     let letters = big_endian(&[2, 0x41, 0x42]);
     let dawg = [2, 0, 1, 0, 2, 4, 0x02000000, 3, 0x01000003, 1];
     let gaddag = [
         3, 0, 0, 0, 1, 0, 2, 6, 0x01000000, 0x32000002, 0x02000001, 5, 0x01000005, 2,
     ];
     let files = [
-        format!("0 58 99 100 119 103 1 71 {letters} {}", big_endian(&dawg)),
-        format!("0 74 99 103 100 103 1 71 {letters} {}", big_endian(&gaddag)),
+        format!("0 0 58 99 100 119 103 1 71 {letters} {}", big_endian(&dawg)),
+        format!(
+            "0 0 74 99 103 100 103 1 71 {letters} {}",
+            big_endian(&gaddag)
+        ),
     ];
     for (format, file) in files.iter().enumerate() {
-        let request = format!("14 {graph} {format} 3 63 65 66 1 71");
-        let expected = format!("{request} {file}\n");
-        assert_eq!(answers(&(request + "\n")).0, expected);
+        let request = format!("14 5 {graph} {format} 3 63 65 66 1 71\n");
+        let words = format!("{format} 3 63 65 66 {graph}");
+        assert_eq!(answers(&request).0, case(14, &words, "71", file));
     }
 }
 
 #[test]
 fn the_sample_graph_is_written_as_an_lxd_file() {
-    let graph = "5 576 64 1153 1090 194 3 63 65 66 1 71 0";
+    let graph = "576 64 1153 1090 194";
     let nodes = [0x8a800000, 0x8a800002, 0x50400004, 0x90800004, 0xd0800000];
-    let expected = format!(
-        "15 {graph} 0 84 {} 71{} {} {}\n",
+    let answer = format!(
+        "0 0 84 {} 71{} {} {}",
         bytes(&[64, 5]),
         " 0".repeat(51),
         bytes(&[3]),
         bytes(&nodes)
     );
-    assert_eq!(answers(&format!("15 {graph}\n")).0, expected);
+    let request = format!("15 5 {graph} 3 63 65 66 1 71 0\n");
+    let words = format!("3 1 0 63 65 66 71 {graph}");
+    assert_eq!(answers(&request).0, case(15, &words, "", &answer));
 }
 
 #[test]
@@ -198,8 +255,8 @@ fn a_refused_file_says_why() {
     ];
     for (call, inputs, refusal) in cases {
         let request = format!("{call} {graph} {inputs}");
-        let expected = format!("{request} {refusal}\n");
-        assert_eq!(answers(&(request + "\n")).0, expected);
+        let (list, _) = answers(&(request + "\n"));
+        assert!(list.ends_with(&format!(" {refusal} 0 0\n")), "{list}");
     }
 }
 
@@ -225,8 +282,8 @@ fn a_refusal_names_the_node_and_keeps_what_was_done() {
     let (list, _) = answers("4 0 1 10 1 0 64 5 3 0 0 64 7 7\n3 0 1 1073741827\n");
     assert_eq!(
         list,
-        "4 0 1 10 1 0 64 5 3 0 0 64 7 7 6 1 64 3 69 1 0 0 3 0 0 64 7 7\n\
-         3 0 1 1073741827 6 64 3\n"
+        "4 2 0 1 10 1 0 64 5 3 0 0 64 7 7 6 3 1 64 69 1 0 0 3 0 0 64 7 7\n\
+         3 3 0 1 1073741827 0 6 64 3\n"
     );
 }
 
@@ -263,7 +320,7 @@ fn the_lists_are_the_same_each_time_and_fully_answered() {
         if request.starts_with('#') {
             assert_eq!(line, request);
         } else {
-            assert!(line.starts_with(&format!("{request} ")));
+            assert_eq!(line.split(' ').next(), request.split(' ').next());
             assert!(line.bytes().all(|b| b.is_ascii_digit() || b == b' '));
         }
     }

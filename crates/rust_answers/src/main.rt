@@ -1,18 +1,10 @@
 // Replays the stored answers of a Rust program, which stand on standard input a case to a line, and
 // says which lines our calls answer otherwise.
-mod files;
-mod graphs;
-mod loading;
-mod nodes;
-mod numbers;
-mod tiles;
-
 use stored::CALLS;
 use stored::Ended;
 use stored::Line;
 use stored::ROOM;
 use stored::Tally;
-use stored::Verdict;
 use stored::print_cases;
 ghost use Prim.Native.Nat.{_≤_};
 ghost use lib.ListN.{length};
@@ -105,18 +97,7 @@ fn judged(tally: Tally, numbers: &[u64], count: usize) -> Tally
     requires { ⌜ (1 ≤ count) × (count ≤ length (now numbers)) ⌝ }
 {
     let call = numbers[0];
-    tally.judged(call, verdict(call, &numbers[1..count]))
-}
-
-fn verdict(call: u64, case: &[u64]) -> Verdict {
-    match call {
-        1 => nodes::node_fields(case),
-        2 => nodes::pack(case),
-        3 => nodes::repack_node(case),
-        4 => nodes::repack_in_place(case),
-        5 => loading::load(case),
-        _ => graphs::judge(call, case),
-    }
+    tally.judged(call, replay::judge(call, &numbers[1..count]))
 }
 
 fn print(tally: Tally) {

@@ -1,3 +1,3 @@
-pub mod Decided
-pub mod Same
-pub mod Copying
+pub mod SameLaws
+pub mod InputLaws
+pub mod PartLaws

@@ -1,49 +1,53 @@
--- What the contracts on answers cite: the form of a stored answer, and what it means that an answer is the stored one. Assumes nothing.
-use Prim.Native.Nat.{ℕ, _+_, _-_, _^_, _≤_, _<_}
-use mathlib.Core.Path.{_≡_}
-use mathlib.Core.Bool.{Bool, true, false}
-use mathlib.Core.List.{List}
-use lib.ListN.{length, getD, take, drop}
-use lib.Dec.{ltb}
-use Rattle.stored.specs.Inputs.{pick}
+-- When a stored answer is the one given: number by number, with none missing and none left over.
+use mathlib.Core.Path.{_≡_, refl, sym, ap}
+use mathlib.Core.Bool.{Bool, true, false, _&&_, true≢false}
+use mathlib.Core.List.{List, [], _∷_, _++_}
+use Prim.Native.Nat.{ℕ}
+use borrow.Author.Tests.{eqb-true, eq-eqb}
+use lib.Dec.{eqb}
+use lib.ListN.{length, take, drop}
+use Rattle.laws.specs.Cases.{and-left, and-right}
 use Rattle.stored.specs.declared.answers.Verdict.{Verdict}
 
--- the most that the number at a place may be: its limit, and past the limits the same for all
-abbrev pub limitAt : List ℕ → ℕ → ℕ → ℕ
-limitAt limits at most = pick (ltb at (length limits)) (getD limits at 0) most
-
--- from the place on a case has a number for each limit, none above it, then so many more, none above the most, and nothing else
-pub record Shaped (case : List ℕ) (from : ℕ) (limits : List ℕ) (more most : ℕ) : Type 0 where
-  pub sized : length case ≡ from + (length limits + more)
-  pub within : (k : ℕ) → k < length case - from → getD case (from + k) 0 ≤ limitAt limits k most
-
--- the same after the number of an answer's kind
-pub record Answered (case : List ℕ) (at kind : ℕ) (limits : List ℕ) (more most : ℕ) : Type 0 where
-  pub there : at < length case
-  pub of-kind : getD case at 0 ≡ kind
-  pub rest : Shaped case (at + 1) limits more most
-
--- the number that an answer starts with, which of an empty one is the highest that there is, and the number after it
-abbrev pub kindOf : List ℕ → ℕ
-kindOf stored = getD stored 0 (2 ^ 64 - 1)
-
-abbrev pub secondOf : List ℕ → ℕ
-secondOf stored = getD stored 1 0
-
-pub record Decides (answer : Bool) (fact : Type 0) : Type 0 where
-  pub sound : answer ≡ true → fact
-  pub complete : fact → answer ≡ true
-
--- the numbers stand in the list from the place on
-pub record HasAt (list : List ℕ) (at : ℕ) (numbers : List ℕ) : Type 0 where
-  pub reached : at ≤ length list
-  pub there : take (length numbers) (drop at list) ≡ numbers
+unfoldable pub same : List ℕ → List ℕ → Bool
+same [] [] = true
+same [] (y ∷ ys) = false
+same (x ∷ xs) [] = false
+same (x ∷ xs) (y ∷ ys) = eqb x y && same xs ys
 
 abbrev pub verdictOf : Bool → Verdict
 verdictOf true = Verdict.Same
 verdictOf false = Verdict.Different
 
--- an answer is the same where it is all that the case stores from the place on, and nowhere else
-pub record Agrees (verdict : Verdict) (case : List ℕ) (from : ℕ) (answer : List ℕ) : Type 0 where
-  pub same : verdict ≡ Verdict.Same → drop from case ≡ answer
-  pub stored : from ≤ length case → drop from case ≡ answer → verdict ≡ Verdict.Same
+-- it says so of equal lists and of no others
+pub same-equal : (xs ys : List ℕ) → same xs ys ≡ true → xs ≡ ys
+unfolding same
+same-equal [] [] h = refl
+same-equal [] (y ∷ ys) h = absurd (true≢false (sym h))
+same-equal (x ∷ xs) [] h = absurd (true≢false (sym h))
+same-equal (x ∷ xs) (y ∷ ys) h =
+    rw (eqb-true x y (and-left (eqb x y) (same xs ys) h), same-equal xs ys (and-right (eqb x y) (same xs ys) h))
+
+pub equal-same : (xs : List ℕ) → same xs xs ≡ true
+unfolding same
+equal-same [] = refl
+equal-same (x ∷ xs) = rw (eq-eqb x x refl, equal-same xs)
+
+after : (b c d e : Bool) → c ≡ d && e → b && c ≡ (b && d) && e
+after true c d e h = h
+after false c d e h = refl
+
+-- a list is two, one after the other, where its parts are
+pub same-append : (stored xs ys : List ℕ) → same stored (xs ++ ys) ≡ same (take (length xs) stored) xs && same (drop (length xs) stored) ys
+unfolding same
+same-append stored [] ys = refl
+same-append [] (x ∷ xs) ys = refl
+same-append (s ∷ ss) (x ∷ xs) ys = after (eqb s x) _ (same (take (length xs) ss) xs) (same (drop (length xs) ss) ys) (same-append ss xs ys)
+
+-- so it is compared by its front and the rest
+module _ (stored xs ys front : List ℕ) (f : front ≡ take (length xs) stored) where
+  pub then-rest : (back : List ℕ) → back ≡ drop (length xs) stored → same front xs ≡ true → same back ys ≡ same stored (xs ++ ys)
+  then-rest back b t = rw (b, same-append stored xs ys, ← f, t)
+
+  pub not-front : same front xs ≡ false → false ≡ same stored (xs ++ ys)
+  not-front t = rw (same-append stored xs ys, ← f, t)

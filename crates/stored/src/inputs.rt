@@ -1,163 +1,102 @@
-// The inputs of a case, read from it by their places.
+// The lists of inputs that a case has, each with its length before it.
+use crate::parts::numbers_from;
+use crate::parts::numbers_to;
 ghost use mathlib.Core.Path.{_≡_};
-ghost use Rattle.stored.specs.Inputs.{numberAt, wordAt, byteAt, flagAt, Within, Held, Copied};
+ghost use mathlib.Core.Bool.{true};
+ghost use Prim.Native.Nat.{_≤_};
+ghost use lib.ListN.{length};
+ghost use lib.Seq.{sets};
+ghost use Rattle.stored.specs.Inputs.{allWithin, listIn, countOf, copiedTo};
 
 // The most that a number of each kind may be.
-pub const WORD: u64 = 4294967295;
+const WORD: u64 = 4294967295;
 
-pub const BYTE: u64 = 255;
+const BYTE: u64 = 255;
 
-pub const FLAG: u64 = 1;
-
-// What an input is, where the case has it and it is in range.
-pub enum Number {
-    Is(u64),
-    Malformed,
-}
-
-pub enum Word {
-    Is(u32),
-    Malformed,
-}
-
-pub enum Byte {
-    Is(u8),
-    Malformed,
-}
-
-pub enum Flag {
-    Is(bool),
-    Malformed,
-}
-
-// How many there are of a list, where the case has them and they are in range.
+// How many there are in a list, where the case has them, they are in range and there is room for them.
 pub enum Count {
     Are(usize),
     Malformed,
 }
 
-fn number_at(case: &[u64], at: usize, most: u64) -> Number
-    ensures { λ r. ⌜ r ≡ numberAt most (now (case .entry)) at ⌝ }
+// Copies the list of words that a case starts with to the front of the words.
+pub fn words_in(case: &[u64], words: &mut [u32]) -> Count
+    ensures count { λ r. ⌜ r ≡ countOf (listIn 4294967295 (length (now (words .entry))) (now (case .entry))) ⌝ }
+    ensures copied { λ _. ⌜ now (words .exit) ≡ copiedTo (now (words .entry)) (listIn 4294967295 (length (now (words .entry))) (now (case .entry))) ⌝ }
 {
-    if case.len() <= at {
-        return Number::Malformed;
-    }
-    let number = case[at];
-    if number <= most {
-        Number::Is(number)
-    } else {
-        Number::Malformed
-    }
+    let Count::Are(count) = count_in(case, WORD, words.len()) else {
+        return Count::Malformed;
+    };
+    copy_words(numbers_to(numbers_from(case, 1), count), words);
+    Count::Are(count)
 }
 
-pub fn word_at(case: &[u64], at: usize) -> Word
-    ensures { λ r. ⌜ r ≡ wordAt (now (case .entry)) at ⌝ }
+// The same of bytes.
+pub fn bytes_in(case: &[u64], bytes: &mut [u8]) -> Count
+    ensures count { λ r. ⌜ r ≡ countOf (listIn 255 (length (now (bytes .entry))) (now (case .entry))) ⌝ }
+    ensures copied { λ _. ⌜ now (bytes .exit) ≡ copiedTo (now (bytes .entry)) (listIn 255 (length (now (bytes .entry))) (now (case .entry))) ⌝ }
 {
-    match number_at(case, at, WORD) {
-        Number::Is(number) => Word::Is(number as u32),
-        Number::Malformed => Word::Malformed,
-    }
+    let Count::Are(count) = count_in(case, BYTE, bytes.len()) else {
+        return Count::Malformed;
+    };
+    copy_bytes(numbers_to(numbers_from(case, 1), count), bytes);
+    Count::Are(count)
 }
 
-pub fn byte_at(case: &[u64], at: usize) -> Byte
-    ensures { λ r. ⌜ r ≡ byteAt (now (case .entry)) at ⌝ }
+// How many are in the list that a case starts with: none of them above the most, and no more than
+// there is room for.
+fn count_in(case: &[u64], most: u64, room: usize) -> Count
+    ensures { λ r. ⌜ r ≡ countOf (listIn most room (now (case .entry))) ⌝ }
 {
-    match number_at(case, at, BYTE) {
-        Number::Is(number) => Byte::Is(number as u8),
-        Number::Malformed => Byte::Malformed,
-    }
-}
-
-// 0 is false, 1 is true.
-pub fn flag_at(case: &[u64], at: usize) -> Flag
-    ensures { λ r. ⌜ r ≡ flagAt (now (case .entry)) at ⌝ }
-{
-    match number_at(case, at, FLAG) {
-        Number::Is(number) => Flag::Is(number == 1),
-        Number::Malformed => Flag::Malformed,
-    }
-}
-
-// How long the list is whose length stands at a place, where the case has all of it.
-fn count_at(case: &[u64], at: usize) -> Count
-    ensures { λ r. ⌜ Within r (now (case .entry)) at ⌝ }
-{
-    if case.len() <= at {
+    if case.len() == 0 {
         return Count::Malformed;
     }
-    let count = case[at] as usize;
-    let start = at + 1;
-    if case.len() - start < count {
-        Count::Malformed
-    } else {
+    let count = case[0] as usize;
+    let rest = numbers_from(case, 1);
+    if rest.len() < count {
+        return Count::Malformed;
+    }
+    if room < count {
+        return Count::Malformed;
+    }
+    if all_within(numbers_to(rest, count), most) {
         Count::Are(count)
+    } else {
+        Count::Malformed
     }
 }
 
-// Copies the list of bytes whose length stands at a place, and answers how many there are.
-pub fn bytes_at(case: &[u64], at: usize, bytes: &mut [u8]) -> Count
-    ensures { λ r. ⌜ Held r (now (case .entry)) at (now (bytes .exit)) ⌝ }
+fn all_within(numbers: &[u64], most: u64) -> bool
+    ensures { λ r. ⌜ r ≡ allWithin most (now (numbers .entry)) ⌝ }
 {
-    let Count::Are(count) = count_at(case, at) else {
-        return Count::Malformed;
-    };
-    let start = at + 1;
-    let end = start + count;
-    if !copy_bytes(&case[start..end], bytes) {
-        return Count::Malformed;
-    }
-    Count::Are(count)
-}
-
-// The same of words.
-pub fn words_at(case: &[u64], at: usize, words: &mut [u32]) -> Count
-    ensures { λ r. ⌜ Held r (now (case .entry)) at (now (words .exit)) ⌝ }
-{
-    let Count::Are(count) = count_at(case, at) else {
-        return Count::Malformed;
-    };
-    let start = at + 1;
-    let end = start + count;
-    if !copy_words(&case[start..end], words) {
-        return Count::Malformed;
-    }
-    Count::Are(count)
-}
-
-// Copies the numbers to the front of the bytes, and answers whether they are bytes and there is room.
-fn copy_bytes(numbers: &[u64], bytes: &mut [u8]) -> bool
-    ensures { λ r. ⌜ Copied r (now (numbers .entry)) (now (bytes .exit)) ⌝ }
-{
-    if bytes.len() < numbers.len() {
-        return false;
-    }
     let mut i = 0;
     while i < numbers.len() {
-        let number = numbers[i];
-        if BYTE < number {
+        if most < numbers[i] {
             return false;
         }
-        bytes[i] = number as u8;
         i += 1;
     }
     true
 }
 
-// The same of words.
-pub fn copy_words(numbers: &[u64], words: &mut [u32]) -> bool
-    ensures { λ r. ⌜ Copied r (now (numbers .entry)) (now (words .exit)) ⌝ }
+fn copy_words(numbers: &[u64], words: &mut [u32])
+    requires { ⌜ (length (now numbers) ≤ length (now words)) × (allWithin 4294967295 (now numbers) ≡ true) ⌝ }
+    ensures { λ _. ⌜ now (words .exit) ≡ sets (now (words .entry)) 0 (now (numbers .entry)) ⌝ }
 {
-    if words.len() < numbers.len() {
-        return false;
-    }
     let mut i = 0;
     while i < numbers.len() {
-        let number = numbers[i];
-        if WORD < number {
-            return false;
-        }
-        words[i] = number as u32;
+        words[i] = numbers[i] as u32;
         i += 1;
     }
-    true
+}
+
+fn copy_bytes(numbers: &[u64], bytes: &mut [u8])
+    requires { ⌜ (length (now numbers) ≤ length (now bytes)) × (allWithin 255 (now numbers) ≡ true) ⌝ }
+    ensures { λ _. ⌜ now (bytes .exit) ≡ sets (now (bytes .entry)) 0 (now (numbers .entry)) ⌝ }
+{
+    let mut i = 0;
+    while i < numbers.len() {
+        bytes[i] = numbers[i] as u8;
+        i += 1;
+    }
 }

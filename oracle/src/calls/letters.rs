@@ -1,16 +1,16 @@
-// Calls 9 to 13: a tile in a run, the nodes of a run, the tiles of each run,
+// Calls 9 to 13: a tile in a run, a step along a run, the tiles of each run,
 // and the alpha sets of a tally of letters.
 
 mod requests;
 
-use super::Family;
 use super::graphs::kwg_of;
-use super::outcome::{DONE, NONE};
+use super::outcome::{ABSENT, DONE, FOUND};
+use super::{Case, Family};
 use crate::kwg::{Kwg, Node, Node24};
 use crate::numbers::{Inputs, Unreadable};
 
 const SEEK: u64 = 9;
-const RUN: u64 = 10;
+const STEP: u64 = 10;
 const LETTER_BITS: u64 = 11;
 const ACCEPTS_ALPHA: u64 = 12;
 const ALPHA_CROSS_SET: u64 = 13;
@@ -22,55 +22,68 @@ pub const FAMILY: Family = Family {
     answer,
 };
 
-fn answer(call: u64, inputs: &mut Inputs) -> Result<Vec<u64>, Unreadable> {
-    let graph = kwg_of(&inputs.words()?);
+fn answer(call: u64, inputs: &mut Inputs) -> Result<Case, Unreadable> {
+    let words = inputs.words()?;
+    let graph = kwg_of(&words);
     match call {
-        SEEK => seek(&graph, inputs),
-        RUN => run(&graph, inputs),
-        LETTER_BITS => letter_bits(&graph, inputs),
-        ACCEPTS_ALPHA => {
-            let tally = tally(inputs)?;
-            Ok(vec![graph.accepts_alpha(&tally).into()])
-        }
-        _ => {
-            let tally = tally(inputs)?;
-            Ok(vec![graph.compute_alpha_cross_set(&tally)])
-        }
+        SEEK => seek(&graph, &words, inputs),
+        STEP => step(&graph, &words, inputs),
+        LETTER_BITS => letter_bits(&graph, words, inputs),
+        _ => alpha(call, &graph, words, inputs),
     }
 }
 
-fn tally(inputs: &mut Inputs) -> Result<Vec<u8>, Unreadable> {
-    let tally = inputs.bytes()?;
+fn alpha(
+    call: u64,
+    graph: &Kwg<Node24>,
+    words: Vec<u32>,
+    inputs: &mut Inputs,
+) -> Result<Case, Unreadable> {
+    let bytes = inputs.bytes()?;
     inputs.end()?;
-    Ok(tally)
+    let value = match call {
+        ACCEPTS_ALPHA => graph.accepts_alpha(&bytes).into(),
+        _ => graph.compute_alpha_cross_set(&bytes),
+    };
+    Ok(Case {
+        words,
+        bytes,
+        answer: vec![DONE, value],
+    })
 }
 
-fn seek(graph: &Kwg<Node24>, inputs: &mut Inputs) -> Result<Vec<u64>, Unreadable> {
+fn seek(graph: &Kwg<Node24>, words: &[u32], inputs: &mut Inputs) -> Result<Case, Unreadable> {
     let place = inputs.index()?;
     let tile = inputs.byte()?;
     inputs.end()?;
-    Ok(match graph.seek(place, tile) {
-        -1 => vec![NONE],
-        found => vec![DONE, found as u64],
-    })
+    let answer = match graph.seek(place, tile) {
+        -1 => ABSENT.to_vec(),
+        found => vec![DONE, FOUND, found as u64],
+    };
+    let asked = [place as u32, tile.into()];
+    Ok(Case::of_words([&asked, words].concat(), answer))
 }
 
 // The Rust has no call for it: its loops over a run are written out, each with
 // this test before this step.
-fn run(graph: &Kwg<Node24>, inputs: &mut Inputs) -> Result<Vec<u64>, Unreadable> {
-    let mut place = inputs.index()?;
+fn step(graph: &Kwg<Node24>, words: &[u32], inputs: &mut Inputs) -> Result<Case, Unreadable> {
+    let place = inputs.index()?;
     inputs.end()?;
-    let mut after = Vec::new();
-    while !graph[place].is_end() {
-        place += 1;
-        after.push(place as u64);
-    }
-    after.insert(0, after.len() as u64);
-    Ok(after)
+    let answer = if graph[place].is_end() {
+        vec![DONE, 1, place as u64]
+    } else {
+        vec![DONE, 0, place as u64 + 1]
+    };
+    Ok(Case::of_words([&[place as u32], words].concat(), answer))
 }
 
-fn letter_bits(graph: &Kwg<Node24>, inputs: &mut Inputs) -> Result<Vec<u64>, Unreadable> {
+fn letter_bits(
+    graph: &Kwg<Node24>,
+    words: Vec<u32>,
+    inputs: &mut Inputs,
+) -> Result<Case, Unreadable> {
     inputs.end()?;
     let bits = graph.compute_letter_bits();
-    Ok([bits.letter_bits, bits.accepting_bits].concat())
+    let answer = [&[DONE], &*bits.letter_bits, &*bits.accepting_bits].concat();
+    Ok(Case::of_words(words, answer))
 }

@@ -2,11 +2,11 @@
 
 mod requests;
 
-use super::Family;
 use super::layout::{Layout, fields_of};
 use super::outcome::{
     ARC_PAST_END, DOES_NOT_FIT, DONE, NO_END, NOT_WHOLE_NODES, named_in, tile_and_arc, unknown,
 };
+use super::{Case, Family};
 use crate::error;
 use crate::kwg::{Kwg, Node24, kbwg_from_bytes_alloc};
 use crate::numbers::{Inputs, Unreadable};
@@ -20,16 +20,28 @@ pub const FAMILY: Family = Family {
     answer,
 };
 
-fn answer(_call: u64, inputs: &mut Inputs) -> Result<Vec<u64>, Unreadable> {
+fn answer(_call: u64, inputs: &mut Inputs) -> Result<Case, Unreadable> {
     let layout = Layout::read(inputs)?;
     let bytes = inputs.bytes()?;
     inputs.end()?;
-    match load(layout, &bytes) {
-        Ok(graph) => loaded(&graph),
+    let answer = match load(layout, &bytes) {
+        Ok(graph) => loaded(&graph)?,
         Err(refusal) => {
-            refused(layout, &bytes, &refusal.to_string()).ok_or_else(|| unknown(&refusal))
+            refused(layout, &bytes, &refusal.to_string()).ok_or_else(|| unknown(&refusal))?
         }
-    }
+    };
+    Ok(Case {
+        words: vec![layout as u32, cut_of(&bytes)],
+        bytes,
+        answer,
+    })
+}
+
+// Where the replay cuts the file in two, which the Rust takes whole: any place,
+// but the same for the same file.
+fn cut_of(bytes: &[u8]) -> u32 {
+    let sum: u32 = bytes.iter().map(|&byte| u32::from(byte)).sum();
+    sum % (bytes.len() as u32 + 1)
 }
 
 fn load(layout: Layout, bytes: &[u8]) -> error::Returns<Kwg<Node24>> {
@@ -38,7 +50,7 @@ fn load(layout: Layout, bytes: &[u8]) -> error::Returns<Kwg<Node24>> {
 
 // A node keeps its word to itself: it is packed again from its fields.
 fn loaded(graph: &Kwg<Node24>) -> Result<Vec<u64>, Unreadable> {
-    let mut answer = vec![DONE, graph.0.len() as u64];
+    let mut answer = vec![DONE, 0, graph.0.len() as u64, 0, 0];
     for &node in &graph.0 {
         let word = Layout::Kbwg
             .pack(&fields_of(node))
@@ -54,15 +66,15 @@ fn refused(layout: Layout, bytes: &[u8], message: &str) -> Option<Vec<u64>> {
         return Some(vec![NOT_WHOLE_NODES]);
     }
     if message == "the word graph's last node does not end its run" {
-        return Some(vec![NO_END]);
+        return Some(vec![NO_END, 0, 0, 0, 0]);
     }
     if let Some((tile, arc)) = tile_and_arc(message) {
         let node = refused_node(layout, bytes, message)?;
-        return Some(vec![DOES_NOT_FIT, node, tile, arc]);
+        return Some(vec![DOES_NOT_FIT, arc, 0, node, tile]);
     }
     let past = format!(", past its {} nodes", bytes.len() / 4);
     let arc = named_in(message, "the word graph points to node ", &past)?;
-    Some(vec![ARC_PAST_END, arc.parse().ok()?])
+    Some(vec![ARC_PAST_END, arc.parse().ok()?, 0, 0, 0])
 }
 
 // The refusal does not say which node it was: the last node of the shortest

@@ -2,10 +2,10 @@
 
 mod requests;
 
-use super::Family;
 use super::graphs::kwg_of;
 use super::labels::alphabet_of;
-use super::outcome::{NOT_LATIN_1, NOT_ONE_CODE_POINT, TOO_LONG, file, unknown};
+use super::outcome::{NOT_LATIN_1, NOT_ONE_CODE_POINT, TOO_LONG, file, no_file, unknown};
+use super::{Case, Family};
 use crate::lexport::to_lxd;
 use crate::numbers::{Inputs, Unreadable};
 
@@ -18,28 +18,36 @@ pub const FAMILY: Family = Family {
     answer,
 };
 
-fn answer(_call: u64, inputs: &mut Inputs) -> Result<Vec<u64>, Unreadable> {
-    let graph = kwg_of(&inputs.words()?);
+fn answer(_call: u64, inputs: &mut Inputs) -> Result<Case, Unreadable> {
+    let words = inputs.words()?;
     let labels = inputs.words()?;
-    let title = text(inputs)?;
-    let date = text(inputs)?;
+    let title = inputs.words()?;
+    let date = inputs.words()?;
     inputs.end()?;
-    let alphabet = alphabet_of(&labels)?.ok_or("the Rust makes no alphabet of these labels")?;
-    match to_lxd(&graph, &alphabet, &title, &date) {
+    let head = [labels.len() as u32, title.len() as u32, date.len() as u32];
+    let answer = written(&words, &labels, &text(&title)?, &text(&date)?)?;
+    let words = [&head, &labels[..], &title, &date, &words].concat();
+    Ok(Case::of_words(words, answer))
+}
+
+fn written(words: &[u32], labels: &[u32], title: &str, date: &str) -> Result<Vec<u64>, Unreadable> {
+    let graph = kwg_of(words);
+    let alphabet = alphabet_of(labels)?.ok_or("the Rust makes no alphabet of these labels")?;
+    match to_lxd(&graph, &alphabet, title, date) {
         Ok(bytes) => Ok(file(&bytes)),
         Err(refusal) => match refusal.to_string().as_str() {
-            "unsupported title" | "unsupported date" => Ok(vec![NOT_LATIN_1]),
-            "title too long" | "date too long" => Ok(vec![TOO_LONG]),
-            "unrepresentable letter" => Ok(vec![NOT_ONE_CODE_POINT]),
+            "unsupported title" | "unsupported date" => Ok(no_file(NOT_LATIN_1)),
+            "title too long" | "date too long" => Ok(no_file(TOO_LONG)),
+            "unrepresentable letter" => Ok(no_file(NOT_ONE_CODE_POINT)),
             _ => Err(unknown(&refusal)),
         },
     }
 }
 
 // A text is a list of code points.
-fn text(inputs: &mut Inputs) -> Result<String, Unreadable> {
-    let text = inputs.words()?;
-    text.iter()
+fn text(numbers: &[u32]) -> Result<String, Unreadable> {
+    numbers
+        .iter()
         .map(|&number| char::from_u32(number).ok_or(format!("{number} is no code point")))
         .collect()
 }

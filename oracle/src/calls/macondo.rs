@@ -2,10 +2,10 @@
 
 mod requests;
 
-use super::Family;
 use super::graphs::kwg_of;
 use super::labels::alphabet_of;
-use super::outcome::{LABEL_COUNT, NOT_ONE_CODE_POINT, TOO_LONG, file, unknown};
+use super::outcome::{LABEL_COUNT, NOT_ONE_CODE_POINT, TOO_LONG, file, no_file, unknown};
+use super::{Case, Family};
 use crate::lexport::{MacondoFormat, to_macondo};
 use crate::numbers::{Inputs, Unreadable};
 
@@ -22,25 +22,42 @@ pub const FAMILY: Family = Family {
     answer,
 };
 
-fn answer(_call: u64, inputs: &mut Inputs) -> Result<Vec<u64>, Unreadable> {
-    let graph = kwg_of(&inputs.words()?);
-    let format = match inputs.number(GADDAG)? {
+fn answer(_call: u64, inputs: &mut Inputs) -> Result<Case, Unreadable> {
+    let words = inputs.words()?;
+    let format = inputs.number(GADDAG)?;
+    let labels = inputs.words()?;
+    let name = inputs.bytes()?;
+    inputs.end()?;
+    let head = [format as u32, labels.len() as u32];
+    Ok(Case {
+        answer: written(&words, format, &labels, &name)?,
+        words: [&head, &labels[..], &words].concat(),
+        bytes: name,
+    })
+}
+
+fn written(
+    words: &[u32],
+    format: u64,
+    labels: &[u32],
+    name: &[u8],
+) -> Result<Vec<u64>, Unreadable> {
+    let graph = kwg_of(words);
+    let format = match format {
         DAWG => MacondoFormat::Dawg,
         _ => MacondoFormat::Gaddag,
     };
-    let labels = inputs.words()?;
-    let name = String::from_utf8(inputs.bytes()?).map_err(|e| e.to_string())?;
-    inputs.end()?;
+    let name = str::from_utf8(name).map_err(|e| e.to_string())?;
     // Without an alphabet the Rust comes no further.
-    let Some(alphabet) = alphabet_of(&labels)? else {
-        return Ok(vec![LABEL_COUNT]);
+    let Some(alphabet) = alphabet_of(labels)? else {
+        return Ok(no_file(LABEL_COUNT));
     };
-    match to_macondo(&graph, &alphabet, &name, format) {
+    match to_macondo(&graph, &alphabet, name, format) {
         Ok(bytes) => Ok(file(&bytes)),
         Err(refusal) => match refusal.to_string().as_str() {
-            "too many letters for gaddag" => Ok(vec![LABEL_COUNT]),
-            "lexicon name too long" => Ok(vec![TOO_LONG]),
-            "tile is not one codepoint" => Ok(vec![NOT_ONE_CODE_POINT]),
+            "too many letters for gaddag" => Ok(no_file(LABEL_COUNT)),
+            "lexicon name too long" => Ok(no_file(TOO_LONG)),
+            "tile is not one codepoint" => Ok(no_file(NOT_ONE_CODE_POINT)),
             _ => Err(unknown(&refusal)),
         },
     }

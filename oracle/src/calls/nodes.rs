@@ -2,9 +2,9 @@
 
 mod requests;
 
-use super::Family;
 use super::layout::{Fields, Layout, repack};
 use super::outcome::{DOES_NOT_FIT, DONE, tile_and_arc, unknown};
+use super::{Case, Family};
 use crate::numbers::{Inputs, Unreadable};
 
 const FIELDS: u64 = 1;
@@ -19,7 +19,7 @@ pub const FAMILY: Family = Family {
     answer,
 };
 
-fn answer(call: u64, inputs: &mut Inputs) -> Result<Vec<u64>, Unreadable> {
+fn answer(call: u64, inputs: &mut Inputs) -> Result<Case, Unreadable> {
     match call {
         FIELDS => fields(inputs),
         PACK => pack(inputs),
@@ -28,21 +28,22 @@ fn answer(call: u64, inputs: &mut Inputs) -> Result<Vec<u64>, Unreadable> {
     }
 }
 
-fn fields(inputs: &mut Inputs) -> Result<Vec<u64>, Unreadable> {
+fn fields(inputs: &mut Inputs) -> Result<Case, Unreadable> {
     let layout = Layout::read(inputs)?;
     let word = inputs.word()?;
     inputs.end()?;
     let fields = layout.fields(word);
-    Ok(vec![
+    let answer = vec![
         fields.tile.into(),
         fields.accepts.into(),
         fields.is_end.into(),
         // Widened with its sign, so that a negative arc would stand out.
         fields.arc_index as u64,
-    ])
+    ];
+    Ok(Case::of_words(vec![layout as u32, word], answer))
 }
 
-fn pack(inputs: &mut Inputs) -> Result<Vec<u64>, Unreadable> {
+fn pack(inputs: &mut Inputs) -> Result<Case, Unreadable> {
     let layout = Layout::read(inputs)?;
     let fields = Fields {
         tile: inputs.byte()?,
@@ -51,47 +52,62 @@ fn pack(inputs: &mut Inputs) -> Result<Vec<u64>, Unreadable> {
         arc_index: inputs.index()?,
     };
     inputs.end()?;
-    Ok(match layout.pack(&fields) {
+    let words = vec![
+        layout as u32,
+        fields.tile.into(),
+        fields.accepts.into(),
+        fields.is_end.into(),
+        fields.arc_index as u32,
+    ];
+    // The Rust gives none, and no more: the tile and the arc are those asked.
+    let answer = match layout.pack(&fields) {
         Some(word) => vec![DONE, word.into()],
-        None => vec![DOES_NOT_FIT],
-    })
+        None => vec![DOES_NOT_FIT, fields.tile.into(), fields.arc_index as u64],
+    };
+    Ok(Case::of_words(words, answer))
 }
 
 // The Rust's own repacking of one node is private: four bytes in place are one
 // node.
-fn repack_one(inputs: &mut Inputs) -> Result<Vec<u64>, Unreadable> {
+fn repack_one(inputs: &mut Inputs) -> Result<Case, Unreadable> {
     let from = Layout::read(inputs)?;
     let to = Layout::read(inputs)?;
-    let mut bytes = inputs.word()?.to_le_bytes();
+    let word = inputs.word()?;
     inputs.end()?;
-    match repack(from, to, &mut bytes) {
-        Ok(()) => Ok(vec![DONE, u32::from_le_bytes(bytes).into()]),
+    let mut bytes = word.to_le_bytes();
+    let answer = match repack(from, to, &mut bytes) {
+        Ok(()) => vec![DONE, u32::from_le_bytes(bytes).into()],
         Err(refusal) => {
             let (tile, arc) =
                 tile_and_arc(&refusal.to_string()).ok_or_else(|| unknown(&refusal))?;
-            Ok(vec![DOES_NOT_FIT, tile, arc])
+            vec![DOES_NOT_FIT, tile, arc]
         }
-    }
+    };
+    Ok(Case::of_words(vec![from as u32, to as u32, word], answer))
 }
 
-fn repack_bytes(inputs: &mut Inputs) -> Result<Vec<u64>, Unreadable> {
+fn repack_bytes(inputs: &mut Inputs) -> Result<Case, Unreadable> {
     let from = Layout::read(inputs)?;
     let to = Layout::read(inputs)?;
     let before = inputs.bytes()?;
     inputs.end()?;
     let mut after = before.clone();
     let mut answer = match repack(from, to, &mut after) {
-        Ok(()) => vec![DONE],
+        Ok(()) => vec![DONE, 0, 0, 0],
         Err(refusal) => {
             let node = refused_node(from, to, &before)
                 .ok_or("refused, but no node of it is refused by itself")?;
             let (tile, arc) =
                 tile_and_arc(&refusal.to_string()).ok_or_else(|| unknown(&refusal))?;
-            vec![DOES_NOT_FIT, node, tile, arc]
+            vec![DOES_NOT_FIT, arc, node, tile]
         }
     };
     answer.extend(after.into_iter().map(u64::from));
-    Ok(answer)
+    Ok(Case {
+        words: vec![from as u32, to as u32],
+        bytes: before,
+        answer,
+    })
 }
 
 // The refusal does not say which node it was: the last node of the shortest

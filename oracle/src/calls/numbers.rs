@@ -3,9 +3,9 @@
 mod in_range;
 mod requests;
 
-use super::Family;
 use super::graphs::kwg_of;
-use super::outcome::{DONE, NONE, unknown};
+use super::outcome::{ABSENT, DONE, FOUND, LOOP, TOO_MANY, named_in, unknown};
+use super::{Case, Family};
 use crate::numbers::{Inputs, Unreadable};
 
 const COUNT: u64 = 6;
@@ -19,37 +19,60 @@ pub const FAMILY: Family = Family {
     answer,
 };
 
-fn answer(call: u64, inputs: &mut Inputs) -> Result<Vec<u64>, Unreadable> {
+fn answer(call: u64, inputs: &mut Inputs) -> Result<Case, Unreadable> {
     let words = inputs.words()?;
     match call {
-        COUNT => count(&words, inputs),
+        COUNT => count(words, inputs),
         WORD_TO_NUMBER => number_of_word(&words, inputs),
         _ => word_of_number(&words, inputs),
     }
 }
 
-fn count(words: &[u32], inputs: &mut Inputs) -> Result<Vec<u64>, Unreadable> {
+// The Rust's message names a node of the loop, but not every program finds the
+// same one: it is not stored. After a refusal there are no counts.
+fn count(words: Vec<u32>, inputs: &mut Inputs) -> Result<Case, Unreadable> {
     inputs.end()?;
-    let counts = kwg_of(words)
-        .count_words_alloc()
-        .map_err(|refusal| unknown(&refusal))?;
-    let mut answer = vec![DONE];
-    answer.extend(counts.iter().map(|&count| u64::from(count)));
-    Ok(answer)
+    let answer = match kwg_of(&words).count_words_alloc() {
+        Ok(counts) => {
+            let mut answer = vec![DONE, 0];
+            answer.extend(counts.iter().map(|&count| u64::from(count)));
+            answer
+        }
+        Err(refusal) => {
+            let mut answer = vec![0; words.len() + 2];
+            answer[0] = refused_count(&refusal.to_string()).ok_or_else(|| unknown(&refusal))?;
+            answer
+        }
+    };
+    Ok(Case::of_words(words, answer))
 }
 
-fn number_of_word(words: &[u32], inputs: &mut Inputs) -> Result<Vec<u64>, Unreadable> {
+fn refused_count(message: &str) -> Option<u64> {
+    if message == "the word graph holds too many words to count" {
+        return Some(TOO_MANY);
+    }
+    let node = named_in(message, "the word graph loops back to node ", "")?;
+    node.parse::<u32>().ok()?;
+    Some(LOOP)
+}
+
+fn number_of_word(words: &[u32], inputs: &mut Inputs) -> Result<Case, Unreadable> {
     let counts = inputs.words_of(words.len() as u64)?;
     let start = inputs.index()?;
     let word = inputs.bytes()?;
     inputs.end()?;
-    Ok(match kwg_of(words).get_word_index(&counts, start, &word) {
-        u32::MAX => vec![NONE],
-        number => vec![DONE, number.into()],
+    let answer = match kwg_of(words).get_word_index(&counts, start, &word) {
+        u32::MAX => ABSENT.to_vec(),
+        number => vec![DONE, FOUND, number.into()],
+    };
+    Ok(Case {
+        words: [&[start as u32, words.len() as u32], words, &counts].concat(),
+        bytes: word,
+        answer,
     })
 }
 
-fn word_of_number(words: &[u32], inputs: &mut Inputs) -> Result<Vec<u64>, Unreadable> {
+fn word_of_number(words: &[u32], inputs: &mut Inputs) -> Result<Case, Unreadable> {
     let counts = inputs.words_of(words.len() as u64)?;
     let start = inputs.index()?;
     let number = inputs.word()?;
@@ -57,18 +80,15 @@ fn word_of_number(words: &[u32], inputs: &mut Inputs) -> Result<Vec<u64>, Unread
     let mut word: Vec<u64> = Vec::new();
     let found =
         kwg_of(words).get_word_by_index(&counts, start, number, |tile| word.push(tile.into()));
-    match found {
-        Ok(()) => {
-            let mut answer = vec![DONE, word.len() as u64];
-            answer.extend(word);
-            Ok(answer)
+    let mut answer = match found {
+        Ok(()) => vec![DONE, FOUND, word.len() as u64],
+        Err(refusal) if refusal.to_string() == "the word graph has fewer words than the index" => {
+            ABSENT.to_vec()
         }
-        Err(refusal) => {
-            if refusal.to_string() == "the word graph has fewer words than the index" {
-                Ok(vec![NONE])
-            } else {
-                Err(unknown(&refusal))
-            }
-        }
-    }
+        Err(refusal) => return Err(unknown(&refusal)),
+    };
+    // Where there is no such word, what was put before the walk ended.
+    answer.extend(word);
+    let asked = [start as u32, number, words.len() as u32];
+    Ok(Case::of_words([&asked, words, &counts].concat(), answer))
 }

@@ -5,11 +5,11 @@ use crate::numbers::Unreadable;
 
 pub const DONE: u64 = 0;
 pub const NOT_WHOLE_NODES: u64 = 1;
-// Of a lookup: there is no such word.
-pub const NONE: u64 = 1;
 pub const DOES_NOT_FIT: u64 = 6;
 pub const ARC_PAST_END: u64 = 8;
 pub const NO_END: u64 = 9;
+pub const LOOP: u64 = 12;
+pub const TOO_MANY: u64 = 13;
 // Of a writer: the labels are none or too many; a name, a title or a date is
 // too long; a title or a date has a code point over FF hexadecimal; a label is
 // not one code point, or for LXD over FF.
@@ -18,11 +18,21 @@ pub const TOO_LONG: u64 = 19;
 pub const NOT_LATIN_1: u64 = 20;
 pub const NOT_ONE_CODE_POINT: u64 = 23;
 
+// Of a lookup: whether there is such a word or node; where there is not, the
+// whole answer.
+pub const FOUND: u64 = 1;
+pub const ABSENT: [u64; 3] = [DONE, 0, 0];
+
 // A written file: its length, and its bytes.
 pub fn file(bytes: &[u8]) -> Vec<u64> {
-    let mut answer = vec![DONE, bytes.len() as u64];
+    let mut answer = vec![DONE, 0, bytes.len() as u64];
     answer.extend(bytes.iter().map(|&byte| u64::from(byte)));
     answer
+}
+
+// No file, and the refusal carries no arc.
+pub fn no_file(refusal: u64) -> Vec<u64> {
+    vec![refusal, 0, 0]
 }
 
 // The numbers of a refusal are read out of the Rust's message, the only place

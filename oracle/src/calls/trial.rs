@@ -1,7 +1,7 @@
 // Call 0, for the tests only: shows that a run survives what a call may do.
 //   0 0 is answered, 0 1 panics, 0 2 exhausts the stack, 0 3 aborts.
 
-use super::Family;
+use super::{Case, Family};
 use crate::numbers::{Inputs, Unreadable};
 use std::hint::black_box;
 
@@ -16,15 +16,16 @@ pub const FAMILY: Family = Family {
     answer,
 };
 
-fn answer(_call: u64, inputs: &mut Inputs) -> Result<Vec<u64>, Unreadable> {
+fn answer(_call: u64, inputs: &mut Inputs) -> Result<Case, Unreadable> {
     let kind = inputs.number(3)?;
     inputs.end()?;
-    match kind {
-        0 => Ok(vec![0]),
+    let answer = match kind {
+        0 => 0,
         1 => panic!(),
-        2 => Ok(vec![deeper(0)]),
+        2 => deeper(0),
         _ => std::process::abort(),
-    }
+    };
+    Ok(Case::of_words(vec![kind as u32], vec![answer]))
 }
 
 // The black boxes keep the compiler from making a loop of it, or nothing.

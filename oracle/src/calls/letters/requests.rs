@@ -3,7 +3,7 @@
 use super::super::graphs::{ascend, nodes_of, pack_all, run_from};
 use super::super::layout::{Fields, Layout};
 use super::super::samples::{empty_graph, graph, words_of};
-use super::{ACCEPTS_ALPHA, ALPHA_CROSS_SET, LETTER_BITS, RUN, SEEK};
+use super::{ACCEPTS_ALPHA, ALPHA_CROSS_SET, LETTER_BITS, SEEK, STEP};
 use crate::random::Random;
 use crate::requests::Requests;
 
@@ -58,7 +58,7 @@ impl Graph {
 }
 
 pub fn requests(requests: &mut Requests) {
-    requests.comment("calls 9 to 11: a tile in a run, the nodes of a run, the tiles of each run");
+    requests.comment("calls 9 to 11: a tile in a run, a step along a run, the tiles of each run");
     sample_graphs(requests);
     all_tiles(requests);
     random_graphs(requests);
@@ -82,8 +82,8 @@ fn ask_seek(requests: &mut Requests, graph: &Graph, place: usize, tile: u8) {
     requests.ask(&numbers);
 }
 
-fn ask_run(requests: &mut Requests, graph: &Graph, place: usize) {
-    let mut numbers = head(RUN, graph);
+fn ask_step(requests: &mut Requests, graph: &Graph, place: usize) {
+    let mut numbers = head(STEP, graph);
     numbers.push(place as u64);
     requests.ask(&numbers);
 }
@@ -119,7 +119,7 @@ fn sample_graphs(requests: &mut Requests) {
             for tile in [0, 1, 2, 3, 63, 64, 255] {
                 ask_seek(requests, &graph, place, tile);
             }
-            ask_run(requests, &graph, place);
+            ask_step(requests, &graph, place);
         }
         ask_letter_bits(requests, &graph);
     }
@@ -142,7 +142,7 @@ fn all_tiles(requests: &mut Requests) {
             ask_seek(requests, &graph, 0, tile);
         }
         for place in [0, 1, 40, 63, 64] {
-            ask_run(requests, &graph, place);
+            ask_step(requests, &graph, place);
         }
         ask_letter_bits(requests, &graph);
         let last = [[0; LONGEST - 1].as_slice(), &[2]].concat();
@@ -185,7 +185,7 @@ fn random_graphs(requests: &mut Requests) {
                 }
                 let any = random.within(kind.tiles.0, kind.tiles.1 + 1) as u8;
                 ask_seek(requests, &graph, place, any);
-                ask_run(requests, &graph, place);
+                ask_step(requests, &graph, place);
             }
             ask_letter_bits(requests, &graph);
         }

@@ -2,7 +2,7 @@
 
 use super::super::graphs::{ascend, kwg_of, nodes_of, pack_all, random_nodes};
 use super::super::layout::{Fields, Layout};
-use super::super::samples::{empty_graph, graph, words_of};
+use super::super::samples::{doubled_chain, empty_graph, graph, words_of};
 use super::{COUNT, NUMBER_TO_WORD, WORD_TO_NUMBER, in_range};
 use crate::random::Random;
 use crate::requests::Requests;
@@ -51,11 +51,12 @@ pub fn requests(requests: &mut Requests) {
     random_graphs(requests);
     other_counts(requests);
     long_graphs(requests);
+    uncounted_graphs(requests);
 }
 
-fn ask_count(requests: &mut Requests, graph: &Graph) {
-    let mut numbers = vec![COUNT, graph.words.len() as u64];
-    numbers.extend(graph.words.iter().map(|&word| u64::from(word)));
+fn ask_count(requests: &mut Requests, words: &[u32]) {
+    let mut numbers = vec![COUNT, words.len() as u64];
+    numbers.extend(words.iter().map(|&word| u64::from(word)));
     requests.ask(&numbers);
 }
 
@@ -146,7 +147,7 @@ fn ask_from(requests: &mut Requests, graph: &Graph, counts: &[u32], start: usize
 fn sample_graphs(requests: &mut Requests) {
     for bytes in [graph(Layout::Kbwg), empty_graph(Layout::Kbwg)] {
         let graph = Graph::new(words_of(&bytes));
-        ask_count(requests, &graph);
+        ask_count(requests, &graph.words);
         for start in 0..graph.words.len() {
             ask_from(requests, &graph, &graph.counts, start);
         }
@@ -169,11 +170,11 @@ fn random_graphs(requests: &mut Requests) {
     for len in 2..=12 {
         for kind in 0..3 {
             for _ in 0..6 {
-                ask_count(requests, &random_graph(&mut random, len, kind));
+                ask_count(requests, &random_graph(&mut random, len, kind).words);
             }
             for _ in 0..2 {
                 let graph = random_graph(&mut random, len, kind);
-                ask_count(requests, &graph);
+                ask_count(requests, &graph.words);
                 let any = random.within(1, len as u64) as usize;
                 for start in [0, graph.nodes[0].arc_index as usize, graph.richest(), any] {
                     ask_from(requests, &graph, &graph.counts, start);
@@ -228,7 +229,7 @@ fn long_graphs(requests: &mut Requests) {
     ];
     for (nodes, starts) in graphs.iter().zip([[1, 190], [199, 10], [1, 150]]) {
         let graph = Graph::of_nodes(nodes);
-        ask_count(requests, &graph);
+        ask_count(requests, &graph.words);
         for start in starts {
             let words = words_from(&graph, start);
             for place in [0, 5, words.len() - 1] {
@@ -237,5 +238,23 @@ fn long_graphs(requests: &mut Requests) {
             }
             ask_number(requests, &graph, &graph.counts, start, words.len() as u32);
         }
+    }
+}
+
+// Graphs that may loop, with too few words to be too many; and runs of two
+// nodes that both lead to the next, up to one with too many words.
+fn uncounted_graphs(requests: &mut Requests) {
+    let mut random = Random::new(21);
+    for len in 2..=12 {
+        for _ in 0..6 {
+            let mut nodes = random_nodes(&mut random, len, 5);
+            for node in &mut nodes {
+                node.arc_index = random.within(0, len as u64) as i32;
+            }
+            ask_count(requests, &pack_all(&nodes));
+        }
+    }
+    for runs in 30..=34 {
+        ask_count(requests, &pack_all(&doubled_chain(runs, true)));
     }
 }

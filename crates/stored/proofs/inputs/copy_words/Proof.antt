@@ -1,61 +1,62 @@
--- `inputs::copy_words` meets its contract: each number passed stands in its place, and a store changes no other. Assumes nothing.
-use borrow.Author.Needs.{needs}
+-- `inputs::copy_words` stores number after number; what is left to store makes the same list as all of them.
 use native.Mathlib.Omega.{arith}
-use Prim.Native.Nat.{ℕ, _≤_, _<_, _-_}
-use mathlib.Core.Path.{_≡_}
-use borrow.Author.Count.{below-none}
-use lib.ListN.{length, getD}
-use Rattle.stored.proofs.Copying.{one-more, copied}
+use Prim.Native.Nat.{_≤_, _-_}
+use mathlib.Core.Path.{_≡_, refl, sym, _∙_}
+use lib.ListN.{length, drop, length-set}
+use lib.Seq.{sets}
+use borrow.Author.Needs.{needs}
+use Rattle.laws.specs.Sets.{sets-done}
+use Rattle.stored.proofs.InputLaws.{within-at, store-next}
 use Rattle.stored.proofs.inputs.copy_words.Statement.{statement}
 use Rattle.stored.proofs.inputs.copy_words.Tie as tie
 
 abbrev Inv-loop : tie.InvT-loop
-Inv-loop numbers words₀ i₀ words i = (i ≤ length numbers) × (length words ≡ length words₀) × ((k : ℕ) → k < i → getD words k 0 ≡ getD numbers k 0)
+Inv-loop numbers words₀ i₀ words i = (i ≤ length numbers) × (length words ≡ length words₀) × (sets words i (drop i numbers) ≡ sets words₀ 0 numbers)
 
 abbrev μ-loop : tie.MeasureT-loop
 μ-loop numbers words₀ i₀ words i = length numbers - i
 
-returns : tie.Need-returns Inv-loop μ-loop
-returns c = search needs
-
 loop-holds : tie.Need-loop-holds Inv-loop μ-loop
-loop-holds c = (search needs, search needs, below-none _)
-
-mul-number : tie.Need-mul-number Inv-loop μ-loop
-mul-number c = search needs
-
-shared-slice-read-number : tie.Need-shared-slice-read-number Inv-loop μ-loop
-shared-slice-read-number c = search needs
-
-same-length : tie.Need-same-length Inv-loop μ-loop
-same-length c = search needs
-
-returns-2 : tie.Need-returns-2 Inv-loop μ-loop
-returns-2 c = search needs
-
-cast-words : tie.Need-cast-words Inv-loop μ-loop
-cast-words c = search needs
+loop-holds c = (omega arith, refl, refl)
 
 mul-words : tie.Need-mul-words Inv-loop μ-loop
 mul-words c = search needs
 
+shared-slice-read-words : tie.Need-shared-slice-read-words Inv-loop μ-loop
+shared-slice-read-words c = omega arith
+
+cast-words : tie.Need-cast-words Inv-loop μ-loop
+cast-words c =
+    let start = c .before .before .before in
+    let i = c .before .before .loop .i in
+    let h = within-at 4_294_967_295 (start .args .numbers .now) i (start .pre .1) (omega arith) in
+    omega arith
+
+mul-words-2 : tie.Need-mul-words-2 Inv-loop μ-loop
+mul-words-2 c = search needs
+
 slice-write-words : tie.Need-slice-write-words Inv-loop μ-loop
-slice-write-words c = search needs
+slice-write-words c = omega (arith, c .before .before .before .pre .0)
 
 add-i : tie.Need-add-i Inv-loop μ-loop
-add-i c = search needs
+add-i c = omega arith
 
 loop-less : tie.Need-loop-less Inv-loop μ-loop
-loop-less c = search needs
+loop-less c = omega arith
 
 loop-again : tie.Need-loop-again Inv-loop μ-loop
-loop-again c = let l = c .before .before .before .loop in (search needs, search needs, one-more (c .before .before .before .before .before .args .numbers .now) (l .words) (l .i) (omega arith) (l .inv .2))
+loop-again c =
+    let loop = c .before .before .loop in
+    let numbers = c .before .before .before .args .numbers .now in
+    (omega arith, simp length-set (loop .inv .1), store-next (loop .words) numbers (loop .i) (omega arith) ∙ loop .inv .2)
 
-same-length-2 : tie.Need-same-length-2 Inv-loop μ-loop
-same-length-2 c = search needs
+same-length : tie.Need-same-length Inv-loop μ-loop
+same-length c = c .before .loop .inv .1
 
-returns-3 : tie.Need-returns-3 Inv-loop μ-loop
-returns-3 c = copied _ _ (omega arith) (λ k h. c .before .loop .inv .2 k (omega arith))
+returns : tie.Need-returns Inv-loop μ-loop
+returns c =
+    let loop = c .before .loop in
+    sym (sets-done (loop .words) (c .before .before .args .numbers .now) (loop .i) (loop .i) (omega arith)) ∙ loop .inv .2
 
 pub copy-words-spec : {M : Type 1} → statement M
 copy-words-spec =
@@ -63,17 +64,14 @@ copy-words-spec =
     (tie.spec
     Inv-loop
     μ-loop
-    returns
     loop-holds
-    mul-number
-    shared-slice-read-number
-    same-length
-    returns-2
-    cast-words
     mul-words
+    shared-slice-read-words
+    cast-words
+    mul-words-2
     slice-write-words
     add-i
     loop-less
     loop-again
-    same-length-2
-    returns-3)
+    same-length
+    returns)

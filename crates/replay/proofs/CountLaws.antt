@@ -1,0 +1,21 @@
+-- The flat answer of counting, and a count for each node, are a reply that counting may give.
+use mathlib.Core.Path.{_≡_, sym, ap, subst, _∙_}
+use mathlib.Core.Bool.{Bool}
+use mathlib.Core.List.{List, [], _∷_, _++_}
+use Prim.Native.Nat.{ℕ}
+use lib.ListN.{length, take}
+use Rattle.graph.specs.Counting.{Counted}
+use Rattle.count.specs.Said.{limit}
+use Rattle.host.specs.FlatCounts.{countedOf, flatCounted}
+use Rattle.host.specs.declared.counting.FlatCounted.{FlatCounted}
+use Rattle.stored.specs.Answers.{same}
+use Rattle.replay.specs.Counts.{countReply, CountReplied, replied}
+
+pub count-replies : (nodes lent stored : List ℕ) (work : ℕ) (r : FlatCounted) (counts xs : List ℕ) {b : Bool}
+    → Counted limit nodes lent work (countedOf r) counts → r ≡ flatCounted (countedOf r) → xs ≡ take (length nodes) counts
+    → b ≡ same stored ((r .refusal ∷ r .arc ∷ []) ++ xs) → CountReplied nodes lent work stored b
+unfolding countReply
+count-replies nodes lent stored work r counts xs counted flat ex eb =
+    let e = ap (λ (l : List ℕ). same stored ((r .refusal ∷ r .arc ∷ []) ++ l)) ex in
+    let f = ap (λ (x : FlatCounted). same stored ((x .refusal ∷ x .arc ∷ []) ++ take (length nodes) counts)) flat in
+    subst (CountReplied nodes lent work stored) (sym (eb ∙ e ∙ f)) (replied counted)

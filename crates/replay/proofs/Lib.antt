@@ -1,0 +1,8 @@
+pub mod NodeLaws
+pub mod LoadLaws
+pub mod LookupLaws
+pub mod TileLaws
+pub mod CountLaws
+pub mod SetLaws
+pub mod FileLaws
+pub mod VerdictLaws

@@ -1,0 +1,50 @@
+-- `counts::count_in` compares the number of the refusal, its arc and the counts of the nodes.
+use Rattle.replay.proofs.CountLaws.{count-replies}
+use borrow.Author.Needs.{needs}
+use Rattle.replay.proofs.counts.count_in.Statement.{statement}
+use Rattle.replay.proofs.counts.count_in.Tie as tie
+
+machirsun-count-words-requires : tie.Need-machirsun-count-words-requires
+machirsun-count-words-requires c κs = search needs
+
+cast-t11 : tie.Need-cast-t11
+cast-t11 c = search needs
+
+cast-t12 : tie.Need-cast-t12
+cast-t12 c = search needs
+
+slice-aggregate-same-then-words : tie.Need-slice-aggregate-same-then-words
+slice-aggregate-same-then-words c = search needs
+
+words-to-requires : tie.Need-words-to-requires
+words-to-requires c κs = search needs
+
+same-then-words-requires : tie.Need-same-then-words-requires
+same-then-words-requires c κs = search needs
+
+same-length : tie.Need-same-length
+same-length c = search needs
+
+same-length-2 : tie.Need-same-length-2
+same-length-2 c = search needs
+
+returns : tie.Need-returns
+returns c =
+    let args = c .before .before .before .before .before .before .before .before .before .before .before .before .before .before .before .before .before .args in
+    let asked = c .before .before .before .before .before .before .before .before .before .before .machirsun-count-words in
+    count-replies (args .nodes .now) (args .counts .now) (args .stored .now) _ (asked .result) _ _ (asked .ensures .0) (asked .ensures .1 .1) (c .before .words-to .ensures)
+    (c .same-then-words .ensures)
+
+pub count-in-spec : {M : Type 1} → statement M
+count-in-spec =
+    tie.close
+    (tie.spec
+    machirsun-count-words-requires
+    cast-t11
+    cast-t12
+    slice-aggregate-same-then-words
+    words-to-requires
+    same-then-words-requires
+    same-length
+    same-length-2
+    returns)

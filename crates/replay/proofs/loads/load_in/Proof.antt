@@ -1,0 +1,98 @@
+-- `loads::load_in` meets its contract: begin, both feeds and finish, as their definitions say.
+use mathlib.Core.Path.{ap, _∙_}
+use lib.ListN.{length, take, drop}
+use mathlib.Core.Path.{refl}
+use Rattle.stored.specs.Answers.{same}
+use Rattle.host.specs.Flat.{layoutOf}
+use Rattle.replay.proofs.LoadLaws.{refused-load, whole-load, load-is}
+use borrow.Author.Needs.{needs}
+use Rattle.replay.proofs.loads.load_in.Statement.{statement}
+use Rattle.replay.proofs.loads.load_in.Tie as tie
+
+word-at-requires : tie.Need-word-at-requires
+word-at-requires c κs = search needs
+
+cast-cut : tie.Need-cast-cut
+cast-cut c = search needs
+
+word-at-requires-2 : tie.Need-word-at-requires-2
+word-at-requires-2 c κs = search needs
+
+machirsun-begin-requires : tie.Need-machirsun-begin-requires
+machirsun-begin-requires c κs = search needs
+
+slice-aggregate-same-words : tie.Need-slice-aggregate-same-words
+slice-aggregate-same-words c = search needs
+
+same-words-requires : tie.Need-same-words-requires
+same-words-requires c κs = search needs
+
+same-length : tie.Need-same-length
+same-length c = search needs
+
+returns : tie.Need-returns
+returns c =
+    let args = c .before .before .before .before .before .before .before .before .before .before .before .before .args in
+    let begun = c .before .before .before .before .machirsun-begin in
+    let bytes = args .bytes .now in
+    let cut = c .before .before .before .before .before .before .before .word-at .result in
+    c .same-words .ensures
+    ∙ ap (same (args .stored .now))
+    (refused-load (length bytes) (layoutOf (c .before .before .before .before .before .before .word-at2 .result)) (args .nodes .now) (take cut bytes) (drop cut bytes) (begun .result) (begun .ensures .0) (c .before .before .if1 .taken)
+    ∙ load-is (args .words .now) bytes (args .nodes .now) _ _ _ cut (c .before .before .before .before .before .before .word-at2 .ensures) (c .before .before .before .before .before .before .before .word-at .ensures) refl refl)
+
+bytes-to-requires : tie.Need-bytes-to-requires
+bytes-to-requires c κs = search needs
+
+machirsun-feed-requires : tie.Need-machirsun-feed-requires
+machirsun-feed-requires c κs = search needs
+
+bytes-from-requires : tie.Need-bytes-from-requires
+bytes-from-requires c κs = search needs
+
+machirsun-feed-requires-2 : tie.Need-machirsun-feed-requires-2
+machirsun-feed-requires-2 c κs = search needs
+
+machirsun-finish-requires : tie.Need-machirsun-finish-requires
+machirsun-finish-requires c κs = search needs
+
+same-finished-requires : tie.Need-same-finished-requires
+same-finished-requires c κs = search needs
+
+same-length-2 : tie.Need-same-length-2
+same-length-2 c = search needs
+
+returns-2 : tie.Need-returns-2
+returns-2 c =
+    let args = c .before .before .before .before .before .before .before .before .before .before .before .before .before .before .before .before .before .before .before .before .before .before .before .before .before .before .before .before .before .args in
+    let begun = c .before .before .before .before .before .before .before .before .before .before .before .before .before .before .before .before .before .before .before .before .before .machirsun-begin in
+    let first = c .before .before .before .before .before .before .before .before .before .before .before .before .before .before .before .machirsun-feed in
+    let second = c .before .before .before .before .before .before .before .before .before .machirsun-feed2 in
+    let finish = c .before .before .before .before .machirsun-finish in
+    let bytes = args .bytes .now in
+    c .same-finished .ensures
+    ∙ ap (same (args .stored .now))
+    (whole-load (length bytes) (layoutOf (c .before .before .before .before .before .before .before .before .before .before .before .before .before .before .before .before .before .before .before .before .before .before .before .word-at2 .result)) (args .nodes .now) (c .before .before .before .before .before .before .before .before .before .before .before .before .before .before .before .before .before .bytes-to .result .now) (c .before .before .before .before .before .before .before .before .before .before .before .bytes-from .result .now) (begun .result) (begun .ensures .0)
+    (first .result) _ (first .ensures .0) (second .result) _ (second .ensures .0) (finish .result) _ (finish .ensures .0) (finish .ensures .1) (c .before .before .before .before .before .before .before .before .before .before .before .before .before .before .before .before .before .before .before .if1 .left)
+    ∙ load-is (args .words .now) bytes (args .nodes .now) _ _ _ _ (c .before .before .before .before .before .before .before .before .before .before .before .before .before .before .before .before .before .before .before .before .before .before .before .word-at2 .ensures) (c .before .before .before .before .before .before .before .before .before .before .before .before .before .before .before .before .before .before .before .before .before .before .before .before .word-at .ensures) (c .before .before .before .before .before .before .before .before .before .before .before .before .before .before .before .before .before .bytes-to .ensures) (c .before .before .before .before .before .before .before .before .before .before .before .bytes-from .ensures))
+
+pub load-in-spec : {M : Type 1} → statement M
+load-in-spec =
+    tie.close
+    (tie.spec
+    word-at-requires
+    cast-cut
+    word-at-requires-2
+    machirsun-begin-requires
+    slice-aggregate-same-words
+    same-words-requires
+    same-length
+    returns
+    bytes-to-requires
+    machirsun-feed-requires
+    bytes-from-requires
+    machirsun-feed-requires-2
+    machirsun-finish-requires
+    same-finished-requires
+    same-length-2
+    returns-2)

@@ -1,0 +1,45 @@
+-- `lookups::step` compares the fields of the flat answer.
+use mathlib.Core.Path.{ap, _∙_}
+use Rattle.stored.specs.Answers.{same}
+use Rattle.replay.proofs.LookupLaws.{step-fields}
+use borrow.Author.Needs.{needs}
+use Rattle.replay.proofs.lookups.step.Statement.{statement}
+use Rattle.replay.proofs.lookups.step.Tie as tie
+
+words-from-requires : tie.Need-words-from-requires
+words-from-requires c κs = search needs
+
+word-at-requires : tie.Need-word-at-requires
+word-at-requires c κs = search needs
+
+machirsun-cursor-step-requires : tie.Need-machirsun-cursor-step-requires
+machirsun-cursor-step-requires c κs = search needs
+
+bit-requires : tie.Need-bit-requires
+bit-requires c κs = search needs
+
+slice-aggregate-same-words : tie.Need-slice-aggregate-same-words
+slice-aggregate-same-words c = search needs
+
+same-words-requires : tie.Need-same-words-requires
+same-words-requires c κs = search needs
+
+returns : tie.Need-returns
+returns c =
+    let args = c .before .before .before .before .before .before .before .before .args in
+    let asked = c .before .before .before .machirsun-cursor-step in
+    c .same-words .ensures
+    ∙ ap (same (args .stored .now))
+    (step-fields (args .words .now) (asked .result) _ _ _ (c .before .before .before .before .before .words-from .ensures) (c .before .before .before .before .word-at .ensures) (c .before .before .bit .ensures .0) (asked .ensures .0) (asked .ensures .1))
+
+pub step-spec : {M : Type 1} → statement M
+step-spec =
+    tie.close
+    (tie.spec
+    words-from-requires
+    word-at-requires
+    machirsun-cursor-step-requires
+    bit-requires
+    slice-aggregate-same-words
+    same-words-requires
+    returns)

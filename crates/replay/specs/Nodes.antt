@@ -1,0 +1,35 @@
+-- What the calls on single nodes reply to the words of a case.
+use mathlib.Core.Bool.{not}
+use mathlib.Core.List.{List, [], _∷_}
+use Prim.Native.Nat.{ℕ, _%_}
+use lib.Dec.{eqb}
+use lib.ListN.{getD}
+use Rattle.node.specs.Answers.{Answer, gives, nothing, refused}
+use Rattle.node.specs.Nodes.{Places, tile, accepts, isEnd, arc, flag, values}
+use Rattle.node.specs.Said.{placesOf, packAnswer, repackNodeAnswer}
+use Rattle.host.specs.Flat.{layoutOf}
+
+-- an answer in numbers: 0 and its values, 1 for none, or the number of the refusal and what it carries
+abbrev pub flat : Answer → List ℕ
+flat (gives vs) = 0 ∷ vs
+flat nothing = 1 ∷ []
+flat (refused n vs) = n ∷ vs
+
+abbrev pub layoutAt : List ℕ → ℕ → Places
+layoutAt ws i = placesOf (layoutOf (getD ws i 0))
+
+unfoldable pub fieldsOf : Places → ℕ → List ℕ
+fieldsOf y v = tile y v ∷ flag (accepts y v) ∷ flag (isEnd y v) ∷ arc y v ∷ []
+
+-- LAYOUT WORD
+unfoldable pub fieldsReply : List ℕ → List ℕ
+fieldsReply ws = fieldsOf (layoutAt ws 0) (getD ws 1 0)
+
+-- LAYOUT TILE ACCEPTS END ARC
+unfoldable pub packReply : List ℕ → List ℕ
+packReply ws =
+    flat (packAnswer (layoutAt ws 0) (values (getD ws 1 0 % 256) (not (eqb (getD ws 2 0) 0)) (not (eqb (getD ws 3 0) 0)) (getD ws 4 0)))
+
+-- FROM TO WORD
+unfoldable pub repackNodeReply : List ℕ → List ℕ
+repackNodeReply ws = flat (repackNodeAnswer (layoutAt ws 0) (layoutAt ws 1) (getD ws 2 0))

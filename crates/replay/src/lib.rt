@@ -1,0 +1,11 @@
+// The cases of a stored list asked again: each call is made, through the C interface where that has
+// it, on the inputs of a case, and what it answers is held to what is stored.
+mod counts;
+mod files;
+mod loads;
+mod lookups;
+mod nodes;
+mod sets;
+mod verdicts;
+
+pub use verdicts::judge;
