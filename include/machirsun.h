@@ -11,7 +11,7 @@
  * Threads. There is no global state. Calls are safe at the same time from several threads as long as no buffer that one of them
  * writes is read or written by another.
  *
- * Answers. Every answer has `refusal`: 0, or a number from the table below. A refused call has done nothing but what its comment
+ * Answers. Every answer has `refusal`: 0, or a number from the table below; that of a whole load has `begun` and `finished.refusal`. A refused call has done nothing but what its comment
  * says. Fields that an answer has no value for are 0: `arc`, `node` and `tile` are filled by the refusals that carry them, the
  * other fields where nothing is refused.
  *
