@@ -10,7 +10,7 @@ use Rattle.cursor.specs.RunSteps.{Moves, reached, moves}
 use Rattle.cursor.specs.Said.{saidStep, movedAs}
 use Rattle.cursor.specs.declared.Stepped.the-variants.{To}
 use Rattle.cursor.specs.declared.Moved.{Moved}
-use Rattle.host.specs.FlatLookups.{madeIn}
+use Rattle.flat.specs.FlatLookups.{madeIn}
 
 module _ (g : Graph) (p : ℕ) where
   pub made-lent : p < length g → _≡_ {A = Moves} (record { answer = gives (p ∷ []); at = p }) (madeIn g p)

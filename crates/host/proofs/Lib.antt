@@ -1,3 +1,1 @@
 mod CursorLaws
-mod FileLaws
-mod StateLaws

@@ -4,75 +4,14 @@ ghost use Prim.Native.Nat.{_*_};
 ghost use lib.ListN.{length};
 ghost use Rattle.graph.specs.Lent.{WorkKept};
 ghost use Rattle.macondo_file.specs.Row.{checkRow as macondoRow, toMacondo};
-ghost use Rattle.macondo.specs.Said.{said as saidMacondo, formatOf};
+ghost use Rattle.macondo.specs.Said.{formatOf};
 ghost use Rattle.lxd_file.specs.Row.{checkRow as lxdRow, toLxd};
-ghost use Rattle.lxd.specs.Said.{said as saidLxd};
-ghost use Rattle.host.specs.Flat.{refusalIn};
-ghost use Rattle.host.specs.FlatFiles.{formatNumbered, fileOf, fileWritten, flatFile};
-use lxd::Lxd;
+ghost use Rattle.flat.specs.FlatFiles.{formatNumbered, fileOf, fileWritten, flatFile};
+use flat::FlatFile;
+use flat::flat_lxd;
+use flat::flat_macondo;
+use flat::format_of;
 use macondo::Macondo;
-use macondo::MacondoFormat;
-
-// What a writer answers: the file's length in bytes.
-#[repr(C)]
-pub struct FlatFile {
-    pub refusal: u32,
-    pub arc: u32,
-    pub written: usize,
-}
-
-fn format_of(number: u32) -> MacondoFormat
-    ensures { λ r. ⌜ r ≡ formatNumbered number ⌝ }
-{
-    if number == 0 {
-        MacondoFormat::Dawg
-    } else {
-        MacondoFormat::Gaddag
-    }
-}
-
-fn macondo_refusal(answer: Macondo) -> u32
-    ensures { λ r. ⌜ r ≡ refusalIn (saidMacondo answer) ⌝ }
-{
-    match answer {
-        Macondo::Written(_) => 0,
-        Macondo::WrongSize => 10,
-        Macondo::ArcPastEnd(_) => 8,
-        Macondo::NoEnd => 9,
-        Macondo::LabelCount => 18,
-        Macondo::NameTooLong => 19,
-        Macondo::NoLabel => 21,
-        Macondo::NotAscending => 24,
-        Macondo::WorkTooShort => 11,
-        Macondo::ChainTooLong => 22,
-        Macondo::NotOneCodePoint => 23,
-        Macondo::TooManyNodes => 25,
-        Macondo::FileTooShort => 11,
-    }
-}
-
-fn flat_macondo(answer: Macondo) -> FlatFile
-    ensures answer { λ r. ⌜ fileOf r ≡ saidMacondo answer ⌝ }
-    ensures flat { λ r. ⌜ r ≡ flatFile (fileOf r) ⌝ }
-{
-    match answer {
-        Macondo::Written(written) => FlatFile {
-            refusal: 0,
-            arc: 0,
-            written,
-        },
-        Macondo::ArcPastEnd(arc) => FlatFile {
-            refusal: 8,
-            arc,
-            written: 0,
-        },
-        _ => FlatFile {
-            refusal: macondo_refusal(answer),
-            arc: 0,
-            written: 0,
-        },
-    }
-}
 
 // Writes the words of a graph as a Macondo file.
 #[no_mangle]
@@ -90,51 +29,6 @@ pub extern "C" fn machirsun_to_macondo(
 {
     let kind = format_of(format);
     flat_macondo(macondo::to_macondo(nodes, labels, name, kind, work, file))
-}
-
-fn lxd_refusal(answer: Lxd) -> u32
-    ensures { λ r. ⌜ r ≡ refusalIn (saidLxd answer) ⌝ }
-{
-    match answer {
-        Lxd::Written(_) => 0,
-        Lxd::WrongSize => 10,
-        Lxd::ArcPastEnd(_) => 8,
-        Lxd::NoEnd => 9,
-        Lxd::TitleNotLatin1 => 20,
-        Lxd::TitleTooLong => 19,
-        Lxd::DateNotLatin1 => 20,
-        Lxd::DateTooLong => 19,
-        Lxd::NoLabel => 21,
-        Lxd::WorkTooShort => 11,
-        Lxd::ChainTooLong => 22,
-        Lxd::LetterNotLatin1 => 23,
-        Lxd::TooManyWords => 13,
-        Lxd::TooManyNodes => 25,
-        Lxd::FileTooShort => 11,
-    }
-}
-
-fn flat_lxd(answer: Lxd) -> FlatFile
-    ensures answer { λ r. ⌜ fileOf r ≡ saidLxd answer ⌝ }
-    ensures flat { λ r. ⌜ r ≡ flatFile (fileOf r) ⌝ }
-{
-    match answer {
-        Lxd::Written(written) => FlatFile {
-            refusal: 0,
-            arc: 0,
-            written,
-        },
-        Lxd::ArcPastEnd(arc) => FlatFile {
-            refusal: 8,
-            arc,
-            written: 0,
-        },
-        _ => FlatFile {
-            refusal: lxd_refusal(answer),
-            arc: 0,
-            written: 0,
-        },
-    }
 }
 
 // Writes the LXD file of the words from node 0's arc.

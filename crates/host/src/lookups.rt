@@ -3,65 +3,16 @@ ghost use mathlib.Core.Path.{_≡_};
 ghost use Prim.Native.Nat.{_-_, _^_};
 ghost use lib.ListN.{length};
 ghost use Rattle.lookup.specs.Walks.{seek, wordIndex, wordByIndex};
-ghost use Rattle.lookup.specs.Said.{saidSeek, saidIndex, saidWord};
 ghost use Rattle.cursor.specs.RunSteps.{moves};
-ghost use Rattle.host.specs.FlatLookups.{soughtOf, flatSought, madeAt, cursorOf, flatCursor, indexOf, flatIndex, wordOf, flatWord, Put};
+ghost use Rattle.flat.specs.FlatLookups.{soughtOf, flatSought, madeAt, cursorOf, flatCursor, indexOf, flatIndex, Put};
 use cursor::Stepped;
-use lookup::Sought;
-use lookup::WordByIndex;
-use lookup::WordIndex;
-
-#[repr(C)]
-pub struct FlatSought {
-    pub refusal: u32,
-    pub found: bool,
-    pub place: u32,
-}
-
-// A cursor at a node, and what the step to it said.
-#[repr(C)]
-pub struct FlatCursor {
-    pub refusal: u32,
-    pub done: bool,
-    pub at: u32,
-}
-
-#[repr(C)]
-pub struct FlatIndex {
-    pub refusal: u32,
-    pub found: bool,
-    pub number: u32,
-}
-
-#[repr(C)]
-pub struct FlatWord {
-    pub refusal: u32,
-    pub found: bool,
-    pub tiles: usize,
-}
-
-fn flat_sought(answer: Sought) -> FlatSought
-    ensures answer { λ r. ⌜ soughtOf r ≡ saidSeek answer ⌝ }
-    ensures flat { λ r. ⌜ r ≡ flatSought (soughtOf r) ⌝ }
-{
-    match answer {
-        Sought::At(place) => FlatSought {
-            refusal: 0,
-            found: true,
-            place,
-        },
-        Sought::Absent => FlatSought {
-            refusal: 0,
-            found: false,
-            place: 0,
-        },
-        Sought::NotLent => FlatSought {
-            refusal: 14,
-            found: false,
-            place: 0,
-        },
-    }
-}
+use flat::FlatCursor;
+use flat::FlatIndex;
+use flat::FlatSought;
+use flat::FlatWord;
+use flat::flat_index;
+use flat::flat_sought;
+use flat::flat_word;
 
 // The node with the tile in the run that the arc of a node leads to.
 #[no_mangle]
@@ -121,34 +72,6 @@ pub extern "C" fn machirsun_cursor_step(nodes: &[u32], at: u32) -> FlatCursor
     }
 }
 
-fn flat_index(answer: WordIndex) -> FlatIndex
-    ensures answer { λ r. ⌜ indexOf r ≡ saidIndex answer ⌝ }
-    ensures flat { λ r. ⌜ r ≡ flatIndex (indexOf r) ⌝ }
-{
-    match answer {
-        WordIndex::Number(number) => FlatIndex {
-            refusal: 0,
-            found: true,
-            number,
-        },
-        WordIndex::Absent => FlatIndex {
-            refusal: 0,
-            found: false,
-            number: 0,
-        },
-        WordIndex::NotLent => FlatIndex {
-            refusal: 14,
-            found: false,
-            number: 0,
-        },
-        WordIndex::OutOfRange => FlatIndex {
-            refusal: 15,
-            found: false,
-            number: 0,
-        },
-    }
-}
-
 // The number of a word among those from a node.
 #[no_mangle]
 pub extern "C" fn machirsun_word_index(
@@ -161,39 +84,6 @@ pub extern "C" fn machirsun_word_index(
     ensures flat { λ r. ⌜ r ≡ flatIndex (indexOf r) ⌝ }
 {
     flat_index(lookup::get_word_index(nodes, counts, start, word))
-}
-
-fn flat_word(answer: WordByIndex) -> FlatWord
-    ensures answer { λ r. ⌜ wordOf r ≡ saidWord answer ⌝ }
-    ensures flat { λ r. ⌜ r ≡ flatWord (wordOf r) ⌝ }
-{
-    match answer {
-        WordByIndex::Tiles(tiles) => FlatWord {
-            refusal: 0,
-            found: true,
-            tiles,
-        },
-        WordByIndex::Absent => FlatWord {
-            refusal: 0,
-            found: false,
-            tiles: 0,
-        },
-        WordByIndex::NotLent => FlatWord {
-            refusal: 14,
-            found: false,
-            tiles: 0,
-        },
-        WordByIndex::OutOfRange => FlatWord {
-            refusal: 15,
-            found: false,
-            tiles: 0,
-        },
-        WordByIndex::BufferFull => FlatWord {
-            refusal: 16,
-            found: false,
-            tiles: 0,
-        },
-    }
 }
 
 // Puts the tiles of the word with the number among those from a node.

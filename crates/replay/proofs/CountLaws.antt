@@ -6,8 +6,8 @@ use Prim.Native.Nat.{ℕ}
 use lib.ListN.{length, take}
 use Rattle.graph.specs.Counting.{Counted}
 use Rattle.count.specs.Said.{limit}
-use Rattle.host.specs.FlatCounts.{countedOf, flatCounted}
-use Rattle.host.specs.declared.counting.FlatCounted.{FlatCounted}
+use Rattle.flat.specs.FlatCounts.{countedOf, flatCounted}
+use Rattle.flat.specs.declared.counting.FlatCounted.{FlatCounted}
 use Rattle.stored.specs.Answers.{same}
 use Rattle.replay.specs.Counts.{countReply, CountReplied, replied}
 

@@ -7,8 +7,8 @@ use Rattle.export.specs.Written.{Written}
 use Rattle.macondo_file.specs.Row.{toMacondo}
 use Rattle.macondo.specs.Said.{formatOf}
 use Rattle.lxd_file.specs.Row.{toLxd}
-use Rattle.host.specs.FlatFiles.{formatNumbered, fileOf, fileWritten, flatFile}
-use Rattle.host.specs.declared.files.FlatFile.{FlatFile}
+use Rattle.flat.specs.FlatFiles.{formatNumbered, fileOf, fileWritten, flatFile}
+use Rattle.flat.specs.declared.files.FlatFile.{FlatFile}
 use Rattle.replay.specs.Files.{fileFields, writtenReply, macondoReply, lxdReply}
 
 written-replies : (r : FlatFile) (after : List ℕ) (w : Written) → fileWritten r after ≡ w → r ≡ flatFile (fileOf r)

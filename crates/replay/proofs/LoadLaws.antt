@@ -10,12 +10,12 @@ use Rattle.node.specs.declared.Layout.{Layout}
 use Rattle.load.specs.Repacking.{repackAnswer, repackedBytes}
 use Rattle.load.specs.Loading.{begin, feed, finish}
 use Rattle.pieces.specs.Pieces.{Loads, feedAll, fedPieces, loadPieces}
-use Rattle.host.specs.Flat.{layoutOf, plainly, refusalIn}
-use Rattle.host.specs.FlatLoads.{repackedOf, flatRepacked, stateOf, begunOf, fedOf, finishedOf, finishesOf, flatFinished}
-use Rattle.host.specs.declared.loading.FlatRepacked.{FlatRepacked}
-use Rattle.host.specs.declared.loading.FlatBegun.{FlatBegun}
-use Rattle.host.specs.declared.loading.FlatFed.{FlatFed}
-use Rattle.host.specs.declared.loading.FlatFinished.{FlatFinished}
+use Rattle.flat.specs.Flat.{layoutOf, plainly, refusalIn}
+use Rattle.flat.specs.FlatLoads.{repackedOf, flatRepacked, stateOf, begunOf, fedOf, finishedOf, finishesOf, flatFinished}
+use Rattle.flat.specs.declared.loading.FlatRepacked.{FlatRepacked}
+use Rattle.flat.specs.declared.loading.FlatBegun.{FlatBegun}
+use Rattle.flat.specs.declared.loading.FlatFed.{FlatFed}
+use Rattle.flat.specs.declared.loading.FlatFinished.{FlatFinished}
 use Rattle.replay.specs.Loads.{repackedFields, finishedFields, repackReply, loaded, loadReply}
 use Rattle.replay.proofs.SetLaws.{plain-refusal}
 

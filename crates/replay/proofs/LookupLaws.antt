@@ -8,11 +8,11 @@ use Rattle.node.specs.Nodes.{flag}
 use Rattle.graph.specs.Words.{Word}
 use Rattle.lookup.specs.Walks.{seek, wordIndex, wordByIndex}
 use Rattle.cursor.specs.RunSteps.{moves}
-use Rattle.host.specs.FlatLookups.{soughtOf, flatSought, cursorOf, flatCursor, indexOf, flatIndex, flatWord, Put}
-use Rattle.host.specs.declared.lookups.FlatSought.{FlatSought}
-use Rattle.host.specs.declared.lookups.FlatCursor.{FlatCursor}
-use Rattle.host.specs.declared.lookups.FlatIndex.{FlatIndex}
-use Rattle.host.specs.declared.lookups.FlatWord.{FlatWord}
+use Rattle.flat.specs.FlatLookups.{soughtOf, flatSought, cursorOf, flatCursor, indexOf, flatIndex, flatWord, Put}
+use Rattle.flat.specs.declared.lookups.FlatSought.{FlatSought}
+use Rattle.flat.specs.declared.lookups.FlatCursor.{FlatCursor}
+use Rattle.flat.specs.declared.lookups.FlatIndex.{FlatIndex}
+use Rattle.flat.specs.declared.lookups.FlatWord.{FlatWord}
 use Rattle.replay.specs.Lookups.{soughtFields, cursorFields, indexFields, wordFields, seekReply, stepReply, indexReply, wordWalk, wordReplyIn, unmarked}
 
 module _ (ws : List ℕ) where

@@ -9,7 +9,7 @@ use Rattle.node.specs.Nodes.{Places, tile, accepts, isEnd, arc, flag, values}
 use Rattle.node.specs.Said.{placesOf, said, packAnswer, repackNodeAnswer}
 use Rattle.node.specs.declared.Layout.{Layout}
 use Rattle.node.specs.declared.Packed.{Packed}
-use Rattle.host.specs.Flat.{layoutOf}
+use Rattle.flat.specs.Flat.{layoutOf}
 use Rattle.replay.specs.Nodes.{flat, layoutAt, fieldsOf, fieldsReply, packReply, repackNodeReply}
 
 pub fields-are : (y : Places) (v : ℕ) {t b e r : ℕ} {p q : Bool} → t ≡ tile y v → p ≡ accepts y v → b ≡ flag p → q ≡ isEnd y v → e ≡ flag q

@@ -10,10 +10,10 @@ use Rattle.node.specs.Answers.{gives, refused}
 use Rattle.node.specs.Nodes.{flag}
 use Rattle.letters.specs.LetterBits.{letterBits}
 use Rattle.letters.specs.AlphaSets.{acceptsAlpha, crossSet}
-use Rattle.host.specs.Flat.{refusalIn, plainly}
-use Rattle.host.specs.FlatSets.{bitsOf, acceptsOf, flatAccepts, crossOf, flatCross}
-use Rattle.host.specs.declared.sets.FlatAccepts.{FlatAccepts}
-use Rattle.host.specs.declared.sets.FlatCross.{FlatCross}
+use Rattle.flat.specs.Flat.{refusalIn, plainly}
+use Rattle.flat.specs.FlatSets.{bitsOf, acceptsOf, flatAccepts, crossOf, flatCross}
+use Rattle.flat.specs.declared.sets.FlatAccepts.{FlatAccepts}
+use Rattle.flat.specs.declared.sets.FlatCross.{FlatCross}
 use Rattle.replay.specs.Sets.{acceptsFields, crossFields, bitsReply, acceptsReply, crossReply}
 
 -- the number of a refusal that carries nothing

@@ -15,7 +15,7 @@ use Rattle.graph.specs.Runs.{Graph}
 use Rattle.graph.specs.Words.{Word}
 use Rattle.lookup.specs.Steps.{Try, on, stop, lentPart}
 use Rattle.lookup.specs.Walks.{Turn, last, down, turnIn, wordFrom, wordByIndex}
-use Rattle.host.specs.FlatLookups.{flatWord}
+use Rattle.flat.specs.FlatLookups.{flatWord}
 use Rattle.replay.specs.Lookups.{wordFields, wordWalk, unmarked, wordReplyIn, wordReply}
 
 -- ---- along a word

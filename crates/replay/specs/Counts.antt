@@ -6,7 +6,7 @@ use lib.ListN.{length, take}
 use Rattle.node.specs.Answers.{Answer}
 use Rattle.graph.specs.Counting.{Counted}
 use Rattle.count.specs.Said.{limit}
-use Rattle.host.specs.Flat.{refusalIn, arcIn}
+use Rattle.flat.specs.Flat.{refusalIn, arcIn}
 use Rattle.stored.specs.Answers.{same}
 
 -- the number of the refusal, the arc that it carries, and a count for each node

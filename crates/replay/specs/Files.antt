@@ -6,8 +6,8 @@ use Rattle.export.specs.Written.{Written}
 use Rattle.macondo_file.specs.Row.{toMacondo}
 use Rattle.macondo.specs.Said.{formatOf}
 use Rattle.lxd_file.specs.Row.{toLxd}
-use Rattle.host.specs.FlatFiles.{formatNumbered, flatFile}
-use Rattle.host.specs.declared.files.FlatFile.{FlatFile}
+use Rattle.flat.specs.FlatFiles.{formatNumbered, flatFile}
+use Rattle.flat.specs.declared.files.FlatFile.{FlatFile}
 
 abbrev pub fileFields : FlatFile → List ℕ
 fileFields r = r .refusal ∷ r .arc ∷ r .written ∷ []

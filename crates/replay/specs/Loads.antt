@@ -7,10 +7,10 @@ use Rattle.node.specs.Said.{placesOf}
 use Rattle.load.specs.Repacking.{repackAnswer, repackedBytes}
 use Rattle.pieces.specs.Pieces.{Loads, loadPieces}
 use Rattle.stored.specs.Inputs.{pick}
-use Rattle.host.specs.Flat.{layoutOf, refusalIn}
-use Rattle.host.specs.FlatLoads.{flatRepacked, flatFinished}
-use Rattle.host.specs.declared.loading.FlatRepacked.{FlatRepacked}
-use Rattle.host.specs.declared.loading.FlatFinished.{FlatFinished}
+use Rattle.flat.specs.Flat.{layoutOf, refusalIn}
+use Rattle.flat.specs.FlatLoads.{flatRepacked, flatFinished}
+use Rattle.flat.specs.declared.loading.FlatRepacked.{FlatRepacked}
+use Rattle.flat.specs.declared.loading.FlatFinished.{FlatFinished}
 
 abbrev pub repackedFields : FlatRepacked → List ℕ
 repackedFields r = r .refusal ∷ r .arc ∷ r .node ∷ r .tile ∷ []

@@ -9,11 +9,11 @@ use Rattle.graph.specs.Words.{Word}
 use Rattle.lookup.specs.Walks.{seek, wordIndex, wordByIndex}
 use Rattle.cursor.specs.RunSteps.{moves}
 use Rattle.stored.specs.Inputs.{pick}
-use Rattle.host.specs.FlatLookups.{flatSought, flatCursor, flatIndex, flatWord}
-use Rattle.host.specs.declared.lookups.FlatSought.{FlatSought}
-use Rattle.host.specs.declared.lookups.FlatCursor.{FlatCursor}
-use Rattle.host.specs.declared.lookups.FlatIndex.{FlatIndex}
-use Rattle.host.specs.declared.lookups.FlatWord.{FlatWord}
+use Rattle.flat.specs.FlatLookups.{flatSought, flatCursor, flatIndex, flatWord}
+use Rattle.flat.specs.declared.lookups.FlatSought.{FlatSought}
+use Rattle.flat.specs.declared.lookups.FlatCursor.{FlatCursor}
+use Rattle.flat.specs.declared.lookups.FlatIndex.{FlatIndex}
+use Rattle.flat.specs.declared.lookups.FlatWord.{FlatWord}
 
 -- ---- the fields of the flat answers, in their order
 abbrev pub soughtFields : FlatSought → List ℕ

@@ -7,7 +7,7 @@ use lib.ListN.{getD}
 use Rattle.node.specs.Answers.{Answer, gives, nothing, refused}
 use Rattle.node.specs.Nodes.{Places, tile, accepts, isEnd, arc, flag, values}
 use Rattle.node.specs.Said.{placesOf, packAnswer, repackNodeAnswer}
-use Rattle.host.specs.Flat.{layoutOf}
+use Rattle.flat.specs.Flat.{layoutOf}
 
 -- an answer in numbers: 0 and its values, 1 for none, or the number of the refusal and what it carries
 abbrev pub flat : Answer → List ℕ

@@ -5,10 +5,10 @@ use lib.ListN.{length, take}
 use Rattle.node.specs.Nodes.{flag}
 use Rattle.letters.specs.LetterBits.{letterBits}
 use Rattle.letters.specs.AlphaSets.{acceptsAlpha, crossSet}
-use Rattle.host.specs.Flat.{refusalIn}
-use Rattle.host.specs.FlatSets.{flatAccepts, flatCross}
-use Rattle.host.specs.declared.sets.FlatAccepts.{FlatAccepts}
-use Rattle.host.specs.declared.sets.FlatCross.{FlatCross}
+use Rattle.flat.specs.Flat.{refusalIn}
+use Rattle.flat.specs.FlatSets.{flatAccepts, flatCross}
+use Rattle.flat.specs.declared.sets.FlatAccepts.{FlatAccepts}
+use Rattle.flat.specs.declared.sets.FlatCross.{FlatCross}
 
 abbrev pub acceptsFields : FlatAccepts → List ℕ
 acceptsFields r = r .refusal ∷ flag (r .accepts) ∷ []

@@ -10,7 +10,7 @@ use stored::word_at;
 ghost use mathlib.Core.Path.{_≡_};
 ghost use Rattle.node.specs.Nodes.{KWG, KBWG};
 ghost use Rattle.node.specs.Said.{said, placesOf};
-ghost use Rattle.host.specs.Flat.{layoutOf};
+ghost use Rattle.flat.specs.Flat.{layoutOf};
 ghost use Rattle.stored.specs.Answers.{same};
 ghost use Rattle.replay.specs.Nodes.{flat, fieldsOf, fieldsReply, packReply, repackNodeReply};
 

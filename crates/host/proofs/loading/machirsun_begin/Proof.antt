@@ -2,7 +2,7 @@
 use mathlib.Core.Path.{ap, _∙_}
 use lib.ListN.{length}
 use Rattle.load.specs.Loading.{begin}
-use Rattle.host.proofs.StateLaws.{reads-state, flat-state}
+use Rattle.flat.specs.StateLaws.{reads-state, flat-state}
 use borrow.Author.Needs.{needs}
 use Rattle.host.proofs.loading.machirsun_begin.Statement.{statement}
 use Rattle.host.proofs.loading.machirsun_begin.Tie as tie

@@ -1,7 +1,7 @@
 -- `host::machirsun_feed` meets its contract: the state is read, and the answer and the next state are made flat.
 use mathlib.Core.Path.{ap, _∙_}
 use Rattle.load.specs.Loading.{feed}
-use Rattle.host.proofs.StateLaws.{reads-state, flat-state}
+use Rattle.flat.specs.StateLaws.{reads-state, flat-state}
 use borrow.Author.Needs.{needs}
 use Rattle.host.proofs.loading.machirsun_feed.Statement.{statement}
 use Rattle.host.proofs.loading.machirsun_feed.Tie as tie

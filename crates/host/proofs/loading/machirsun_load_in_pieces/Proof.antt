@@ -2,7 +2,7 @@
 use mathlib.Core.Path.{ap, _∙_}
 use Rattle.pieces.specs.Pieces.{cutAt, loadPieces}
 use Rattle.pieces.specs.Said.{loadLeaves}
-use Rattle.host.proofs.StateLaws.{reads-state, flat-state}
+use Rattle.flat.specs.StateLaws.{reads-state, flat-state}
 use borrow.Author.Needs.{needs}
 use Rattle.host.proofs.loading.machirsun_load_in_pieces.Statement.{statement}
 use Rattle.host.proofs.loading.machirsun_load_in_pieces.Tie as tie

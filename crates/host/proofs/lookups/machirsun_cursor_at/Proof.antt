@@ -1,6 +1,6 @@
 -- `host::machirsun_cursor_at` meets its contract: a node is lent or it is not.
 use mathlib.Core.Path.{_≡_, refl, ap, _∙_}
-use Rattle.host.specs.FlatLookups.{madeIn, madeAt}
+use Rattle.flat.specs.FlatLookups.{madeIn, madeAt}
 use Rattle.host.proofs.CursorLaws.{made-lent, made-out}
 use borrow.Author.Needs.{needs}
 use Rattle.host.proofs.lookups.machirsun_cursor_at.Statement.{statement}

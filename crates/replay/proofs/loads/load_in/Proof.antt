@@ -3,7 +3,7 @@ use mathlib.Core.Path.{ap, _∙_}
 use lib.ListN.{length, take, drop}
 use mathlib.Core.Path.{refl}
 use Rattle.stored.specs.Answers.{same}
-use Rattle.host.specs.Flat.{layoutOf}
+use Rattle.flat.specs.Flat.{layoutOf}
 use Rattle.replay.proofs.LoadLaws.{refused-load, whole-load, load-is}
 use borrow.Author.Needs.{needs}
 use Rattle.replay.proofs.loads.load_in.Statement.{statement}

@@ -1,6 +1,6 @@
 -- `nodes::layout_of` meets its contract, by the test.
 use borrow.Author.Tests.{eq-eqb, ne-eqb}
-use Rattle.host.specs.Flat.{layoutOf}
+use Rattle.flat.specs.Flat.{layoutOf}
 use Rattle.replay.proofs.nodes.layout_of.Statement.{statement}
 use Rattle.replay.proofs.nodes.layout_of.Tie as tie
 

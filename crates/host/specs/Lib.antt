@@ -1,6 +1,0 @@
-pub mod Flat
-pub mod FlatCounts
-pub mod FlatFiles
-pub mod FlatLoads
-pub mod FlatLookups
-pub mod FlatSets
