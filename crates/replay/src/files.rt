@@ -1,5 +1,5 @@
 // The calls that write a graph's words to a file for another program.
-use host::FlatFile;
+use flat::FlatFile;
 use stored::bytes_to;
 use stored::same_then_bytes;
 use stored::word_at;

@@ -1,5 +1,5 @@
 // Repacking and loading.
-use host::FlatFinished;
+use flat::FlatFinished;
 use stored::bytes_from;
 use stored::bytes_to;
 use stored::same_then_bytes;
