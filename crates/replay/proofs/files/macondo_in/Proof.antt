@@ -39,12 +39,20 @@ same-length-2 c = search needs
 
 returns : tie.Need-returns
 returns c =
-    let args = c .before .before .before .before .before .before .before .before .before .before .before .before .before .before .before .before .before .before .before .args in
-    let asked = c .before .before .before .before .before .before .machirsun-to-macondo in
+    let at6 = c .before .before .before .before .before .before in
+    let at9 = at6 .before .before .before in
+    let at10 = at9 .before in
+    let at11 = at10 .before in
+    let at12 = at11 .before in
+    let at13 = at12 .before in
+    let at19 = at13 .before .before .before .before .before .before in
+    let args = at19 .args in
+    let asked = at6 .machirsun-to-macondo in
     c .same-file .ensures
     ∙ ap (same (args .stored .now))
     (macondo-replies (args .words .now) (asked .result) _ (args .file .now) (length (args .work .now)) (asked .ensures .1 .1) (args .name .now) _ _ _ _ _
-    (c .before .before .before .before .before .before .before .before .before .before .before .before .before .word-at .ensures) (c .before .before .before .before .before .before .before .before .before .before .before .before .words-from .ensures) (c .before .before .before .before .before .before .before .before .before .before .before .words-from2 .ensures) (c .before .before .before .before .before .before .before .before .before .before .words-to .ensures) (c .before .before .before .before .before .before .before .before .before .word-at2 .ensures) (asked .ensures .0))
+    (at13 .word-at .ensures) (at12 .words-from .ensures) (at11 .words-from2 .ensures) (at10 .words-to .ensures) (at9 .word-at2 .ensures)
+    (asked .ensures .0))
 
 pub macondo-in-spec : {M : Type 1} → statement M
 macondo-in-spec =

@@ -35,11 +35,16 @@ same-length c = search needs
 
 returns : tie.Need-returns
 returns c =
-    let args = c .before .before .before .before .before .before .before .before .before .before .before .before .before .before .before .args in
-    let asked = c .before .before .before .before .before .before .before .before .machirsun-repack in
+    let at8 = c .before .before .before .before .before .before .before .before in
+    let at9 = at8 .before in
+    let at10 = at9 .before in
+    let at15 = at10 .before .before .before .before .before in
+    let args = at15 .args in
+    let asked = at8 .machirsun-repack in
     c .same-then-bytes .ensures
     ∙ ap (same (args .stored .now))
-    (repack-replies (args .words .now) (args .bytes .now) _ (asked .result) _ _ (c .before .before .before .before .before .before .before .before .before .before .word-at .ensures) (c .before .before .before .before .before .before .before .before .before .word-at2 .ensures) (asked .ensures .0) (asked .ensures .1 .0) (asked .ensures .1 .1))
+    (repack-replies (args .words .now) (args .bytes .now) _ (asked .result) _ _ (at10 .word-at .ensures) (at9 .word-at2 .ensures) (asked .ensures .0)
+    (asked .ensures .1 .0) (asked .ensures .1 .1))
 
 pub repack-spec : {M : Type 1} → statement M
 repack-spec =

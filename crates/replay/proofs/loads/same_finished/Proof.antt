@@ -28,7 +28,8 @@ same-then-words-requires c κs = search needs
 
 returns : tie.Need-returns
 returns c =
-    let args = c .before .before .before .before .before .before .before .before .args in
+    let at8 = c .before .before .before .before .before .before .before .before in
+    let args = at8 .args in
     c .same-then-words .ensures ∙ ap (λ (l : List ℕ). same (args .stored .now) (finishedFields (args .finished) ++ l)) (c .before .words-to .ensures)
 
 pub same-finished-spec : {M : Type 1} → statement M

@@ -27,9 +27,12 @@ slice-aggregate-result c = sym (length-take-le (c .before .before .before .befor
 
 returns : tie.Need-returns Inv-loop μ-loop
 returns c =
-    let loop = c .before .before .before .before .loop in
-    let word = c .before .before .before .before .before .args .word .now in
-    sym (append-nil (take (loop .i) word)) ∙ ap (take (loop .i) word ++_) (sym (marked-here word (loop .i) (omega arith) (c .before .if1 .taken))) ∙ loop .inv .1
+    let at4 = c .before .before .before .before in
+    let at5 = at4 .before in
+    let loop = at4 .loop in
+    let word = at5 .args .word .now in
+    sym (append-nil (take (loop .i) word)) ∙ ap (take (loop .i) word ++_) (sym (marked-here word (loop .i) (omega arith)
+    (c .before .if1 .taken))) ∙ loop .inv .1
 
 add-i : tie.Need-add-i Inv-loop μ-loop
 add-i c = omega arith
@@ -39,8 +42,9 @@ loop-less c = omega arith
 
 loop-again : tie.Need-loop-again Inv-loop μ-loop
 loop-again c =
+    let at4 = c .before .before .before .before in
     let loop = c .before .before .before .loop in
-    (omega arith, tile-here (c .before .before .before .before .args .word .now) (loop .i) (omega arith) (c .if1 .left) ∙ loop .inv .1)
+    (omega arith, tile-here (at4 .args .word .now) (loop .i) (omega arith) (c .if1 .left) ∙ loop .inv .1)
 
 returns-2 : tie.Need-returns-2 Inv-loop μ-loop
 returns-2 c =

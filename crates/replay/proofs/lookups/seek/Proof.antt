@@ -29,11 +29,16 @@ same-words-requires c κs = search needs
 
 returns : tie.Need-returns
 returns c =
-    let args = c .before .before .before .before .before .before .before .before .before .args in
+    let at4 = c .before .before .before .before in
+    let at5 = at4 .before in
+    let at6 = at5 .before in
+    let at9 = at6 .before .before .before in
+    let args = at9 .args in
     let asked = c .before .before .before .machirsun-seek in
     c .same-words .ensures
     ∙ ap (same (args .stored .now))
-    (seek-fields (args .words .now) (asked .result) _ _ _ _ (c .before .before .before .before .before .before .words-from .ensures) (c .before .before .before .before .before .word-at .ensures) (c .before .before .before .before .byte-at .ensures) (c .before .before .bit .ensures .0)
+    (seek-fields (args .words .now) (asked .result) _ _ _ _ (at6 .words-from .ensures) (at5 .word-at .ensures) (at4 .byte-at .ensures)
+    (c .before .before .bit .ensures .0)
     (asked .ensures .0) (asked .ensures .1))
 
 pub seek-spec : {M : Type 1} → statement M

@@ -53,12 +53,23 @@ same-length c = search needs
 
 returns : tie.Need-returns
 returns c =
-    let args = c .before .before .before .before .before .before .before .before .before .before .before .before .before .before .before .before .before .before .before .args in
-    let asked = c .before .before .before .before .before .before .before .before .machirsun-word-by-index in
+    let at4 = c .before .before .before .before in
+    let at8 = at4 .before .before .before .before in
+    let at10 = at8 .before .before in
+    let at11 = at10 .before in
+    let at12 = at11 .before in
+    let at13 = at12 .before in
+    let at14 = at13 .before in
+    let at15 = at14 .before in
+    let at19 = at15 .before .before .before .before in
+    let args = at19 .args in
+    let asked = at8 .machirsun-word-by-index in
     c .same-then-bytes .ensures
     ∙ ap (same (args .stored .now))
-    (word-fields (args .words .now) (asked .result) (args .word .now) _ _ _ _ _ _ _ _ _ (c .before .before .before .before .before .before .before .before .before .before .before .before .before .before .before .words-from .ensures) (c .before .before .before .before .before .before .before .before .before .before .before .before .before .before .word-at .ensures) (c .before .before .before .before .before .before .before .before .before .before .before .before .before .words-to .ensures)
-    (c .before .before .before .before .before .before .before .before .before .before .before .before .words-from2 .ensures) (c .before .before .before .before .before .before .before .before .before .before .before .word-at2 .ensures) (c .before .before .before .before .before .before .before .before .before .before .word-at3 .ensures) (c .before .before .before .before .bit .ensures .0) (asked .ensures) (c .before .put-tiles .ensures))
+    (word-fields (args .words .now) (asked .result) (args .word .now) _ _ _ _ _ _ _ _ _ (at15 .words-from .ensures) (at14 .word-at .ensures)
+    (at13 .words-to .ensures)
+    (at12 .words-from2 .ensures) (at11 .word-at2 .ensures) (at10 .word-at3 .ensures) (at4 .bit .ensures .0) (asked .ensures)
+    (c .before .put-tiles .ensures))
 
 pub word-in-spec : {M : Type 1} → statement M
 word-in-spec =

@@ -38,12 +38,19 @@ same-words-requires c κs = search needs
 
 returns : tie.Need-returns
 returns c =
-    let args = c .before .before .before .before .before .before .before .before .before .before .before .before .args in
+    let at4 = c .before .before .before .before in
+    let at5 = at4 .before in
+    let at6 = at5 .before in
+    let at7 = at6 .before in
+    let at8 = at7 .before in
+    let at12 = at8 .before .before .before .before in
+    let args = at12 .args in
     let asked = c .before .before .before .machirsun-word-index in
     c .same-words .ensures
     ∙ ap (same (args .stored .now))
-    (index-fields (args .words .now) (asked .result) (args .word .now) _ _ _ _ _ _ (c .before .before .before .before .before .before .before .before .words-from .ensures) (c .before .before .before .before .before .before .before .word-at .ensures) (c .before .before .before .before .before .before .words-to .ensures)
-    (c .before .before .before .before .before .words-from2 .ensures) (c .before .before .before .before .word-at2 .ensures) (c .before .before .bit .ensures .0) (asked .ensures .0) (asked .ensures .1))
+    (index-fields (args .words .now) (asked .result) (args .word .now) _ _ _ _ _ _ (at8 .words-from .ensures) (at7 .word-at .ensures)
+    (at6 .words-to .ensures)
+    (at5 .words-from2 .ensures) (at4 .word-at2 .ensures) (c .before .before .bit .ensures .0) (asked .ensures .0) (asked .ensures .1))
 
 pub word-index-spec : {M : Type 1} → statement M
 word-index-spec =

@@ -36,10 +36,16 @@ same-words-requires c κs = search needs
 
 returns : tie.Need-returns
 returns c =
-    let args = c .before .before .before .before .before .before .before .before .before .args in
+    let at4 = c .before .before .before .before in
+    let at5 = at4 .before in
+    let at6 = at5 .before in
+    let at7 = at6 .before in
+    let at9 = at7 .before .before in
+    let args = at9 .args in
     c .same-words .ensures
     ∙ ap (same (args .stored .now))
-    (fields-are KWG (args .node .0) (c .before .before .before .before .before .before .before .tile .ensures) (c .before .before .before .before .before .before .accepts .ensures) (c .before .before .before .before .before .bit .ensures .0) (c .before .before .before .before .is-end .ensures) (c .before .before .before .bit2 .ensures .0) (c .before .before .arc-index .ensures))
+    (fields-are KWG (args .node .0) (at7 .tile .ensures) (at6 .accepts .ensures) (at5 .bit .ensures .0) (at4 .is-end .ensures)
+    (c .before .before .before .bit2 .ensures .0) (c .before .before .arc-index .ensures))
 
 pub same-kwg-spec : {M : Type 1} → statement M
 same-kwg-spec =

@@ -31,12 +31,14 @@ same-words-requires-2 c κs = search needs
 
 returns : tie.Need-returns
 returns c =
-    let args = c .before .before .before .before .before .before .args in
+    let at6 = c .before .before .before .before .before .before in
+    let args = at6 .args in
     c .same-words .ensures ∙ ap (λ (p : Packed). same (args .stored .now) (flat (said p))) (sym (c .before .before .before .packed .given .1))
 
 returns-2 : tie.Need-returns-2
 returns-2 c =
-    let args = c .before .before .before .before .before .before .args in
+    let at6 = c .before .before .before .before .before .before in
+    let args = at6 .args in
     c .same-words2 .ensures ∙ ap (λ (p : Packed). same (args .stored .now) (flat (said p))) (sym (c .before .before .before .packed2 .given .1))
 
 pub same-packed-spec : {M : Type 1} → statement M

@@ -20,10 +20,12 @@ same-words-requires c κs = search needs
 
 returns : tie.Need-returns
 returns c =
-    let args = c .before .before .before .before .before .before .before .args in
+    let at7 = c .before .before .before .before .before .before .before in
+    let args = at7 .args in
     let asked = c .before .before .before .machirsun-accepts-alpha in
     c .same-words .ensures
-    ∙ ap (same (args .stored .now)) (accepts-replies (args .nodes .now) (args .tally .now) (asked .result) _ (c .before .before .bit .ensures .0) (asked .ensures .0) (asked .ensures .1))
+    ∙ ap (same (args .stored .now)) (accepts-replies (args .nodes .now) (args .tally .now) (asked .result) _ (c .before .before .bit .ensures .0)
+    (asked .ensures .0) (asked .ensures .1))
 
 pub accepts-alpha-spec : {M : Type 1} → statement M
 accepts-alpha-spec =

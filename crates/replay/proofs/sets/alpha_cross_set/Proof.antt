@@ -20,9 +20,11 @@ same-numbers-requires c κs = search needs
 
 returns : tie.Need-returns
 returns c =
-    let args = c .before .before .before .before .before .before .before .args in
+    let at7 = c .before .before .before .before .before .before .before in
+    let args = at7 .args in
     let asked = c .before .before .before .machirsun-alpha-cross-set in
-    c .same-numbers .ensures ∙ ap (same (args .stored .now)) (cross-replies (args .nodes .now) (args .tally .now) (asked .result) (asked .ensures .0) (asked .ensures .1))
+    c .same-numbers .ensures ∙ ap (same (args .stored .now)) (cross-replies (args .nodes .now) (args .tally .now) (asked .result) (asked .ensures .0)
+    (asked .ensures .1))
 
 pub alpha-cross-set-spec : {M : Type 1} → statement M
 alpha-cross-set-spec =

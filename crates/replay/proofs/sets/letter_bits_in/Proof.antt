@@ -26,11 +26,14 @@ same-length-2 c = search needs
 
 returns : tie.Need-returns
 returns c =
-    let args = c .before .before .before .before .before .before .before .before .before .before .before .before .before .before .before .before .args in
-    let asked = c .before .before .before .before .before .before .before .before .before .machirsun-letter-bits in
+    let at9 = c .before .before .before .before .before .before .before .before .before in
+    let at16 = at9 .before .before .before .before .before .before .before in
+    let args = at16 .args in
+    let asked = at9 .machirsun-letter-bits in
     c .same-then-both .ensures
     ∙ ap (same (args .stored .now))
-    (bits-replies (args .nodes .now) (args .all .now) (args .accepting .now) _ _ _ _ (asked .result) (asked .ensures) (c .before .before .before .numbers-to .ensures) (c .before .numbers-to2 .ensures))
+    (bits-replies (args .nodes .now) (args .all .now) (args .accepting .now) _ _ _ _ (asked .result) (asked .ensures)
+    (c .before .before .before .numbers-to .ensures) (c .before .numbers-to2 .ensures))
 
 pub letter-bits-in-spec : {M : Type 1} → statement M
 letter-bits-in-spec =

@@ -23,16 +23,20 @@ same-then-numbers-requires c κs = search needs
 
 returns : tie.Need-returns
 returns c =
-    let args = c .before .before .before .before .before .before .before .before .before .args in
-    let front = c .before .before .before .before .before .numbers-to in
+    let at5 = c .before .before .before .before .before in
+    let at9 = at5 .before .before .before .before in
+    let args = at9 .args in
+    let front = at5 .numbers-to in
     let back = c .before .numbers-from in
     c .same-then-numbers .ensures
-    ∙ then-rest (args .stored .now) (args .refusal ∷ []) (args .all .now ++ args .accepting .now) (front .result .now) (front .ensures) (back .result .now) (back .ensures)
+    ∙ then-rest (args .stored .now) (args .refusal ∷ []) (args .all .now ++ args .accepting .now) (front .result .now) (front .ensures)
+    (back .result .now) (back .ensures)
     (sym (c .before .before .before .same-words .ensures) ∙ c .before .before .if1 .taken)
 
 returns-2 : tie.Need-returns-2
 returns-2 c =
-    let args = c .before .before .before .before .before .before .before .args in
+    let at7 = c .before .before .before .before .before .before .before in
+    let args = at7 .args in
     let front = c .before .before .before .numbers-to in
     c .if1 .left
     ∙ not-front (args .stored .now) (args .refusal ∷ []) (args .all .now ++ args .accepting .now) (front .result .now) (front .ensures)

@@ -28,8 +28,10 @@ same-length-2 c = search needs
 
 returns-2 : tie.Need-returns-2
 returns-2 c =
-    let args = c .before .before .before .before .before .before .before .args in
-    subst (λ (l : List ℕ). Replied (args .words .now) l (args .call) (args .stored .now) (c .replies-to .result)) (c .before .bytes-to .ensures) (c .replies-to .ensures)
+    let at7 = c .before .before .before .before .before .before .before in
+    let args = at7 .args in
+    subst (λ (l : List ℕ). Replied (args .words .now) l (args .call) (args .stored .now) (c .replies-to .result)) (c .before .bytes-to .ensures)
+    (c .replies-to .ensures)
 
 pub replies-spec : {M : Type 1} → statement M
 replies-spec =

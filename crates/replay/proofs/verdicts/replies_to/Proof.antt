@@ -89,9 +89,13 @@ returns-13 c = replies-as 14 (c .before .match .keys13) R.macondo (c .to-macondo
 
 returns-14 : tie.Need-returns-14
 returns-14 c =
+    let at5 = c .before .before .before .before .before in
     let rest = c .before .match .rest in
-    let asked = c .before .before .before .before .before .pre in
-    let is = last-call (c .before .before .before .before .before .args .call) (asked .0) (asked .1) (asked .2) (rest .0 .0 .0 .0 .0 .0 .0 .0 .0 .0 .0 .0 .1) (rest .0 .0 .0 .0 .0 .0 .0 .0 .0 .0 .0 .1) (rest .0 .0 .0 .0 .0 .0 .0 .0 .0 .0 .1) (rest .0 .0 .0 .0 .0 .0 .0 .0 .0 .1) (rest .0 .0 .0 .0 .0 .0 .0 .0 .1) (rest .0 .0 .0 .0 .0 .0 .0 .1) (rest .0 .0 .0 .0 .0 .0 .1) (rest .0 .0 .0 .0 .0 .1) (rest .0 .0 .0 .0 .1) (rest .0 .0 .0 .1) (rest .0 .0 .1) (rest .0 .1) (rest .1) in
+    let asked = at5 .pre in
+    let is = last-call (at5 .args .call) (asked .0) (asked .1) (asked .2) (rest .0 .0 .0 .0 .0 .0 .0 .0 .0 .0 .0 .0 .1)
+    (rest .0 .0 .0 .0 .0 .0 .0 .0 .0 .0 .0 .1) (rest .0 .0 .0 .0 .0 .0 .0 .0 .0 .0 .1) (rest .0 .0 .0 .0 .0 .0 .0 .0 .0 .1)
+    (rest .0 .0 .0 .0 .0 .0 .0 .0 .1) (rest .0 .0 .0 .0 .0 .0 .0 .1) (rest .0 .0 .0 .0 .0 .0 .1) (rest .0 .0 .0 .0 .0 .1) (rest .0 .0 .0 .0 .1)
+    (rest .0 .0 .0 .1) (rest .0 .0 .1) (rest .0 .1) (rest .1) in
     replies-as 15 is R.lxd (c .to-lxd .ensures)
 
 pub replies-to-spec : {M : Type 1} → statement M
