@@ -41,7 +41,13 @@ module _ (announced : ℕ) (layout : Layout) (lent p q : List ℕ) (b : FlatBegu
       (g : FlatFed) (n₂ : List ℕ) (eg : fedOf g n₂ ≡ feed (stateOf (f .loader)) n₁ q)
       (r : FlatFinished) (n₃ : List ℕ) (er : finishesOf r n₃ ≡ finish (stateOf (g .loader)) n₂) (flat : r ≡ flatFinished (finishedOf r)) where
     loads : loadPieces announced layout lent (p ∷ q ∷ [])
-        ≡ record { begun = plainly (b .refusal) (gives []); state = stateOf (g .loader); finished = finishedOf r; nodes = n₃ }
+        ≡ record {
+          begun = plainly (b .refusal) (gives []);
+          fed = fedOf f n₁ .answer ∷ fedOf g n₂ .answer ∷ [];
+          state = stateOf (g .loader);
+          finished = finishedOf r;
+          nodes = n₃;
+        }
     unfolding loadPieces fedPieces feedAll
     loads = rw (← eb, ← ef, ← eg, ← er)
 
