@@ -71,10 +71,6 @@ in-snoc x (y ∷ o) p = split (eqb x y) (λ t. rw t) (λ t. rw t (in-snoc x o p)
 
 -- ---- what is met
 module _ (children : ℕ → List ℕ) where
-  pub met-none : (o : List ℕ) (p c : ℕ) → c ≡ 0 → met children c o p ≡ o
-  unfolding met
-  met-none o p c e = rw e
-
   pub met-old : (c : ℕ) (o : List ℕ) (p : ℕ) → member p o ≡ true → met children c o p ≡ o
   unfolding met
   met-old zero o p h = refl

@@ -18,7 +18,7 @@ use Rattle.graph.specs.Words.{Word, inOrder, spelled, wordsWithin}
 use Rattle.graph.specs.RunLaws.{run-last, run-next}
 use Rattle.graph.specs.CountLaws.{byArc, length-spelled, no-arc, some-arc}
 use Rattle.export.specs.Starts.{runOf, hasArc, deeper}
-use Rattle.export.specs.Survey.{most, wide, wideWithin, Surveys, SurveyIs, nothing, whereThere, Right, joined, within, Answers}
+use Rattle.export.specs.Survey.{most, wide, wideWithin, SurveyIs, nothing, whereThere, Right, joined, within, Answers}
 use Rattle.export.specs.declared.survey.Findings.{Findings}
 use Rattle.export.specs.declared.survey.Surveyed.{Surveyed}
 use Rattle.export.specs.declared.survey.Surveyed.the-variants.{Within, TooDeep}
@@ -136,13 +136,6 @@ module _ (g : Graph) (labels : List ℕ) where
 
     pub answers-deep : r ≡ TooDeep → Answers g labels there q left r → there && deeper g left q ≡ true
     answers-deep e a = rw e at a
-
-  module _ (k p : ℕ) (r : Surveyed) where
-    pub survey-found : (s : Findings) → r ≡ Within s → SurveyIs g labels k p r → Surveys g labels k p s
-    survey-found s e a = rw e at a
-
-    pub survey-deep : r ≡ TooDeep → SurveyIs g labels k p r → deeper g k p ≡ true
-    survey-deep e a = rw e at a
 
 -- ---- more runs in a chain than are left
 module _ (g : Graph) where

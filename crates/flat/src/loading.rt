@@ -3,7 +3,7 @@ ghost use mathlib.Core.Path.{_≡_};
 ghost use mathlib.Core.List.{[]};
 ghost use Rattle.node.specs.Answers.{gives};
 ghost use Rattle.load.specs.Repacking.{said};
-ghost use Rattle.load.specs.Loading.{begin, feed, finish};
+ghost use Rattle.load.specs.Loading.{feed, finish};
 ghost use Rattle.load.specs.Said.{saidBegin, saidFeed, saidFinish};
 ghost use Rattle.flat.specs.Flat.{layoutOf, layoutNumber, plainly, refusalIn};
 ghost use Rattle.flat.specs.FlatLoads.{keptOf, repackedOf, flatRepacked, stateOf, flatLoader, finishedOf, flatFinished};

@@ -17,7 +17,7 @@ use Rattle.graph.specs.Runs.{Graph, run, lastEnds}
 use Rattle.graph.specs.ChecksLaws.{Closed, Fit, last-of}
 use Rattle.export.specs.Starts.{start, runOf, deeper}
 use Rattle.export.specs.Blocks.{blockAt, total}
-use Rattle.export.specs.BlocksLaws.{every-met, first-met, few-met, start-met, children-met, blocks-length, block-first, block-within, block-from, blocks-most}
+use Rattle.export.specs.BlocksLaws.{every-met, first-met, start-met, children-met, blocks-length, block-first, block-within, block-from, blocks-most}
 use Rattle.export.specs.ChainLaws.{arcsFrom, arc-from, arcs-inside, shallow-low, shallow-closed, shallow-within}
 use Rattle.lxd_file.specs.File.{runs, child}
 use Rattle.lxd_file.specs.Row.{reached}
@@ -66,11 +66,6 @@ module _ (g : Graph) where
     pub runs-inside : (p : ℕ) → List·Memᴰ p (runs g) → p < length g
     unfolding runs
     runs-inside = every-met (arcsFrom g) (λ p. p < length g) (λ p q h m. arcs-inside g (f .steps) p q m) 64 (start g 0) start-inside
-
-    -- as many runs as nodes, or fewer
-    pub runs-few : length (runs g) ≤ length g
-    unfolding runs
-    runs-few = few-met (arcsFrom g) (length g) (λ p q h m. arcs-inside g (f .steps) p q m) 64 (start g 0) start-inside
 
     pub runs-within : length (runs g) ≤ length (reached g)
     runs-within =

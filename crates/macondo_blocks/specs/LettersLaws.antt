@@ -3,10 +3,7 @@ use mathlib.Core.Path.{_≡_, refl}
 use mathlib.Core.List.{List, []}
 use Prim.Native.Nat.{ℕ, suc, _-_, _≤_, _<_}
 use native.Mathlib.Omega.{arith}
-use lib.Dec.{eqb}
 use lib.ListN.{length}
-use Rattle.laws.specs.Cases.{split}
-use Rattle.laws.specs.Firsts.{place-le}
 use Rattle.laws.specs.Lists.{All, all-weaken}
 use Rattle.graph.specs.Counting.{table}
 use Rattle.macondo_file.specs.Alphabet.{precedes, letters, letterOf}
@@ -30,6 +27,3 @@ letters-low labels few = all-weaken (λ t. t < length labels) (λ t. t < 64) (λ
 pub letter-in : (labels : List ℕ) (t : ℕ) → letterIn (letters labels) t ≡ letterOf labels t
 unfolding letterOf
 letter-in labels t = refl
-
-pub letter-few : (l : List ℕ) (t : ℕ) → length l ≤ 50 → letterIn l t ≤ 50
-letter-few l t h = let a = place-le l t in split (eqb t 0) (λ e. rw (e, letterIn) (omega arith)) (λ e. rw (e, letterIn) (omega arith))

@@ -1,17 +1,16 @@
 -- What the record of blocks says of their number: no more blocks than nodes of the graph, and at most 51 nodes of the file for each.
-use mathlib.Core.Path.{_≡_, refl, ap}
+use mathlib.Core.Path.{ap}
 use mathlib.Core.List.{List, [], _∷_}
 use Prim.Native.Nat.{ℕ, _*_, _≤_}
 use native.Mathlib.Omega.{arith}
 use lib.ListN.{length, drop, length-take}
 use Rattle.graph.specs.Runs.{Graph}
-use Rattle.export.specs.Starts.{start}
 use Rattle.export.specs.Blocks.{total}
 use Rattle.export.specs.Places.{Holds}
 use Rattle.export.specs.PlacesLaws.{used-le}
 use Rattle.export.specs.declared.places.Tally.{Tally}
-use Rattle.macondo_file.specs.File.{Format, marks, blocks}
-use Rattle.macondo_blocks.specs.Blocks.{sizeOf, blocksFrom, Ready}
+use Rattle.macondo_file.specs.File.{blocks}
+use Rattle.macondo_blocks.specs.Blocks.{sizeOf, Ready}
 use Rattle.macondo_blocks.specs.ArcsLaws.{arcs-few}
 
 pub size-few : (g : Graph) (labels : List ℕ) → Ready g labels → (p : ℕ) → sizeOf g labels p ≤ 51
@@ -29,8 +28,3 @@ module _ {n : ℕ} {size : ℕ → ℕ} {w : List ℕ} {t : Tally} {o : List ℕ
   pub nodes-few : ((p : ℕ) → size p ≤ 51) → t .nodes ≤ 51 * t .blocks
   nodes-few k =
       let s = total-few size k o in let e = ap length (h .order) in let m = length-take (t .blocks) (drop n w) in let z = h .sum in omega arith
-
--- what is met from the start are the blocks of the file
-pub blocks-met : (g : Graph) (labels : List ℕ) (f : Format) → blocksFrom g labels (start g (marks f .root)) ≡ blocks g labels f
-unfolding blocks
-blocks-met g labels f = refl

@@ -1,6 +1,6 @@
 -- The flat answers of the writers, over the inputs read from the words of a case, have the fields of the reply, and the file follows.
 use mathlib.Core.Path.{_≡_, ap, _∙_}
-use mathlib.Core.List.{List, [], _∷_, _++_}
+use mathlib.Core.List.{List, _++_}
 use Prim.Native.Nat.{ℕ}
 use lib.ListN.{getD, take, drop}
 use Rattle.export.specs.Written.{Written}

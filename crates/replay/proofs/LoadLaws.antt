@@ -1,5 +1,5 @@
 -- The flat answers of repacking and of a load in two pieces have the fields of the reply, and the bytes or the nodes follow.
-use mathlib.Core.Path.{_≡_, refl, ap, _∙_}
+use mathlib.Core.Path.{_≡_, ap, _∙_}
 use mathlib.Core.List.{List, [], _∷_, _++_}
 use Prim.Native.Nat.{ℕ}
 use borrow.Author.Tests.{eq-eqb, ne-eqb}
@@ -9,7 +9,7 @@ use Rattle.node.specs.Said.{placesOf}
 use Rattle.node.specs.declared.Layout.{Layout}
 use Rattle.load.specs.Repacking.{repackAnswer, repackedBytes}
 use Rattle.load.specs.Loading.{begin, feed, finish}
-use Rattle.pieces.specs.Pieces.{Loads, feedAll, fedPieces, loadPieces}
+use Rattle.pieces.specs.Pieces.{feedAll, fedPieces, loadPieces}
 use Rattle.flat.specs.Flat.{layoutOf, plainly, refusalIn}
 use Rattle.flat.specs.FlatLoads.{repackedOf, flatRepacked, stateOf, begunOf, fedOf, finishedOf, finishesOf, flatFinished}
 use Rattle.flat.specs.declared.loading.FlatRepacked.{FlatRepacked}

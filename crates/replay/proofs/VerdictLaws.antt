@@ -1,24 +1,21 @@
 -- A call's reply, told of its number; and the verdict on a case, by how much of it could be read.
 use mathlib.Core.Path.{_≡_, refl, sym, ap, subst, _∙_}
-use mathlib.Core.Bool.{Bool, true, false, _&&_}
-use mathlib.Core.List.{List, _++_}
+use mathlib.Core.Bool.{Bool}
+use mathlib.Core.List.{List}
 use mathlib.Core.Option.{Option, none, some}
 use Prim.Native.Nat.{ℕ, _+_, _≤_, _<_}
 use native.Mathlib.Omega.{arith}
 use borrow.Author.Tests.{ltb-true, ltb-false, lt-leb, le-leb}
-use lib.Dec.{ltb, leb}
+use lib.Dec.{ltb}
 use Rattle.laws.specs.Cases.{split}
 use lib.ListN.{length, take, drop, replicate}
 use lib.Seq.{take-append-seam}
-use Rattle.count.specs.Said.{limit}
-use Rattle.graph.specs.Counting.{Counted}
-use Rattle.node.specs.Answers.{Answer}
 use Rattle.stored.specs.Answers.{same, verdictOf}
 use Rattle.stored.specs.Inputs.{listIn, countOf, copiedTo}
 use Rattle.stored.specs.declared.answers.Verdict.{Verdict}
 use Rattle.stored.specs.declared.inputs.Count.{Count}
 use Rattle.replay.specs.Counts.{countReply, CountReplied, replied}
-use Rattle.replay.specs.Judged.{Read, afterBytes, afterWords, readCase, Reply, counting, Replied, by, Judged, no-call, unread, compared}
+use Rattle.replay.specs.Judged.{afterBytes, afterWords, Reply, counting, Replied, by, Judged, no-call, unread, compared}
 
 module _ {ws bs stored : List ℕ} {call : ℕ} {b : Bool} where
   pub replies-as : (k : ℕ) {a : List ℕ} → call ≡ k → Reply ws bs k a → b ≡ same stored a → Replied ws bs call stored b

@@ -1,7 +1,6 @@
 // Counting.
 use stored::same_then_words;
 use stored::words_to;
-ghost use mathlib.Core.Path.{_≡_};
 ghost use lib.ListN.{length, replicate};
 ghost use Rattle.replay.specs.Counts.{CountReplied};
 

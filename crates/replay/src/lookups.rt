@@ -7,9 +7,7 @@ use stored::word_at;
 use stored::words_from;
 use stored::words_to;
 ghost use mathlib.Core.Path.{_≡_};
-ghost use mathlib.Core.List.{_++_};
 ghost use Prim.Native.Nat.{_-_};
-ghost use lib.ListN.{length, drop, replicate};
 ghost use Rattle.stored.specs.Answers.{same};
 ghost use Rattle.replay.specs.Lookups.{seekReply, stepReply, indexReply, wordReply, wordReplyIn, unmarked};
 

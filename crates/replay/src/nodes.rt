@@ -1,4 +1,5 @@
 // The calls on single nodes, which the C interface has not.
+use flat::layout_of;
 use node::Layout;
 use node::Node22;
 use node::Node24;
@@ -10,7 +11,6 @@ use stored::word_at;
 ghost use mathlib.Core.Path.{_≡_};
 ghost use Rattle.node.specs.Nodes.{KWG, KBWG};
 ghost use Rattle.node.specs.Said.{said, placesOf};
-ghost use Rattle.flat.specs.Flat.{layoutOf};
 ghost use Rattle.stored.specs.Answers.{same};
 ghost use Rattle.replay.specs.Nodes.{flat, fieldsOf, fieldsReply, packReply, repackNodeReply};
 
@@ -85,16 +85,6 @@ pub(crate) fn repack_node(stored: &[u64], words: &[u32]) -> bool
     let from = layout_of(word_at(words, 0));
     let to = layout_of(word_at(words, 1));
     same_packed(stored, node::repack_node(from, to, word_at(words, 2)))
-}
-
-fn layout_of(number: u32) -> Layout
-    ensures { λ r. ⌜ r ≡ layoutOf number ⌝ }
-{
-    if number == 0 {
-        Layout::Kwg
-    } else {
-        Layout::Kbwg
-    }
 }
 
 fn same_packed(stored: &[u64], packed: Packed) -> bool

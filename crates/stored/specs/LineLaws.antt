@@ -1,4 +1,4 @@
--- A whole line that is a case has a number at least, and no more than there is room for. Assumes nothing.
+-- A whole line that is a case has a number at least, and no more than there is room for.
 use Prim.Native.Nat.{ℕ, _+_, _≤_, _<_}
 use native.Mathlib.Omega.{arith}
 use mathlib.Core.Path.{_≡_, refl}

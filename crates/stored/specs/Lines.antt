@@ -1,5 +1,4 @@
 -- What the contracts on lines cite: a line with one byte more, what a whole line is, and the numbers of the room that either completes.
--- Assumes nothing.
 use Prim.Native.Nat.{ℕ, _+_, _*_, _-_, _^_}
 use mathlib.Core.Bool.{Bool, true, false}
 use mathlib.Core.List.{List}

@@ -1,4 +1,4 @@
--- What the contracts on the tally cite: the tally of nothing, and a tally after a line or a verdict. Assumes nothing.
+-- What the contracts on the tally cite: the tally of nothing, and a tally after a line or a verdict.
 use Prim.Native.Nat.{ℕ, _+_, _^_}
 use lib.ListN.{getD, set, replicate}
 use lib.Dec.{ltb}

@@ -22,11 +22,6 @@ use Rattle.count.proofs.Results.{walk-start, loop-answer, many-answer, 
 use borrow.Author.Needs.{needs}
 use Rattle.count.proofs.count_checked.Statement.{statement}
 use Rattle.count.proofs.count_checked.Tie as tie
-use Rattle.count.proofs.count_checked.Reads as reads
-use Rattle.count.proofs.count_checked.Lts as lts
-use Rattle.lists.proofs.clear.Reads as clear-reads
-use Rattle.count.proofs.counts.reaches_limit.Reads as reaches-limit-reads
-use Rattle.count.proofs.walk.walk.Reads as walk-reads
 
 module _ (s : tie.Start) where
   abbrev nodes : List ℕ

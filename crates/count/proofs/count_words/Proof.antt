@@ -15,10 +15,6 @@ use Rattle.count.proofs.Results.{unfit-answer}
 use borrow.Author.Needs.{needs}
 use Rattle.count.proofs.count_words.Statement.{statement}
 use Rattle.count.proofs.count_words.Tie as tie
-use Rattle.count.proofs.count_words.Reads as reads
-use Rattle.count.proofs.count_words.Lts as lts
-use Rattle.count.proofs.count_checked.Reads as count-checked-reads
-use Rattle.graph.proofs.check_graph.Reads as check-graph-reads
 
 module _ (s : tie.Start) where
   abbrev nodes : List ℕ

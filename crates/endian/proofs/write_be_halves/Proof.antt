@@ -9,9 +9,6 @@ use Rattle.laws.specs.Sets.{sets-append}
 use borrow.Author.Needs.{needs}
 use Rattle.endian.proofs.write_be_halves.Statement.{statement}
 use Rattle.endian.proofs.write_be_halves.Tie as tie
-use Rattle.endian.proofs.write_be_halves.Reads as reads
-use Rattle.endian.proofs.write_be_halves.Lts as lts
-use Rattle.endian.proofs.write_be_u32.Reads as write-be-u32-reads
 
 write-be-u32-requires : tie.Need-write-be-u32-requires
 write-be-u32-requires c κs = search needs

@@ -8,8 +8,6 @@ use Rattle.endian.specs.BigLaws.{stores-four, four-bytes}
 use borrow.Author.Needs.{needs}
 use Rattle.endian.proofs.write_be_u32.Statement.{statement}
 use Rattle.endian.proofs.write_be_u32.Tie as tie
-use Rattle.endian.proofs.write_be_u32.Reads as reads
-use Rattle.endian.proofs.write_be_u32.Lts as lts
 
 cast-bytes : tie.Need-cast-bytes
 cast-bytes c = search needs

@@ -8,8 +8,6 @@ use lib.Seq.{sets}
 use Rattle.laws.specs.Sets.{sets-next, sets-done}
 use Rattle.endian.proofs.write_bytes.Statement.{statement}
 use Rattle.endian.proofs.write_bytes.Tie as tie
-use Rattle.endian.proofs.write_bytes.Reads as reads
-use Rattle.endian.proofs.write_bytes.Lts as lts
 
 abbrev Inv-loop : tie.InvT-loop
 Inv-loop bytes₀ p text i₀ bytes i =

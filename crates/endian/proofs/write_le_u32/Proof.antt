@@ -4,8 +4,6 @@ use lib.ListN.{length-set}
 use borrow.Author.Needs.{needs}
 use Rattle.endian.proofs.write_le_u32.Statement.{statement}
 use Rattle.endian.proofs.write_le_u32.Tie as tie
-use Rattle.endian.proofs.write_le_u32.Reads as reads
-use Rattle.endian.proofs.write_le_u32.Lts as lts
 
 cast-bytes : tie.Need-cast-bytes
 cast-bytes c = search needs

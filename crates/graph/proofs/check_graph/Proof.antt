@@ -6,9 +6,6 @@ use Rattle.graph.specs.declared.NodesCheck.{NodesCheck}
 use borrow.Author.Needs.{needs}
 use Rattle.graph.proofs.check_graph.Statement.{statement}
 use Rattle.graph.proofs.check_graph.Tie as tie
-use Rattle.graph.proofs.check_graph.Reads as reads
-use Rattle.graph.proofs.check_graph.Lts as lts
-use Rattle.graph.proofs.check_nodes.Reads as check-nodes-reads
 
 -- past the sizes, what the check of the nodes says
 judged : (c : tie.After-check-nodes) {k : NodesCheck} → c .check-nodes .result ≡ k → refusal k ≡ firstOf (graphRow (c .before .before .before .before .args .nodes .now))

@@ -7,10 +7,6 @@ use Rattle.graph.specs.ChecksLaws.{arc-past-end, no-end, nodes-sound}
 use borrow.Author.Needs.{needs}
 use Rattle.graph.proofs.check_nodes.Statement.{statement}
 use Rattle.graph.proofs.check_nodes.Tie as tie
-use Rattle.graph.proofs.check_nodes.Reads as reads
-use Rattle.graph.proofs.check_nodes.Lts as lts
-use Rattle.graph.proofs.largest_arc.Reads as largest-arc-reads
-use Rattle.graph.proofs.last_ends.Reads as last-ends-reads
 
 largest-arc-requires : tie.Need-largest-arc-requires
 largest-arc-requires c κs = search needs

@@ -9,10 +9,6 @@ use Rattle.node.specs.Nodes.{KBWG}
 use Rattle.graph.specs.ChecksLaws.{largestFrom, largest-next, largest-done}
 use Rattle.graph.proofs.largest_arc.Statement.{statement}
 use Rattle.graph.proofs.largest_arc.Tie as tie
-use Rattle.graph.proofs.largest_arc.Reads as reads
-use Rattle.graph.proofs.largest_arc.Lts as lts
-use Rattle.graph.proofs.larger.Reads as larger-reads
-use Rattle.node.proofs.Node24.arc_index.Reads as arc-index-reads
 
 abbrev Inv-loop : tie.InvT-loop
 Inv-loop nodes largest₀ i₀ largest i = (i ≤ length nodes) × (largestFrom KBWG largest i nodes ≡ largestFrom KBWG 0 0 nodes)

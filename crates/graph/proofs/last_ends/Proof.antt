@@ -5,9 +5,6 @@ use Rattle.graph.specs.ChecksLaws.{last-of, last-none}
 use borrow.Author.Needs.{needs}
 use Rattle.graph.proofs.last_ends.Statement.{statement}
 use Rattle.graph.proofs.last_ends.Tie as tie
-use Rattle.graph.proofs.last_ends.Reads as reads
-use Rattle.graph.proofs.last_ends.Lts as lts
-use Rattle.node.proofs.Node24.is_end.Reads as is-end-reads
 
 returns : tie.Need-returns
 returns c = last-none KBWG _ (omega arith)

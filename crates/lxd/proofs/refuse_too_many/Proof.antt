@@ -13,10 +13,6 @@ use Rattle.lxd.proofs.WalkLaws.{Answers, Finds, many-words}
 use borrow.Author.Needs.{needs}
 use Rattle.lxd.proofs.refuse_too_many.Statement.{statement}
 use Rattle.lxd.proofs.refuse_too_many.Tie as tie
-use Rattle.lxd.proofs.refuse_too_many.Reads as reads
-use Rattle.lxd.proofs.refuse_too_many.Lts as lts
-use Rattle.export.proofs.survey.survey.Reads as survey-reads
-use Rattle.lxd.proofs.start.Reads as start-reads
 
 module _ (s : tie.Start) where
   abbrev g : List ℕ

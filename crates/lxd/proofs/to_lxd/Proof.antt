@@ -15,10 +15,6 @@ use Rattle.lxd.proofs.CallLaws.{call-refuses, call-walks, passed-graph,
 use borrow.Author.Needs.{needs}
 use Rattle.lxd.proofs.to_lxd.Statement.{statement}
 use Rattle.lxd.proofs.to_lxd.Tie as tie
-use Rattle.lxd.proofs.to_lxd.Reads as reads
-use Rattle.lxd.proofs.to_lxd.Lts as lts
-use Rattle.lxd.proofs.checks.check.Reads as check-reads
-use Rattle.lxd.proofs.write_checked.Reads as write-checked-reads
 
 module _ (s : tie.Start) where
   abbrev g : List ℕ

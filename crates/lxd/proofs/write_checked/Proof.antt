@@ -14,12 +14,6 @@ use Rattle.lxd.proofs.WalkLaws.{Answers, Finds, all-have-bytes, wide-la
 use borrow.Author.Needs.{needs}
 use Rattle.lxd.proofs.write_checked.Statement.{statement}
 use Rattle.lxd.proofs.write_checked.Tie as tie
-use Rattle.lxd.proofs.write_checked.Reads as reads
-use Rattle.lxd.proofs.write_checked.Lts as lts
-use Rattle.export.proofs.survey.survey.Reads as survey-reads
-use Rattle.lxd.proofs.checks.lacks_byte.Reads as lacks-byte-reads
-use Rattle.lxd.proofs.start.Reads as start-reads
-use Rattle.lxd.proofs.write_numbered.Reads as write-numbered-reads
 
 module _ (s : tie.Start) where
   abbrev g : List ℕ

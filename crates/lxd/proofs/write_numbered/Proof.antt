@@ -22,13 +22,6 @@ use Rattle.lxd.proofs.WalkLaws.{wide-label, many-words, found, surveys-
 use borrow.Author.Needs.{needs}
 use Rattle.lxd.proofs.write_numbered.Statement.{statement}
 use Rattle.lxd.proofs.write_numbered.Tie as tie
-use Rattle.lxd.proofs.write_numbered.Reads as reads
-use Rattle.lxd.proofs.write_numbered.Lts as lts
-use Rattle.lists.proofs.clear.Reads as clear-reads
-use Rattle.lxd.proofs.file.write_file.Reads as write-file-reads
-use Rattle.lxd.proofs.refuse_too_many.Reads as refuse-too-many-reads
-use Rattle.lxd.proofs.start.Reads as start-reads
-use Rattle.lxd_blocks.proofs.number_run.Reads as number-run-reads
 
 module _ (s : tie.Start) where
   abbrev g : List ℕ

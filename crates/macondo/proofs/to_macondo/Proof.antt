@@ -23,12 +23,6 @@ use Rattle.macondo.proofs.Rows.{refused-before, passed-before, with-par
 use borrow.Author.Needs.{needs}
 use Rattle.macondo.proofs.to_macondo.Statement.{statement}
 use Rattle.macondo.proofs.to_macondo.Tie as tie
-use Rattle.macondo.proofs.to_macondo.Reads as reads
-use Rattle.macondo.proofs.to_macondo.Lts as lts
-use Rattle.export.proofs.lacks_label.Reads as lacks-label-reads
-use Rattle.graph.proofs.check_graph.Reads as check-graph-reads
-use Rattle.macondo.proofs.checks.descends.Reads as descends-reads
-use Rattle.macondo.proofs.walk.write_checked.Reads as write-checked-reads
 
 module _ (s : tie.Start) where
   abbrev g : List ℕ

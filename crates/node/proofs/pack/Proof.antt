@@ -1,10 +1,6 @@
 use borrow.Author.Needs.{needs}
 use Rattle.node.proofs.pack.Statement.{statement}
 use Rattle.node.proofs.pack.Tie as tie
-use Rattle.node.proofs.pack.Reads as reads
-use Rattle.node.proofs.pack.Lts as lts
-use Rattle.node.proofs.Node22.pack.Reads as Node22-pack-reads
-use Rattle.node.proofs.Node24.pack.Reads as Node24-pack-reads
 
 enum-told : tie.Need-enum-told
 enum-told c = search needs

@@ -5,17 +5,6 @@ use Rattle.node.specs.PackingLaws.{values-fields}
 use borrow.Author.Needs.{needs}
 use Rattle.node.proofs.repack_node.Statement.{statement}
 use Rattle.node.proofs.repack_node.Tie as tie
-use Rattle.node.proofs.repack_node.Reads as reads
-use Rattle.node.proofs.repack_node.Lts as lts
-use Rattle.node.proofs.Node22.accepts.Reads as Node22-accepts-reads
-use Rattle.node.proofs.Node22.arc_index.Reads as Node22-arc-index-reads
-use Rattle.node.proofs.Node22.is_end.Reads as Node22-is-end-reads
-use Rattle.node.proofs.Node22.tile.Reads as Node22-tile-reads
-use Rattle.node.proofs.Node24.accepts.Reads as Node24-accepts-reads
-use Rattle.node.proofs.Node24.arc_index.Reads as Node24-arc-index-reads
-use Rattle.node.proofs.Node24.is_end.Reads as Node24-is-end-reads
-use Rattle.node.proofs.Node24.tile.Reads as Node24-tile-reads
-use Rattle.node.proofs.pack.Reads as pack-reads
 
 enum-told : tie.Need-enum-told
 enum-told c = search needs

@@ -1,4 +1,4 @@
--- `add_bytes` is safe and ends: each turn takes a byte, and neither way of taking it changes the room's length. Assumes nothing.
+-- `add_bytes` is safe and ends: each turn takes a byte, and neither way of taking it changes the room's length.
 use borrow.Author.Needs.{needs}
 use Prim.Native.Nat.{_≤_, _-_}
 use mathlib.Core.Path.{_≡_, ap, _∙_}

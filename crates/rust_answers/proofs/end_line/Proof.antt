@@ -1,4 +1,4 @@
--- `end_line` is safe: a case fills at least one place of the room, and no more than there are. Assumes nothing.
+-- `end_line` is safe: a case fills at least one place of the room, and no more than there are.
 use borrow.Author.Needs.{needs}
 use Rattle.stored.specs.LineLaws.{ended-fills}
 use Rattle.rust_answers.proofs.end_line.Statement.{statement}

@@ -1,4 +1,4 @@
--- `read_all` is safe and ends: each turn leaves one fewer, and keeps the room's length. Assumes nothing.
+-- `read_all` is safe and ends: each turn leaves one fewer, and keeps the room's length.
 use borrow.Author.Needs.{needs}
 use mathlib.Core.Path.{_≡_}
 use lib.ListN.{length}

@@ -7,8 +7,6 @@ use borrow.Author.Count.{below-none, below-more}
 use Rattle.count.specs.Said.{limit}
 use Rattle.count.proofs.counts.reaches_limit.Statement.{statement}
 use Rattle.count.proofs.counts.reaches_limit.Tie as tie
-use Rattle.count.proofs.counts.reaches_limit.Reads as reads
-use Rattle.count.proofs.counts.reaches_limit.Lts as lts
 
 abbrev Inv-loop : tie.InvT-loop
 Inv-loop counts n i₀ i = (i ≤ n) × ((p : ℕ) → p < i → getD counts p 0 < limit)

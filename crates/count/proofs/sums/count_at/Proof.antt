@@ -3,12 +3,6 @@ use native.Mathlib.Omega.{arith}
 use borrow.Author.Needs.{needs}
 use Rattle.count.proofs.sums.count_at.Statement.{statement}
 use Rattle.count.proofs.sums.count_at.Tie as tie
-use Rattle.count.proofs.sums.count_at.Reads as reads
-use Rattle.count.proofs.sums.count_at.Lts as lts
-use Rattle.count.proofs.sums.capped_sum.Reads as capped-sum-reads
-use Rattle.count.proofs.sums.own_word.Reads as own-word-reads
-use Rattle.count.proofs.sums.words_by_arc.Reads as words-by-arc-reads
-use Rattle.count.proofs.sums.words_by_run.Reads as words-by-run-reads
 
 mul-node : tie.Need-mul-node
 mul-node c = search needs

@@ -4,9 +4,6 @@ use Rattle.node.specs.Nodes.{flag}
 use borrow.Author.Needs.{needs}
 use Rattle.count.proofs.sums.own_word.Statement.{statement}
 use Rattle.count.proofs.sums.own_word.Tie as tie
-use Rattle.count.proofs.sums.own_word.Reads as reads
-use Rattle.count.proofs.sums.own_word.Lts as lts
-use Rattle.node.proofs.Node24.accepts.Reads as accepts-reads
 
 accepts-requires : tie.Need-accepts-requires
 accepts-requires c κs = search needs

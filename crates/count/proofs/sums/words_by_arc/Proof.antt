@@ -7,9 +7,6 @@ use Rattle.graph.specs.CountLaws.{no-arc, some-arc}
 use borrow.Author.Needs.{needs}
 use Rattle.count.proofs.sums.words_by_arc.Statement.{statement}
 use Rattle.count.proofs.sums.words_by_arc.Tie as tie
-use Rattle.count.proofs.sums.words_by_arc.Reads as reads
-use Rattle.count.proofs.sums.words_by_arc.Lts as lts
-use Rattle.node.proofs.Node24.arc_index.Reads as arc-index-reads
 
 arc-index-requires : tie.Need-arc-index-requires
 arc-index-requires c κs = search needs

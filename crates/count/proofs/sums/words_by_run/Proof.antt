@@ -9,9 +9,6 @@ use Rattle.graph.specs.CountLaws.{at-end, not-at-end}
 use borrow.Author.Needs.{needs}
 use Rattle.count.proofs.sums.words_by_run.Statement.{statement}
 use Rattle.count.proofs.sums.words_by_run.Tie as tie
-use Rattle.count.proofs.sums.words_by_run.Reads as reads
-use Rattle.count.proofs.sums.words_by_run.Lts as lts
-use Rattle.node.proofs.Node24.is_end.Reads as is-end-reads
 
 -- the run goes on, to a count that is lent
 next : (c : tie.Else1) → c .before .before .before .args .p + 1 < length (c .before .before .before .args .counts .now)

@@ -8,10 +8,6 @@ use Rattle.count.proofs.Steps.{step-arc, step-next, steps-done}
 use borrow.Author.Needs.{needs}
 use Rattle.count.proofs.walk.next_to_count.Statement.{statement}
 use Rattle.count.proofs.walk.next_to_count.Tie as tie
-use Rattle.count.proofs.walk.next_to_count.Reads as reads
-use Rattle.count.proofs.walk.next_to_count.Lts as lts
-use Rattle.node.proofs.Node24.arc_index.Reads as arc-index-reads
-use Rattle.node.proofs.Node24.is_end.Reads as is-end-reads
 
 -- past the arc's branch, an arc leads to a node that is done
 arc-done : (c : tie.Joined1) → c .before .arc-index .result ≢ 0 → mark (c .before .before .before .before .before .args .work .now) (c .before .arc-index .result) ≡ done

@@ -4,8 +4,6 @@ use lib.ListN.{length-set}
 use borrow.Author.Needs.{needs}
 use Rattle.count.proofs.walk.push.Statement.{statement}
 use Rattle.count.proofs.walk.push.Tie as tie
-use Rattle.count.proofs.walk.push.Reads as reads
-use Rattle.count.proofs.walk.push.Lts as lts
 
 add-work : tie.Need-add-work
 add-work c = search needs

@@ -14,11 +14,6 @@ use Rattle.count.proofs.WalkLaws.{size-lt, top-place, top-node, step-lo
 use borrow.Author.Needs.{needs}
 use Rattle.count.proofs.walk.take_step.Statement.{statement}
 use Rattle.count.proofs.walk.take_step.Tie as tie
-use Rattle.count.proofs.walk.take_step.Reads as reads
-use Rattle.count.proofs.walk.take_step.Lts as lts
-use Rattle.count.proofs.sums.count_at.Reads as count-at-reads
-use Rattle.count.proofs.walk.next_to_count.Reads as next-to-count-reads
-use Rattle.count.proofs.walk.push.Reads as push-reads
 
 -- the node at the top of the stack
 module _ (s : tie.Start) where

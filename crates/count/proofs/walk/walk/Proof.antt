@@ -11,10 +11,6 @@ use Rattle.count.specs.Walk.{StepIs, Stepped}
 use Rattle.count.proofs.Roots.{Roots, turns, roots-start, roots-step, step-less, roots-next, next-less, root-steps, roots-loop, roots-end}
 use Rattle.count.proofs.walk.walk.Statement.{statement}
 use Rattle.count.proofs.walk.walk.Tie as tie
-use Rattle.count.proofs.walk.walk.Reads as reads
-use Rattle.count.proofs.walk.walk.Lts as lts
-use Rattle.count.proofs.walk.push.Reads as push-reads
-use Rattle.count.proofs.walk.take_step.Reads as take-step-reads
 
 abbrev Inv-loop : tie.InvT-loop
 Inv-loop nodes counts₀ work₀ n roots₀ size₀ counts work roots size = Roots limit nodes counts₀ work₀ counts work roots size

@@ -12,9 +12,6 @@ use Rattle.node.specs.Nodes.{KBWG, tile}
 use borrow.Author.Needs.{needs}
 use Rattle.export.proofs.labels.lacks_label.Statement.{statement}
 use Rattle.export.proofs.labels.lacks_label.Tie as tie
-use Rattle.export.proofs.labels.lacks_label.Reads as reads
-use Rattle.export.proofs.labels.lacks_label.Lts as lts
-use Rattle.node.proofs.Node24.tile.Reads as tile-reads
 
 abbrev lacks : List ℕ → ℕ → Bool
 lacks labels v = leb (length labels) (tile KBWG v)

@@ -3,9 +3,6 @@ use Rattle.export.specs.Encoded.{told-none, told-byte}
 use borrow.Author.Needs.{needs}
 use Rattle.export.proofs.latin1.byte_of.Statement.{statement}
 use Rattle.export.proofs.latin1.byte_of.Tie as tie
-use Rattle.export.proofs.latin1.byte_of.Reads as reads
-use Rattle.export.proofs.latin1.byte_of.Lts as lts
-use Rattle.export.proofs.latin1.encode.Reads as encode-reads
 
 encode-requires : tie.Need-encode-requires
 encode-requires c κs = search needs

@@ -4,8 +4,6 @@ use Rattle.export.specs.Encoded.{over-none, within-same}
 use borrow.Author.Needs.{needs}
 use Rattle.export.proofs.latin1.encode.Statement.{statement}
 use Rattle.export.proofs.latin1.encode.Tie as tie
-use Rattle.export.proofs.latin1.encode.Reads as reads
-use Rattle.export.proofs.latin1.encode.Lts as lts
 
 returns : tie.Need-returns
 returns c = over-none (c .before .args .c) (c .if1 .taken)

@@ -3,8 +3,6 @@ use Rattle.export.specs.Places.{placeAt}
 use borrow.Author.Needs.{needs}
 use Rattle.export.proofs.places.place_of.Statement.{statement}
 use Rattle.export.proofs.places.place_of.Tie as tie
-use Rattle.export.proofs.places.place_of.Reads as reads
-use Rattle.export.proofs.places.place_of.Lts as lts
 
 mul-v : tie.Need-mul-v
 mul-v c = search needs

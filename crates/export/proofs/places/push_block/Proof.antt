@@ -3,8 +3,6 @@ use native.Mathlib.Omega.{arith}
 use borrow.Author.Needs.{needs}
 use Rattle.export.proofs.places.push_block.Statement.{statement}
 use Rattle.export.proofs.places.push_block.Tie as tie
-use Rattle.export.proofs.places.push_block.Reads as reads
-use Rattle.export.proofs.places.push_block.Lts as lts
 
 cast-at : tie.Need-cast-at
 cast-at c = search needs

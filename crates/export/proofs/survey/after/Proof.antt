@@ -5,11 +5,6 @@ use Rattle.export.proofs.Tables.{after-end, after-on}
 use borrow.Author.Needs.{needs}
 use Rattle.export.proofs.survey.after.Statement.{statement}
 use Rattle.export.proofs.survey.after.Tie as tie
-use Rattle.export.proofs.survey.after.Reads as reads
-use Rattle.export.proofs.survey.after.Lts as lts
-use Rattle.export.proofs.survey.entry.Reads as entry-reads
-use Rattle.export.proofs.survey.nothing.Reads as nothing-reads
-use Rattle.node.proofs.Node24.is_end.Reads as is-end-reads
 
 mul-t5 : tie.Need-mul-t5
 mul-t5 c = search needs

@@ -3,9 +3,6 @@ use mathlib.Core.Path.{sym}
 use borrow.Author.Needs.{needs}
 use Rattle.export.proofs.survey.any_wide.Statement.{statement}
 use Rattle.export.proofs.survey.any_wide.Tie as tie
-use Rattle.export.proofs.survey.any_wide.Reads as reads
-use Rattle.export.proofs.survey.any_wide.Lts as lts
-use Rattle.export.proofs.latin1.no_byte.Reads as no-byte-reads
 
 no-byte-requires : tie.Need-no-byte-requires
 no-byte-requires c κs = search needs

@@ -9,14 +9,6 @@ use Rattle.export.specs.Survey.{most}
 use borrow.Author.Needs.{needs}
 use Rattle.export.proofs.survey.join_node.Statement.{statement}
 use Rattle.export.proofs.survey.join_node.Tie as tie
-use Rattle.export.proofs.survey.join_node.Reads as reads
-use Rattle.export.proofs.survey.join_node.Lts as lts
-use Rattle.export.proofs.survey.any_wide.Reads as any-wide-reads
-use Rattle.export.proofs.survey.capped_sum.Reads as capped-sum-reads
-use Rattle.node.proofs.bit.Reads as bit-reads
-use Rattle.graph.proofs.larger.Reads as larger-reads
-use Rattle.node.proofs.Node24.accepts.Reads as accepts-reads
-use Rattle.node.proofs.Node24.tile.Reads as tile-reads
 
 tile-requires : tie.Need-tile-requires
 tile-requires c κs = search needs

@@ -6,9 +6,6 @@ use lib.ListN.{length-set, set}
 use borrow.Author.Needs.{needs}
 use Rattle.export.proofs.survey.keep.Statement.{statement}
 use Rattle.export.proofs.survey.keep.Tie as tie
-use Rattle.export.proofs.survey.keep.Reads as reads
-use Rattle.export.proofs.survey.keep.Lts as lts
-use Rattle.node.proofs.bit.Reads as bit-reads
 
 mul-work : tie.Need-mul-work
 mul-work c = search needs

@@ -10,9 +10,6 @@ use Rattle.graph.specs.Runs.{node}
 use Rattle.export.proofs.Filling.{one-more}
 use Rattle.export.proofs.survey.last_unknown.Statement.{statement}
 use Rattle.export.proofs.survey.last_unknown.Tie as tie
-use Rattle.export.proofs.survey.last_unknown.Reads as reads
-use Rattle.export.proofs.survey.last_unknown.Lts as lts
-use Rattle.node.proofs.Node24.is_end.Reads as is-end-reads
 
 abbrev Inv-loop : tie.InvT-loop
 Inv-loop nodes work p at₀ at = (p ≤ at) × (at < length nodes) × ((j : ℕ) → p ≤ j → j < at → isEnd KBWG (node nodes j) ≡ false)

@@ -6,10 +6,6 @@ use Rattle.export.proofs.Tables.{tables-start}
 use borrow.Author.Needs.{needs}
 use Rattle.export.proofs.survey.survey.Statement.{statement}
 use Rattle.export.proofs.survey.survey.Tie as tie
-use Rattle.export.proofs.survey.survey.Reads as reads
-use Rattle.export.proofs.survey.survey.Lts as lts
-use Rattle.lists.proofs.clear.Reads as clear-reads
-use Rattle.export.proofs.survey.survey_run.Reads as survey-run-reads
 
 clear-requires : tie.Need-clear-requires
 clear-requires c κs = search needs

@@ -3,8 +3,6 @@ use native.Mathlib.Omega.{arith}
 use Rattle.export.proofs.Tables.{within-deep, within-left}
 use Rattle.export.proofs.survey.within.Statement.{statement}
 use Rattle.export.proofs.survey.within.Tie as tie
-use Rattle.export.proofs.survey.within.Reads as reads
-use Rattle.export.proofs.survey.within.Lts as lts
 
 returns : tie.Need-returns
 returns c = within-deep _ _ (c .if1 .taken)

@@ -8,8 +8,6 @@ use lib.ListN.{length, drop, length-set, drop-of-length-le}
 use lib.Seq.{sets, drop-cons}
 use Rattle.load.proofs.held.hold.Statement.{statement}
 use Rattle.load.proofs.held.hold.Tie as tie
-use Rattle.load.proofs.held.hold.Reads as reads
-use Rattle.load.proofs.held.hold.Lts as lts
 
 abbrev Inv-loop : tie.InvT-loop
 Inv-loop count piece next₀ i₀ next i = (i ≤ length piece) × (length next ≡ length next₀) × (sets next (count + i) (drop i piece) ≡ sets next₀ count piece)

@@ -5,8 +5,6 @@ use Rattle.load.specs.HeldLaws.{fresh-held, fresh-piece}
 use borrow.Author.Needs.{needs}
 use Rattle.load.proofs.held.joined_byte.Statement.{statement}
 use Rattle.load.proofs.held.joined_byte.Tie as tie
-use Rattle.load.proofs.held.joined_byte.Reads as reads
-use Rattle.load.proofs.held.joined_byte.Lts as lts
 
 array-read-result : tie.Need-array-read-result
 array-read-result c = search needs

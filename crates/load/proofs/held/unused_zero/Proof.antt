@@ -10,8 +10,6 @@ use lib.Seq.{drop-cons}
 use Rattle.load.specs.Loading.{zeros}
 use Rattle.load.proofs.held.unused_zero.Statement.{statement}
 use Rattle.load.proofs.held.unused_zero.Tie as tie
-use Rattle.load.proofs.held.unused_zero.Reads as reads
-use Rattle.load.proofs.held.unused_zero.Lts as lts
 
 abbrev Inv-loop : tie.InvT-loop
 Inv-loop at held i₀ i = zeros (drop i held) ≡ zeros (drop at held)

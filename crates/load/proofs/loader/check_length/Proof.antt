@@ -4,8 +4,6 @@ use mathlib.Core.Path.{sym}
 use Rattle.load.specs.BeginLaws.{begin-empty, begin-ragged, begin-over, begin-short, begin-ready}
 use Rattle.load.proofs.loader.check_length.Statement.{statement}
 use Rattle.load.proofs.loader.check_length.Tie as tie
-use Rattle.load.proofs.loader.check_length.Reads as reads
-use Rattle.load.proofs.loader.check_length.Lts as lts
 
 returns : tie.Need-returns
 returns c = sym (begin-empty _ _ (c .if1 .taken))

@@ -13,13 +13,6 @@ use Rattle.load.specs.PieceLaws.{piece-node, piece-stops, piece-short, h
 use borrow.Author.Needs.{needs}
 use Rattle.load.proofs.loader.read_piece.Statement.{statement}
 use Rattle.load.proofs.loader.read_piece.Tie as tie
-use Rattle.load.proofs.loader.read_piece.Reads as reads
-use Rattle.load.proofs.loader.read_piece.Lts as lts
-use Rattle.load.proofs.held.hold.Reads as hold-reads
-use Rattle.load.proofs.held.joined_node.Reads as joined-node-reads
-use Rattle.load.proofs.loader.read_whole.Reads as read-whole-reads
-use Rattle.load.proofs.loader.stopped_at.Reads as stopped-at-reads
-use Rattle.node.proofs.repack_node.Reads as repack-node-reads
 
 read-whole-requires : tie.Need-read-whole-requires
 read-whole-requires c κs = let s = c .before .before .before .before .before in

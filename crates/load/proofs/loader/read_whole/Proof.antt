@@ -14,11 +14,6 @@ use Rattle.load.specs.StateLaws.{state-stopped, state-cut}
 use borrow.Author.Needs.{needs}
 use Rattle.load.proofs.loader.read_whole.Statement.{statement}
 use Rattle.load.proofs.loader.read_whole.Tie as tie
-use Rattle.load.proofs.loader.read_whole.Reads as reads
-use Rattle.load.proofs.loader.read_whole.Lts as lts
-use Rattle.load.proofs.held.hold.Reads as hold-reads
-use Rattle.load.proofs.loader.stopped_at.Reads as stopped-at-reads
-use Rattle.load.proofs.repack.repack_into.Reads as repack-into-reads
 
 repack-into-requires : tie.Need-repack-into-requires
 repack-into-requires c κs = search needs

@@ -2,8 +2,6 @@ use mathlib.Core.Path.{refl}
 use Rattle.load.specs.Loading.{holding}
 use Rattle.load.proofs.loader.started.Statement.{statement}
 use Rattle.load.proofs.loader.started.Tie as tie
-use Rattle.load.proofs.loader.started.Reads as reads
-use Rattle.load.proofs.loader.started.Lts as lts
 
 returns : tie.Need-returns
 unfolding holding

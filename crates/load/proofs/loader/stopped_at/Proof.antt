@@ -3,8 +3,6 @@ use Rattle.load.specs.Loading.{stopped}
 use borrow.Author.Needs.{needs}
 use Rattle.load.proofs.loader.stopped_at.Statement.{statement}
 use Rattle.load.proofs.loader.stopped_at.Tie as tie
-use Rattle.load.proofs.loader.stopped_at.Reads as reads
-use Rattle.load.proofs.loader.stopped_at.Lts as lts
 
 mul-t6 : tie.Need-mul-t6
 mul-t6 c = search needs

@@ -8,11 +8,6 @@ use Rattle.node.specs.Said.{placesOf, repackNodeAnswer, said as saidNode}
 use Rattle.load.proofs.InPlace.{answerFrom, bytesFrom, node-fits, node-stops, nodes-done}
 use Rattle.load.proofs.repack.repack_in_place.Statement.{statement}
 use Rattle.load.proofs.repack.repack_in_place.Tie as tie
-use Rattle.load.proofs.repack.repack_in_place.Reads as reads
-use Rattle.load.proofs.repack.repack_in_place.Lts as lts
-use Rattle.endian.proofs.read_le_u32.Reads as read-le-u32-reads
-use Rattle.endian.proofs.write_le_u32.Reads as write-le-u32-reads
-use Rattle.node.proofs.repack_node.Reads as repack-node-reads
 
 abbrev Inv-loop : tie.InvT-loop
 Inv-loop bytes₀ from to i₀ bytes i = (i ≤ length bytes)

@@ -10,10 +10,6 @@ use Rattle.load.specs.RepackingLaws.{next-fits, next-stops, none-left}
 use Rattle.load.specs.Loading.{misfitIn, nodesAfter}
 use Rattle.load.proofs.repack.repack_into.Statement.{statement}
 use Rattle.load.proofs.repack.repack_into.Tie as tie
-use Rattle.load.proofs.repack.repack_into.Reads as reads
-use Rattle.load.proofs.repack.repack_into.Lts as lts
-use Rattle.endian.proofs.read_le_u32.Reads as read-le-u32-reads
-use Rattle.node.proofs.repack_node.Reads as repack-node-reads
 
 abbrev Inv-loop : tie.InvT-loop
 Inv-loop nodes₀ at bytes from i₀ k₀ nodes i k = (i ≤ length bytes)

@@ -2,10 +2,6 @@ use Rattle.lookup.specs.Walks.{wordByIndex}
 use borrow.Author.Needs.{needs}
 use Rattle.lookup.proofs.by_number.get_word_by_index.Statement.{statement}
 use Rattle.lookup.proofs.by_number.get_word_by_index.Tie as tie
-use Rattle.lookup.proofs.by_number.get_word_by_index.Reads as reads
-use Rattle.lookup.proofs.by_number.get_word_by_index.Lts as lts
-use Rattle.lookup.proofs.by_number.word_from.Reads as word-from-reads
-use Rattle.lookup.proofs.run.lent_part.Reads as lent-part-reads
 
 lent-part-requires : tie.Need-lent-part-requires
 lent-part-requires c κs = search needs

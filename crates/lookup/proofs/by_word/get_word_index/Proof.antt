@@ -2,10 +2,6 @@ use borrow.Author.Needs.{needs}
 use Rattle.lookup.specs.Walks.{wordIndex}
 use Rattle.lookup.proofs.by_word.get_word_index.Statement.{statement}
 use Rattle.lookup.proofs.by_word.get_word_index.Tie as tie
-use Rattle.lookup.proofs.by_word.get_word_index.Reads as reads
-use Rattle.lookup.proofs.by_word.get_word_index.Lts as lts
-use Rattle.lookup.proofs.by_word.index_from.Reads as index-from-reads
-use Rattle.lookup.proofs.run.lent_part.Reads as lent-part-reads
 
 lent-part-requires : tie.Need-lent-part-requires
 lent-part-requires c κs = search needs

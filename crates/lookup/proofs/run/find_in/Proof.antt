@@ -8,8 +8,6 @@ use Rattle.lookup.specs.Walks.{findIn}
 use Rattle.lookup.specs.WalkLaws.{find-here, find-absent, find-next, find-out}
 use Rattle.lookup.proofs.run.find_in.Statement.{statement}
 use Rattle.lookup.proofs.run.find_in.Tie as tie
-use Rattle.lookup.proofs.run.find_in.Reads as reads
-use Rattle.lookup.proofs.run.find_in.Lts as lts
 
 abbrev Inv-loop : tie.InvT-loop
 Inv-loop g p t i₀ i = findIn (drop i g) i t ≡ findIn (drop p g) p t

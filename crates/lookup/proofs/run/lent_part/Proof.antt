@@ -4,8 +4,6 @@ use lib.Seq.{take-all, length-take-le}
 use borrow.Author.Needs.{needs}
 use Rattle.lookup.proofs.run.lent_part.Statement.{statement}
 use Rattle.lookup.proofs.run.lent_part.Tie as tie
-use Rattle.lookup.proofs.run.lent_part.Reads as reads
-use Rattle.lookup.proofs.run.lent_part.Lts as lts
 
 slice-aggregate-result : tie.Need-slice-aggregate-result
 slice-aggregate-result c = sym (length-take-le 4_294_967_296 (c .before .before .args .list .now) (omega arith))

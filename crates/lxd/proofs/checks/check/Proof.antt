@@ -9,10 +9,6 @@ use Rattle.lxd.proofs.RowLaws.{row, listsRow}
 use borrow.Author.Needs.{needs}
 use Rattle.lxd.proofs.checks.check.Statement.{statement}
 use Rattle.lxd.proofs.checks.check.Tie as tie
-use Rattle.lxd.proofs.checks.check.Reads as reads
-use Rattle.lxd.proofs.checks.check.Lts as lts
-use Rattle.graph.proofs.check_graph.Reads as check-graph-reads
-use Rattle.lxd.proofs.checks.check_lists.Reads as check-lists-reads
 
 -- what the check of the graph says
 judged : (c : tie.After-check-graph) {k : GraphCheck} → c .check-graph .result ≡ k → firstOf (graphRow (c .before .before .before .before .before .args .nodes .now)) ≡ graphRefusal k

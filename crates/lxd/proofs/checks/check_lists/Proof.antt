@@ -17,10 +17,6 @@ use Rattle.lxd.proofs.RowLaws.{row, listsRow, StopsAt, answerAt, lists-
 use borrow.Author.Needs.{needs}
 use Rattle.lxd.proofs.checks.check_lists.Statement.{statement}
 use Rattle.lxd.proofs.checks.check_lists.Tie as tie
-use Rattle.lxd.proofs.checks.check_lists.Reads as reads
-use Rattle.lxd.proofs.checks.check_lists.Lts as lts
-use Rattle.lxd.proofs.checks.lacks_byte.Reads as lacks-byte-reads
-use Rattle.export.proofs.lacks_label.Reads as lacks-label-reads
 
 module _ (s : tie.Start) where
   abbrev g : List ℕ

@@ -9,9 +9,6 @@ use Rattle.export.specs.Latin1.{noByte}
 use Rattle.laws.specs.Members.{some-here, some-next, some-past}
 use Rattle.lxd.proofs.checks.lacks_byte.Statement.{statement}
 use Rattle.lxd.proofs.checks.lacks_byte.Tie as tie
-use Rattle.lxd.proofs.checks.lacks_byte.Reads as reads
-use Rattle.lxd.proofs.checks.lacks_byte.Lts as lts
-use Rattle.export.proofs.no_byte.Reads as no-byte-reads
 
 abbrev Inv-loop : tie.InvT-loop
 Inv-loop text i₀ i = (i ≤ length text) × (someOf noByte (drop i text) ≡ someOf noByte text)

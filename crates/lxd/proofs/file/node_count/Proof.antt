@@ -3,8 +3,6 @@ use borrow.Author.Tests.{eq-eqb, ne-eqb}
 use Rattle.lxd.specs.Planned.{nodeCount}
 use Rattle.lxd.proofs.file.node_count.Statement.{statement}
 use Rattle.lxd.proofs.file.node_count.Tie as tie
-use Rattle.lxd.proofs.file.node_count.Reads as reads
-use Rattle.lxd.proofs.file.node_count.Lts as lts
 
 returns : tie.Need-returns
 unfolding nodeCount

@@ -5,11 +5,6 @@ use Rattle.lxd.proofs.WalkLaws.{walk-refuses, file-short, file-written}
 use borrow.Author.Needs.{needs}
 use Rattle.lxd.proofs.file.write_file.Statement.{statement}
 use Rattle.lxd.proofs.file.write_file.Tie as tie
-use Rattle.lxd.proofs.file.write_file.Reads as reads
-use Rattle.lxd.proofs.file.write_file.Lts as lts
-use Rattle.lxd.proofs.file.node_count.Reads as node-count-reads
-use Rattle.lxd.proofs.file.write_nodes.Reads as write-nodes-reads
-use Rattle.lxd.proofs.header.write_header.Reads as write-header-reads
 
 node-count-requires : tie.Need-node-count-requires
 node-count-requires c κs = search needs

@@ -8,10 +8,6 @@ use Rattle.lxd.proofs.PlannedLaws.{ready, blocks-room, order-inside, or
 use borrow.Author.Needs.{needs}
 use Rattle.lxd.proofs.file.write_nodes.Statement.{statement}
 use Rattle.lxd.proofs.file.write_nodes.Tie as tie
-use Rattle.lxd.proofs.file.write_nodes.Reads as reads
-use Rattle.lxd.proofs.file.write_nodes.Lts as lts
-use Rattle.endian.proofs.write_le_u32.Reads as write-le-u32-reads
-use Rattle.lxd_blocks.proofs.write_runs.Reads as write-runs-reads
 
 two : (s : tie.Start) → 2 ≤ length (lxdNodes (s .args .nodes .now) (s .args .labels .now))
 two s = two-nodes (s .args .nodes .now) (s .args .labels .now) (s .args .work .now) (s .args .words) (s .args .t) (s .pre .0)

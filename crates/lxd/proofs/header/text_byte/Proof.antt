@@ -4,9 +4,6 @@ use Rattle.lxd.proofs.HeaderLaws.{text-inside, text-past}
 use borrow.Author.Needs.{needs}
 use Rattle.lxd.proofs.header.text_byte.Statement.{statement}
 use Rattle.lxd.proofs.header.text_byte.Tie as tie
-use Rattle.lxd.proofs.header.text_byte.Reads as reads
-use Rattle.lxd.proofs.header.text_byte.Lts as lts
-use Rattle.export.proofs.byte_of.Reads as byte-of-reads
 
 mul-byte-of : tie.Need-mul-byte-of
 mul-byte-of c = search needs

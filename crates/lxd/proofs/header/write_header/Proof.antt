@@ -3,10 +3,6 @@ use Rattle.lxd.proofs.HeaderLaws.{header-written}
 use borrow.Author.Needs.{needs}
 use Rattle.lxd.proofs.header.write_header.Statement.{statement}
 use Rattle.lxd.proofs.header.write_header.Tie as tie
-use Rattle.lxd.proofs.header.write_header.Reads as reads
-use Rattle.lxd.proofs.header.write_header.Lts as lts
-use Rattle.endian.proofs.write_le_u32.Reads as write-le-u32-reads
-use Rattle.lxd.proofs.header.write_text.Reads as write-text-reads
 
 write-le-u32-requires : tie.Need-write-le-u32-requires
 write-le-u32-requires c κs = search needs

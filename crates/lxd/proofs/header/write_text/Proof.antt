@@ -12,9 +12,6 @@ use Rattle.lxd_file.specs.FileLaws.{length-field}
 use Rattle.lxd.proofs.HeaderLaws.{field-at}
 use Rattle.lxd.proofs.header.write_text.Statement.{statement}
 use Rattle.lxd.proofs.header.write_text.Tie as tie
-use Rattle.lxd.proofs.header.write_text.Reads as reads
-use Rattle.lxd.proofs.header.write_text.Lts as lts
-use Rattle.lxd.proofs.header.text_byte.Reads as text-byte-reads
 
 abbrev Inv-loop : tie.InvT-loop
 Inv-loop file₀ from size text i₀ file i = (i ≤ size) × (length file ≡ length file₀) × (sets file (from + i) (drop i (field size text)) ≡ sets file₀ from (field size text))

@@ -4,9 +4,6 @@ use Rattle.lxd_blocks.proofs.PlacedLaws.{child-none, child-numbered, ch
 use borrow.Author.Needs.{needs}
 use Rattle.lxd_blocks.proofs.nodes.child_place.Statement.{statement}
 use Rattle.lxd_blocks.proofs.nodes.child_place.Tie as tie
-use Rattle.lxd_blocks.proofs.nodes.child_place.Reads as reads
-use Rattle.lxd_blocks.proofs.nodes.child_place.Lts as lts
-use Rattle.export.proofs.place_of.Reads as place-of-reads
 
 place-of-requires : tie.Need-place-of-requires
 place-of-requires c κs = search needs

@@ -9,15 +9,6 @@ use Rattle.lxd_blocks.proofs.PlacedLaws.{node-packed}
 use borrow.Author.Needs.{needs}
 use Rattle.lxd_blocks.proofs.nodes.file_node.Statement.{statement}
 use Rattle.lxd_blocks.proofs.nodes.file_node.Tie as tie
-use Rattle.lxd_blocks.proofs.nodes.file_node.Reads as reads
-use Rattle.lxd_blocks.proofs.nodes.file_node.Lts as lts
-use Rattle.export.proofs.byte_of.Reads as byte-of-reads
-use Rattle.lxd_blocks.proofs.nodes.child_place.Reads as child-place-reads
-use Rattle.lxd_blocks.proofs.nodes.pack.Reads as pack-reads
-use Rattle.node.proofs.Node24.accepts.Reads as accepts-reads
-use Rattle.node.proofs.Node24.arc_index.Reads as arc-index-reads
-use Rattle.node.proofs.Node24.is_end.Reads as is-end-reads
-use Rattle.node.proofs.Node24.tile.Reads as tile-reads
 
 tile-requires : tie.Need-tile-requires
 tile-requires c κs = search needs

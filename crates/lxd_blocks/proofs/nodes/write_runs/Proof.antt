@@ -12,11 +12,6 @@ use Rattle.lxd_blocks.specs.Placed.{nodeIn}
 use Rattle.lxd_blocks.proofs.PlacedLaws.{labelled-at, left-some, Writing, writing-starts, writing-on, writing-over, falls}
 use Rattle.lxd_blocks.proofs.nodes.write_runs.Statement.{statement}
 use Rattle.lxd_blocks.proofs.nodes.write_runs.Tie as tie
-use Rattle.lxd_blocks.proofs.nodes.write_runs.Reads as reads
-use Rattle.lxd_blocks.proofs.nodes.write_runs.Lts as lts
-use Rattle.endian.proofs.write_le_u32.Reads as write-le-u32-reads
-use Rattle.lxd_blocks.proofs.nodes.file_node.Reads as file-node-reads
-use Rattle.node.proofs.Node24.is_end.Reads as is-end-reads
 
 abbrev Inv-loop : tie.InvT-loop
 Inv-loop nodes labels work blocks file₀ n at₀ i₀ p₀ file at i p = Writing nodes labels work blocks file₀ file at i p

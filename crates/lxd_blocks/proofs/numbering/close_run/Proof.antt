@@ -7,10 +7,6 @@ use Rattle.lxd_blocks.specs.Numbered.{wordsAt}
 use borrow.Author.Needs.{needs}
 use Rattle.lxd_blocks.proofs.numbering.close_run.Statement.{statement}
 use Rattle.lxd_blocks.proofs.numbering.close_run.Tie as tie
-use Rattle.lxd_blocks.proofs.numbering.close_run.Reads as reads
-use Rattle.lxd_blocks.proofs.numbering.close_run.Lts as lts
-use Rattle.export.proofs.keep_depth.Reads as keep-depth-reads
-use Rattle.lxd_blocks.proofs.numbering.keep_words.Reads as keep-words-reads
 
 add-runs : tie.Need-add-runs
 add-runs c = search needs

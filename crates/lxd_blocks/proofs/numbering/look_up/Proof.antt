@@ -3,10 +3,6 @@ use Rattle.lxd_blocks.proofs.KnownLaws.{looked-followed, looked-deep, l
 use borrow.Author.Needs.{needs}
 use Rattle.lxd_blocks.proofs.numbering.look_up.Statement.{statement}
 use Rattle.lxd_blocks.proofs.numbering.look_up.Tie as tie
-use Rattle.lxd_blocks.proofs.numbering.look_up.Reads as reads
-use Rattle.lxd_blocks.proofs.numbering.look_up.Lts as lts
-use Rattle.export.proofs.depth_of.Reads as depth-of-reads
-use Rattle.lxd_blocks.proofs.numbering.words_of.Reads as words-of-reads
 
 depth-of-requires : tie.Need-depth-of-requires
 depth-of-requires c κs = search needs

@@ -6,12 +6,6 @@ use Rattle.export.specs.Survey.{most}
 use borrow.Author.Needs.{needs}
 use Rattle.lxd_blocks.proofs.numbering.pass_node.Statement.{statement}
 use Rattle.lxd_blocks.proofs.numbering.pass_node.Tie as tie
-use Rattle.lxd_blocks.proofs.numbering.pass_node.Reads as reads
-use Rattle.lxd_blocks.proofs.numbering.pass_node.Lts as lts
-use Rattle.export.proofs.survey.capped_sum.Reads as capped-sum-reads
-use Rattle.graph.proofs.larger.Reads as larger-reads
-use Rattle.node.proofs.bit.Reads as bit-reads
-use Rattle.node.proofs.Node24.accepts.Reads as accepts-reads
 
 accepts-requires : tie.Need-accepts-requires
 accepts-requires c κs = search needs

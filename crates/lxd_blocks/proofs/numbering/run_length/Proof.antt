@@ -8,9 +8,6 @@ use Rattle.lxd_file.specs.RunsLaws.{size}
 use Rattle.lxd_blocks.proofs.RunLaws.{size-last, size-more}
 use Rattle.lxd_blocks.proofs.numbering.run_length.Statement.{statement}
 use Rattle.lxd_blocks.proofs.numbering.run_length.Tie as tie
-use Rattle.lxd_blocks.proofs.numbering.run_length.Reads as reads
-use Rattle.lxd_blocks.proofs.numbering.run_length.Lts as lts
-use Rattle.node.proofs.Node24.is_end.Reads as is-end-reads
 
 abbrev Inv-loop : tie.InvT-loop
 Inv-loop nodes p at₀ passed₀ at passed = (p ≤ at) × (at < length nodes) × (passed ≡ at - p + 1) × (passed + size nodes at ≡ 1 + size nodes p)

@@ -10,10 +10,6 @@ use Rattle.graph.specs.Runs.{ascends}
 use Rattle.macondo.proofs.Tests.{ascendsFrom, from-any, first-falls, first-passes, none-left}
 use Rattle.macondo.proofs.checks.descends.Statement.{statement}
 use Rattle.macondo.proofs.checks.descends.Tie as tie
-use Rattle.macondo.proofs.checks.descends.Reads as reads
-use Rattle.macondo.proofs.checks.descends.Lts as lts
-use Rattle.macondo.proofs.checks.lowest_after.Reads as lowest-after-reads
-use Rattle.node.proofs.Node24.tile.Reads as tile-reads
 
 abbrev Inv-loop : tie.InvT-loop
 Inv-loop nodes lowest₀ i₀ lowest i = ascendsFrom lowest (drop i nodes) ≡ ascends KBWG nodes

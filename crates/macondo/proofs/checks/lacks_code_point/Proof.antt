@@ -9,9 +9,6 @@ use Rattle.macondo_file.specs.Row.{noCodePoint}
 use Rattle.laws.specs.Members.{some-here, some-next, some-past}
 use Rattle.macondo.proofs.checks.lacks_code_point.Statement.{statement}
 use Rattle.macondo.proofs.checks.lacks_code_point.Tie as tie
-use Rattle.macondo.proofs.checks.lacks_code_point.Reads as reads
-use Rattle.macondo.proofs.checks.lacks_code_point.Lts as lts
-use Rattle.macondo.proofs.checks.no_code_point.Reads as no-code-point-reads
 
 abbrev Inv-loop : tie.InvT-loop
 Inv-loop labels i₀ i = someOf noCodePoint (drop i labels) ≡ someOf noCodePoint (drop 1 labels)

@@ -4,10 +4,6 @@ use Rattle.macondo.proofs.Tests.{any-after-end, higher-after}
 use borrow.Author.Needs.{needs}
 use Rattle.macondo.proofs.checks.lowest_after.Statement.{statement}
 use Rattle.macondo.proofs.checks.lowest_after.Tie as tie
-use Rattle.macondo.proofs.checks.lowest_after.Reads as reads
-use Rattle.macondo.proofs.checks.lowest_after.Lts as lts
-use Rattle.node.proofs.Node24.is_end.Reads as is-end-reads
-use Rattle.node.proofs.Node24.tile.Reads as tile-reads
 
 is-end-requires : tie.Need-is-end-requires
 is-end-requires c κs = search needs

@@ -3,8 +3,6 @@ use native.Mathlib.Omega.{arith}
 use Rattle.macondo.proofs.Tests.{code-low, code-half, code-high}
 use Rattle.macondo.proofs.checks.no_code_point.Statement.{statement}
 use Rattle.macondo.proofs.checks.no_code_point.Tie as tie
-use Rattle.macondo.proofs.checks.no_code_point.Reads as reads
-use Rattle.macondo.proofs.checks.no_code_point.Lts as lts
 
 returns : tie.Need-returns
 returns c = code-low (c .before .args .label) (c .if1 .taken)

@@ -4,12 +4,6 @@ use Rattle.macondo.proofs.SectionLaws.{file-stored}
 use borrow.Author.Needs.{needs}
 use Rattle.macondo.proofs.file.write_file.Statement.{statement}
 use Rattle.macondo.proofs.file.write_file.Tie as tie
-use Rattle.macondo.proofs.file.write_file.Reads as reads
-use Rattle.macondo.proofs.file.write_file.Lts as lts
-use Rattle.macondo.proofs.nodes.write_nodes.Reads as write-nodes-reads
-use Rattle.macondo.proofs.sections.write_code_points.Reads as write-code-points-reads
-use Rattle.macondo.proofs.sections.write_opening.Reads as write-opening-reads
-use Rattle.macondo.proofs.sections.write_sets.Reads as write-sets-reads
 
 sub-count : tie.Need-sub-count
 sub-count c = search needs

@@ -7,11 +7,6 @@ use Rattle.macondo.proofs.BlockNodes.{arc-unnumbered, arc-numbered, num
 use borrow.Author.Needs.{needs}
 use Rattle.macondo.proofs.nodes.arc_node.Statement.{statement}
 use Rattle.macondo.proofs.nodes.arc_node.Tie as tie
-use Rattle.macondo.proofs.nodes.arc_node.Reads as reads
-use Rattle.macondo.proofs.nodes.arc_node.Lts as lts
-use Rattle.export.proofs.place_of.Reads as place-of-reads
-use Rattle.node.proofs.Node24.arc_index.Reads as arc-index-reads
-use Rattle.node.proofs.Node24.tile.Reads as tile-reads
 
 -- the letter is that of the node's tile, and small
 small : (c : tie.After-tile) → getD (c .before .before .args .ranks .now) (c .tile .result) 0 ≤ 50

@@ -10,10 +10,6 @@ use Rattle.macondo.proofs.SectionLaws.{Writing, writing-start, writing-
 use Rattle.macondo.proofs.BlockNodes.{block-stored}
 use Rattle.macondo.proofs.nodes.write_block.Statement.{statement}
 use Rattle.macondo.proofs.nodes.write_block.Tie as tie
-use Rattle.macondo.proofs.nodes.write_block.Reads as reads
-use Rattle.macondo.proofs.nodes.write_block.Lts as lts
-use Rattle.endian.proofs.write_be_u32.Reads as write-be-u32-reads
-use Rattle.macondo.proofs.nodes.arc_node.Reads as arc-node-reads
 
 abbrev Inv-loop : tie.InvT-loop
 Inv-loop arcs count set ranks work file₀ at w₀ i₀ file w i = Writing 4 (map (arcIn ranks work) (take count arcs)) file₀ (at + 4) i file w

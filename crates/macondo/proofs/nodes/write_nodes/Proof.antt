@@ -11,11 +11,6 @@ use Rattle.macondo.proofs.SectionLaws.{section-stored}
 use Rattle.macondo.proofs.BlockNodes.{BlocksFrom, blocks-start, blocks-room, blocks-next, blocks-done}
 use Rattle.macondo.proofs.nodes.write_nodes.Statement.{statement}
 use Rattle.macondo.proofs.nodes.write_nodes.Tie as tie
-use Rattle.macondo.proofs.nodes.write_nodes.Reads as reads
-use Rattle.macondo.proofs.nodes.write_nodes.Lts as lts
-use Rattle.endian.proofs.write_be_u32.Reads as write-be-u32-reads
-use Rattle.macondo.proofs.nodes.write_block.Reads as write-block-reads
-use Rattle.macondo_blocks.proofs.arcs_of.Reads as arcs-of-reads
 
 abbrev Inv-loop : tie.InvT-loop
 Inv-loop nodes labels ranks work file₀ at n blocks arcs₀ w₀ j₀ file arcs w j = (length arcs ≡ 64) × BlocksFrom nodes labels ranks work blocks file₀ (at + 4) j file w

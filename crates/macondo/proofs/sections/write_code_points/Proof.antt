@@ -8,9 +8,6 @@ use lib.ListN.{length, getD, take}
 use Rattle.macondo.proofs.SectionLaws.{Writing, writing-start, writing-room, writing-next, writing-done, section-stored, made-length, made-at}
 use Rattle.macondo.proofs.sections.write_code_points.Statement.{statement}
 use Rattle.macondo.proofs.sections.write_code_points.Tie as tie
-use Rattle.macondo.proofs.sections.write_code_points.Reads as reads
-use Rattle.macondo.proofs.sections.write_code_points.Lts as lts
-use Rattle.endian.proofs.write_be_u32.Reads as write-be-u32-reads
 
 abbrev Inv-loop : tie.InvT-loop
 Inv-loop labels letters count file₀ at w₀ i₀ file w i = Writing 4 (map (λ t. getD labels t 0) (take count letters)) file₀ (at + 4) i file w

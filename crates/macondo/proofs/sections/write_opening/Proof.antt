@@ -8,11 +8,6 @@ use Rattle.macondo.proofs.SectionLaws.{opening-stored}
 use borrow.Author.Needs.{needs}
 use Rattle.macondo.proofs.sections.write_opening.Statement.{statement}
 use Rattle.macondo.proofs.sections.write_opening.Tie as tie
-use Rattle.macondo.proofs.sections.write_opening.Reads as reads
-use Rattle.macondo.proofs.sections.write_opening.Lts as lts
-use Rattle.endian.proofs.write_be_u32.Reads as write-be-u32-reads
-use Rattle.endian.proofs.write_bytes.Reads as write-bytes-reads
-use Rattle.macondo.proofs.sections.magic.Reads as magic-reads
 
 magic-requires : tie.Need-magic-requires
 magic-requires c κs = search needs

@@ -10,10 +10,6 @@ use Rattle.graph.specs.TableLaws.{table-length, table-at}
 use Rattle.macondo.proofs.SectionLaws.{Writing, writing-start, writing-room, writing-next, writing-done, section-stored}
 use Rattle.macondo.proofs.sections.write_sets.Statement.{statement}
 use Rattle.macondo.proofs.sections.write_sets.Tie as tie
-use Rattle.macondo.proofs.sections.write_sets.Reads as reads
-use Rattle.macondo.proofs.sections.write_sets.Lts as lts
-use Rattle.endian.proofs.write_be_halves.Reads as write-be-halves-reads
-use Rattle.endian.proofs.write_be_u32.Reads as write-be-u32-reads
 
 abbrev Inv-loop : tie.InvT-loop
 Inv-loop work n count file₀ at w₀ i₀ file w i = Writing 8 (setsIn n work count) file₀ (at + 4) i file w

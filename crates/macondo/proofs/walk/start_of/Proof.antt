@@ -6,9 +6,6 @@ use Rattle.macondo.specs.Said.{formatOf}
 use borrow.Author.Needs.{needs}
 use Rattle.macondo.proofs.walk.start_of.Statement.{statement}
 use Rattle.macondo.proofs.walk.start_of.Tie as tie
-use Rattle.macondo.proofs.walk.start_of.Reads as reads
-use Rattle.macondo.proofs.walk.start_of.Lts as lts
-use Rattle.node.proofs.Node24.arc_index.Reads as arc-index-reads
 
 enum-told : tie.Need-enum-told
 enum-told c = search needs

@@ -20,12 +20,6 @@ use Rattle.macondo.proofs.Rows.{refused-by, ready}
 use borrow.Author.Needs.{needs}
 use Rattle.macondo.proofs.walk.write_checked.Statement.{statement}
 use Rattle.macondo.proofs.walk.write_checked.Tie as tie
-use Rattle.macondo.proofs.walk.write_checked.Reads as reads
-use Rattle.macondo.proofs.walk.write_checked.Lts as lts
-use Rattle.macondo.proofs.checks.lacks_code_point.Reads as lacks-code-point-reads
-use Rattle.macondo.proofs.walk.start_of.Reads as start-of-reads
-use Rattle.macondo.proofs.walk.write_numbered.Reads as write-numbered-reads
-use Rattle.macondo_blocks.proofs.number_blocks.Reads as number-blocks-reads
 
 module _ (s : tie.Start) where
   abbrev f : Format

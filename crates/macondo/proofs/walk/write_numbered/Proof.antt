@@ -15,13 +15,6 @@ use Rattle.macondo.proofs.SizeLaws.{too-many, too-short, all-written}
 use borrow.Author.Needs.{needs}
 use Rattle.macondo.proofs.walk.write_numbered.Statement.{statement}
 use Rattle.macondo.proofs.walk.write_numbered.Tie as tie
-use Rattle.macondo.proofs.walk.write_numbered.Reads as reads
-use Rattle.macondo.proofs.walk.write_numbered.Lts as lts
-use Rattle.letter_sets.proofs.number_sets.Reads as number-sets-reads
-use Rattle.macondo.proofs.file.write_file.Reads as write-file-reads
-use Rattle.macondo.proofs.tables.file_size.Reads as file-size-reads
-use Rattle.macondo_blocks.proofs.letters.Reads as letters-reads
-use Rattle.macondo_blocks.proofs.ranks.Reads as ranks-reads
 
 module _ (s : tie.Start) where
   abbrev f : Format

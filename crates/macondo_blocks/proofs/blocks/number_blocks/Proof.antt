@@ -4,10 +4,6 @@ use Rattle.macondo_blocks.proofs.Numbering.{clear-at, clear-recorded, c
 use borrow.Author.Needs.{needs}
 use Rattle.macondo_blocks.proofs.blocks.number_blocks.Statement.{statement}
 use Rattle.macondo_blocks.proofs.blocks.number_blocks.Tie as tie
-use Rattle.macondo_blocks.proofs.blocks.number_blocks.Reads as reads
-use Rattle.macondo_blocks.proofs.blocks.number_blocks.Lts as lts
-use Rattle.lists.proofs.clear.Reads as clear-reads
-use Rattle.macondo_blocks.proofs.blocks.number_run.Reads as number-run-reads
 
 clear-requires : tie.Need-clear-requires
 clear-requires c κs = search needs

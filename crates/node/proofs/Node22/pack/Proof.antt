@@ -7,9 +7,6 @@ use Rattle.node.specs.SaidLaws.{pack-within, pack-arc-over}
 use borrow.Author.Needs.{needs}
 use Rattle.node.proofs.Node22.pack.Statement.{statement}
 use Rattle.node.proofs.Node22.pack.Tie as tie
-use Rattle.node.proofs.Node22.pack.Reads as reads
-use Rattle.node.proofs.Node22.pack.Lts as lts
-use Rattle.node.proofs.bit.Reads as bit-reads
 
 returns : tie.Need-returns
 returns c = sym (pack-arc-over KWG _ (omega arith))

@@ -7,9 +7,6 @@ use Rattle.node.specs.SaidLaws.{pack-within, pack-tile-over, pack-arc-ov
 use borrow.Author.Needs.{needs}
 use Rattle.node.proofs.Node24.pack.Statement.{statement}
 use Rattle.node.proofs.Node24.pack.Tie as tie
-use Rattle.node.proofs.Node24.pack.Reads as reads
-use Rattle.node.proofs.Node24.pack.Lts as lts
-use Rattle.node.proofs.bit.Reads as bit-reads
 
 returns : tie.Need-returns
 returns c = sym (pack-tile-over KBWG _ (omega arith))

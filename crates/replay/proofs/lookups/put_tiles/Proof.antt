@@ -1,6 +1,6 @@
 -- `lookups::put_tiles` goes along the tiles up to the first entry that is none: those passed, and what is left without marks, are the whole.
 use mathlib.Core.Path.{_≡_, refl, sym, ap, _∙_}
-use mathlib.Core.List.{[], _++_, append-nil}
+use mathlib.Core.List.{_++_, append-nil}
 use native.Mathlib.Omega.{arith}
 use Prim.Native.Nat.{_≤_, _-_}
 use lib.ListN.{length, take, drop}

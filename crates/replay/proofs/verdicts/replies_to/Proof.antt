@@ -1,5 +1,4 @@
 -- `verdicts::replies_to` makes each call by its number.
-use Rattle.replay.specs.Judged.{Reply}
 use Rattle.replay.specs.Judged as R
 use Rattle.replay.proofs.VerdictLaws.{replies-as, counts-as, last-call}
 use borrow.Author.Needs.{needs}

@@ -1,4 +1,4 @@
--- `lines::add_byte` meets its contract, part by part: a byte changes the numbers only after a number. Assumes nothing.
+-- `lines::add_byte` meets its contract, part by part: a byte changes the numbers only after a number.
 use Prim.Native.Nat.{ℕ}
 use mathlib.Core.Path.{_≡_, refl}
 use mathlib.Core.Bool.{Bool, true, false}

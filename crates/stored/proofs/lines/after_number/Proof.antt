@@ -1,4 +1,4 @@
--- `lines::after_number` meets its contract: the byte's test says whether it is a blank, and `keep` whether there is room. Assumes nothing.
+-- `lines::after_number` meets its contract: the byte's test says whether it is a blank, and `keep` whether there is room.
 use mathlib.Core.Path.{sym, _∙_}
 use native.Mathlib.Omega.{arith}
 use borrow.Author.Tests.{ltb-true, eq-eqb, ne-eqb}

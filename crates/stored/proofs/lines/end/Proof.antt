@@ -1,4 +1,4 @@
--- `lines::end` meets its contract, part by part: only a number is kept, and only where there is room for it. Assumes nothing.
+-- `lines::end` meets its contract, part by part: only a number is kept, and only where there is room for it.
 use mathlib.Core.Path.{sym, _∙_}
 use native.Mathlib.Omega.{arith}
 use borrow.Author.Tests.{ltb-true}

@@ -1,4 +1,4 @@
--- `lines::first_part` meets its contract: the byte's test says whether it starts a comment. Assumes nothing.
+-- `lines::first_part` meets its contract: the byte's test says whether it starts a comment.
 use borrow.Author.Tests.{eq-eqb, ne-eqb}
 use borrow.Author.Needs.{needs}
 use Rattle.stored.proofs.lines.first_part.Statement.{statement}

@@ -1,4 +1,4 @@
--- `lines::is_empty` meets its contract: every part but the first case is that of a line with bytes. Assumes nothing.
+-- `lines::is_empty` meets its contract: every part but the first case is that of a line with bytes.
 use mathlib.Core.Path.{_≡_, refl}
 use mathlib.Core.Bool.{false}
 use mathlib.Core.List.{[], _∷_}

@@ -1,4 +1,4 @@
--- `lines::keep` meets its contract: a store past the room would change nothing. Assumes nothing.
+-- `lines::keep` meets its contract: a store past the room would change nothing.
 use mathlib.Core.Path.{sym, refl}
 use borrow.Author.Tests.{le-ltb, lt-ltb}
 use lib.Seq.{set-out}

@@ -1,4 +1,4 @@
--- `lines::with_digit` meets its contract: the byte's two tests say that it is a digit, and the third that the number fits. Assumes nothing.
+-- `lines::with_digit` meets its contract: the byte's two tests say that it is a digit, and the third that the number fits.
 use native.Mathlib.Omega.{arith}
 use Prim.Native.Nat.{_+_, _*_, _-_, _^_, _≤_, _<_}
 use borrow.Author.Tests.{le-ltb, lt-ltb, le-leb, lt-leb}

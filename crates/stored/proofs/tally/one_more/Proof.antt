@@ -1,4 +1,4 @@
--- `tally::one_more` meets its contract: its test says whether one more is below 2 ^ 64. Assumes nothing.
+-- `tally::one_more` meets its contract: its test says whether one more is below 2 ^ 64.
 use Prim.Native.Nat.{_+_, _^_, _≤_, _<_}
 use native.Mathlib.Omega.{arith}
 use borrow.Author.Tests.{le-ltb, lt-ltb}

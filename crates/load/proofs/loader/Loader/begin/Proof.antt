@@ -5,10 +5,6 @@ use Rattle.load.proofs.Ready.{begins-refused}
 use borrow.Author.Needs.{needs}
 use Rattle.load.proofs.loader.Loader.begin.Statement.{statement}
 use Rattle.load.proofs.loader.Loader.begin.Tie as tie
-use Rattle.load.proofs.loader.Loader.begin.Reads as reads
-use Rattle.load.proofs.loader.Loader.begin.Lts as lts
-use Rattle.load.proofs.loader.check_length.Reads as check-length-reads
-use Rattle.load.proofs.loader.started.Reads as started-reads
 
 check-length-requires : tie.Need-check-length-requires
 check-length-requires c κs = search needs

@@ -10,10 +10,6 @@ use Rattle.load.specs.declared.repack.Repacked.{Repacked}
 use borrow.Author.Needs.{needs}
 use Rattle.load.proofs.loader.Loader.feed.Statement.{statement}
 use Rattle.load.proofs.loader.Loader.feed.Tie as tie
-use Rattle.load.proofs.loader.Loader.feed.Reads as reads
-use Rattle.load.proofs.loader.Loader.feed.Lts as lts
-use Rattle.load.proofs.loader.Loader.is_sound.Reads as is-sound-reads
-use Rattle.load.proofs.loader.read_piece.Reads as read-piece-reads
 
 is-sound-requires : tie.Need-is-sound-requires
 is-sound-requires c κs = search needs

@@ -14,10 +14,6 @@ use Rattle.load.specs.CallLaws.{unsound, is-sound, finish-unsound, finis
 use borrow.Author.Needs.{needs}
 use Rattle.load.proofs.loader.Loader.finish.Statement.{statement}
 use Rattle.load.proofs.loader.Loader.finish.Tie as tie
-use Rattle.load.proofs.loader.Loader.finish.Reads as reads
-use Rattle.load.proofs.loader.Loader.finish.Lts as lts
-use Rattle.graph.proofs.check_nodes.Reads as check-nodes-reads
-use Rattle.load.proofs.loader.Loader.is_sound.Reads as is-sound-reads
 
 is-sound-requires : tie.Need-is-sound-requires
 is-sound-requires c κs = search needs

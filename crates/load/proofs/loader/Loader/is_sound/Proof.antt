@@ -7,10 +7,6 @@ use Rattle.load.proofs.Ready.{refuses}
 use borrow.Author.Needs.{needs}
 use Rattle.load.proofs.loader.Loader.is_sound.Statement.{statement}
 use Rattle.load.proofs.loader.Loader.is_sound.Tie as tie
-use Rattle.load.proofs.loader.Loader.is_sound.Reads as reads
-use Rattle.load.proofs.loader.Loader.is_sound.Lts as lts
-use Rattle.load.proofs.held.unused_zero.Reads as unused-zero-reads
-use Rattle.load.proofs.loader.check_length.Reads as check-length-reads
 
 check-length-requires : tie.Need-check-length-requires
 check-length-requires c κs = search needs

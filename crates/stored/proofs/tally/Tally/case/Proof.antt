@@ -1,4 +1,4 @@
--- `Tally::case` meets its contract: the call's count is the one that `one_more` gives. Assumes nothing.
+-- `Tally::case` meets its contract: the call's count is the one that `one_more` gives.
 use borrow.Author.Needs.{needs}
 use Rattle.stored.proofs.tally.Tally.case.Statement.{statement}
 use Rattle.stored.proofs.tally.Tally.case.Tie as tie

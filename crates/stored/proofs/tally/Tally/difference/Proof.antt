@@ -1,4 +1,4 @@
--- `Tally::difference` meets its contract: the count is the one that `one_more` gives, and a report changes nothing. Assumes nothing.
+-- `Tally::difference` meets its contract: the count is the one that `one_more` gives, and a report changes nothing.
 use borrow.Author.Needs.{needs}
 use Rattle.stored.proofs.tally.Tally.difference.Statement.{statement}
 use Rattle.stored.proofs.tally.Tally.difference.Tie as tie

@@ -1,4 +1,4 @@
--- `Tally::malformed` meets its contract: the count is the one that `one_more` gives, and a report changes nothing. Assumes nothing.
+-- `Tally::malformed` meets its contract: the count is the one that `one_more` gives, and a report changes nothing.
 use borrow.Author.Needs.{needs}
 use Rattle.stored.proofs.tally.Tally.malformed.Statement.{statement}
 use Rattle.stored.proofs.tally.Tally.malformed.Tie as tie

@@ -1,4 +1,4 @@
--- `Tally::next_line` meets its contract: the line's number is the one that `one_more` gives. Assumes nothing.
+-- `Tally::next_line` meets its contract: the line's number is the one that `one_more` gives.
 use borrow.Author.Needs.{needs}
 use Rattle.stored.proofs.tally.Tally.next_line.Statement.{statement}
 use Rattle.stored.proofs.tally.Tally.next_line.Tie as tie
