@@ -1,6 +1,6 @@
 /* Machirsun: word graphs loaded, counted, looked up and exported.
  *
- * Link with libhost.a, which `rt staticlib host` writes to target/staticlib/ (x86-64 Linux).
+ * Link with libmachirsun.a, which `rt staticlib machirsun` writes to target/staticlib/ (x86-64 Linux).
  *
  * Buffers. The caller owns every buffer. A call reads and writes only the buffers that it is handed, keeps no pointer to them
  * after it returns, and allocates nothing; its stack does not grow with its input and stays under 64 KiB. A buffer is a pointer and a
@@ -22,7 +22,7 @@
  * no words.
  *
  * Every call ends on every input; none needs its input to be sound. What each answers is proved: the contracts are in
- * crates/host/src, and crates/host/specs says how a struct here is read as an answer there.
+ * crates/machirsun/src, and crates/flat/specs says how a struct here is read as an answer there.
  */
 #ifndef MACHIRSUN_H
 #define MACHIRSUN_H

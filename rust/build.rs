@@ -1,4 +1,4 @@
-// Says where libhost.a is: in the folder that MACHIRSUN_LIB names, or where `rt staticlib host` writes it.
+// Says where libmachirsun.a is: in the folder that MACHIRSUN_LIB names, or where `rt staticlib machirsun` writes it.
 use std::env;
 use std::path::{Path, PathBuf};
 
@@ -11,8 +11,8 @@ fn main() {
     println!("cargo:rerun-if-env-changed=MACHIRSUN_LIB");
     println!(
         "cargo:rerun-if-changed={}",
-        folder.join("libhost.a").display()
+        folder.join("libmachirsun.a").display()
     );
     println!("cargo:rustc-link-search=native={}", folder.display());
-    println!("cargo:rustc-link-lib=static=host");
+    println!("cargo:rustc-link-lib=static=machirsun");
 }

@@ -1,4 +1,4 @@
-//! Machirsun: word graphs loaded, counted, looked up and exported, over the proved library `libhost.a`.
+//! Machirsun: word graphs loaded, counted, looked up and exported, over the proved library `libmachirsun.a`.
 //!
 //! The calls are those of `include/machirsun.h`, with slices for buffers and [`Refusal`] for the refusals' numbers. Nothing is
 //! allocated here: the caller lends every buffer. Each function only hands its buffers on, and so is inlined.

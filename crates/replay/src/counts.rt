@@ -17,7 +17,7 @@ pub(crate) fn count(stored: &[u64], nodes: &[u32]) -> bool
 fn count_in(stored: &[u64], nodes: &[u32], counts: &mut [u32], work: &mut [u32]) -> bool
     ensures { λ r. ⌜ CountReplied (now (nodes .entry)) (now (counts .entry)) (length (now (work .entry))) (now (stored .entry)) r ⌝ }
 {
-    let counted = host::machirsun_count_words(nodes, counts, work);
+    let counted = machirsun::machirsun_count_words(nodes, counts, work);
     let numbers = [counted.refusal as u64, counted.arc as u64];
     same_then_words(stored, &numbers, words_to(counts, nodes.len()))
 }

@@ -25,7 +25,7 @@ fn macondo_in(stored: &[u64], words: &[u32], name: &[u8], work: &mut [u32], file
 {
     let count = word_at(words, 1) as usize;
     let rest = words_from(words, 2);
-    let written = host::machirsun_to_macondo(
+    let written = machirsun::machirsun_to_macondo(
         words_from(rest, count),
         words_to(rest, count),
         name,
@@ -54,7 +54,7 @@ fn lxd_in(stored: &[u64], words: &[u32], work: &mut [u32], file: &mut [u8]) -> b
     let title_length = word_at(words, 1) as usize;
     let date = words_from(title, title_length);
     let date_length = word_at(words, 2) as usize;
-    let written = host::machirsun_to_lxd(
+    let written = machirsun::machirsun_to_lxd(
         words_from(date, date_length),
         words_to(labels, label_count),
         words_to(title, title_length),

@@ -27,7 +27,7 @@ pub(crate) fn repack_first(stored: &[u64], words: &[u32], bytes: &mut [u8], coun
 fn repack(stored: &[u64], words: &[u32], bytes: &mut [u8]) -> bool
     ensures { λ r. ⌜ r ≡ same (now (stored .entry)) (repackReply (now (words .entry)) (now (bytes .entry))) ⌝ }
 {
-    let repacked = host::machirsun_repack(bytes, word_at(words, 0), word_at(words, 1));
+    let repacked = machirsun::machirsun_repack(bytes, word_at(words, 0), word_at(words, 1));
     let numbers = [
         repacked.refusal as u64,
         repacked.arc as u64,
@@ -49,16 +49,16 @@ fn load_in(stored: &[u64], words: &[u32], bytes: &[u8], nodes: &mut [u32]) -> bo
     ensures { λ r. ⌜ r ≡ same (now (stored .entry)) (loadReply (now (words .entry)) (now (bytes .entry)) (now (nodes .entry))) ⌝ }
 {
     let cut = word_at(words, 1) as usize;
-    let begun = host::machirsun_begin(bytes.len(), word_at(words, 0), nodes);
+    let begun = machirsun::machirsun_begin(bytes.len(), word_at(words, 0), nodes);
     if begun.refusal != 0 {
         return same_words(stored, &[begun.refusal]);
     }
     let loader = begun.loader;
-    let fed = host::machirsun_feed(loader, bytes_to(bytes, cut), nodes);
+    let fed = machirsun::machirsun_feed(loader, bytes_to(bytes, cut), nodes);
     let loader = fed.loader;
-    let fed = host::machirsun_feed(loader, bytes_from(bytes, cut), nodes);
+    let fed = machirsun::machirsun_feed(loader, bytes_from(bytes, cut), nodes);
     let loader = fed.loader;
-    let finished = host::machirsun_finish(loader, nodes);
+    let finished = machirsun::machirsun_finish(loader, nodes);
     same_finished(stored, finished, nodes)
 }
 

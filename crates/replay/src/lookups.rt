@@ -16,7 +16,7 @@ pub(crate) fn seek(stored: &[u64], words: &[u32]) -> bool
     ensures { λ r. ⌜ r ≡ same (now (stored .entry)) (seekReply (now (words .entry))) ⌝ }
 {
     let nodes = words_from(words, 2);
-    let sought = host::machirsun_seek(nodes, word_at(words, 0), byte_at(words, 1));
+    let sought = machirsun::machirsun_seek(nodes, word_at(words, 0), byte_at(words, 1));
     same_words(stored, &[sought.refusal, bit(sought.found), sought.place])
 }
 
@@ -24,7 +24,7 @@ pub(crate) fn seek(stored: &[u64], words: &[u32]) -> bool
 pub(crate) fn step(stored: &[u64], words: &[u32]) -> bool
     ensures { λ r. ⌜ r ≡ same (now (stored .entry)) (stepReply (now (words .entry))) ⌝ }
 {
-    let stepped = host::machirsun_cursor_step(words_from(words, 1), word_at(words, 0));
+    let stepped = machirsun::machirsun_cursor_step(words_from(words, 1), word_at(words, 0));
     same_words(stored, &[stepped.refusal, bit(stepped.done), stepped.at])
 }
 
@@ -34,7 +34,7 @@ pub(crate) fn word_index(stored: &[u64], words: &[u32], word: &[u8]) -> bool
 {
     let graph = words_from(words, 2);
     let count = word_at(words, 1) as usize;
-    let found = host::machirsun_word_index(
+    let found = machirsun::machirsun_word_index(
         words_to(graph, count),
         words_from(graph, count),
         word_at(words, 0),
@@ -59,7 +59,7 @@ fn word_in(stored: &[u64], words: &[u32], word: &mut [u8]) -> bool
 {
     let graph = words_from(words, 3);
     let count = word_at(words, 2) as usize;
-    let found = host::machirsun_word_by_index(
+    let found = machirsun::machirsun_word_by_index(
         words_to(graph, count),
         words_from(graph, count),
         word_at(words, 0),

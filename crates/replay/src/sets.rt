@@ -23,7 +23,7 @@ pub(crate) fn letter_bits(stored: &[u64], nodes: &[u32]) -> bool
 fn letter_bits_in(stored: &[u64], nodes: &[u32], all: &mut [u64], accepting: &mut [u64]) -> bool
     ensures { λ r. ⌜ r ≡ same (now (stored .entry)) (bitsReply (now (nodes .entry)) (now (all .entry)) (now (accepting .entry))) ⌝ }
 {
-    let refusal = host::machirsun_letter_bits(nodes, all, accepting);
+    let refusal = machirsun::machirsun_letter_bits(nodes, all, accepting);
     let count = nodes.len();
     same_then_both(
         stored,
@@ -44,7 +44,7 @@ fn same_then_both(stored: &[u64], refusal: u32, all: &[u64], accepting: &[u64]) 
 pub(crate) fn accepts_alpha(stored: &[u64], nodes: &[u32], tally: &[u8]) -> bool
     ensures { λ r. ⌜ r ≡ same (now (stored .entry)) (acceptsReply (now (nodes .entry)) (now (tally .entry))) ⌝ }
 {
-    let answer = host::machirsun_accepts_alpha(nodes, tally);
+    let answer = machirsun::machirsun_accepts_alpha(nodes, tally);
     same_words(stored, &[answer.refusal, bit(answer.accepts)])
 }
 
@@ -52,6 +52,6 @@ pub(crate) fn accepts_alpha(stored: &[u64], nodes: &[u32], tally: &[u8]) -> bool
 pub(crate) fn alpha_cross_set(stored: &[u64], nodes: &[u32], tally: &[u8]) -> bool
     ensures { λ r. ⌜ r ≡ same (now (stored .entry)) (crossReply (now (nodes .entry)) (now (tally .entry))) ⌝ }
 {
-    let answer = host::machirsun_alpha_cross_set(nodes, tally);
+    let answer = machirsun::machirsun_alpha_cross_set(nodes, tally);
     same_numbers(stored, &[answer.refusal as u64, answer.tiles])
 }

@@ -1,0 +1,41 @@
+-- `machirsun::machirsun_begin` meets its contract: the number is a layout, and the answer and the state are made flat.
+use mathlib.Core.Path.{ap, _∙_}
+use lib.ListN.{length}
+use Rattle.load.specs.Loading.{begin}
+use Rattle.flat.specs.StateLaws.{reads-state, flat-state}
+use borrow.Author.Needs.{needs}
+use Rattle.machirsun.proofs.loading.machirsun_begin.Statement.{statement}
+use Rattle.machirsun.proofs.loading.machirsun_begin.Tie as tie
+
+layout-of-requires : tie.Need-layout-of-requires
+layout-of-requires c κs = search needs
+
+begin-requires : tie.Need-begin-requires
+begin-requires c κs = search needs
+
+begin-refusal-requires : tie.Need-begin-refusal-requires
+begin-refusal-requires c κs = search needs
+
+flat-loader-requires : tie.Need-flat-loader-requires
+flat-loader-requires c κs = search needs
+
+returns : tie.Need-returns
+returns c = let a = c .before .before .before .before .before .before .args in
+    let s = c .before .before .before .begin .result .loader in
+    let refusal = c .before .begin-refusal .ensures in
+    let state = c .flat-loader .ensures in (
+      (λ i. record { answer = refusal .0 i; state = reads-state s state i })
+          ∙ c .before .before .before .begin .ensures
+          ∙ ap (λ y. begin (a .announced) y (length (a .nodes .now))) (c .before .before .before .before .layout-of .ensures),
+      λ i. record { refusal = refusal .1 i; loader = flat-state s state i },
+    )
+
+pub machirsun-begin-spec : {M : Type 1} → statement M
+machirsun-begin-spec =
+    tie.close
+    (tie.spec
+    layout-of-requires
+    begin-requires
+    begin-refusal-requires
+    flat-loader-requires
+    returns)
