@@ -1,14 +1,13 @@
 -- A step along a run, by the facts that decide it.
 use mathlib.Core.Path.{_≡_}
-use mathlib.Core.Logic.{_≢_}
+use mathlib.Core.Bool.{true, false}
 use mathlib.Core.List.{[], _∷_}
-use Prim.Native.Nat.{ℕ, suc, _+_, _/_, _%_, _≤_, _<_}
+use Prim.Native.Nat.{ℕ, suc, _+_, _≤_, _<_}
 use native.Mathlib.Omega.{arith}
 use native.Mathlib.Numerals.{add-one}
-use borrow.Author.Tests.{eq-eqb, ne-eqb}
 use lib.ListN.{length}
 use Rattle.node.specs.Answers.{gives, nothing, refused}
-use Rattle.node.specs.Nodes.{KBWG, endBit}
+use Rattle.node.specs.Nodes.{KBWG, isEnd}
 use Rattle.graph.specs.Runs.{Graph, node}
 use Rattle.lookup.specs.WalkLaws.{lent-on, lent-out}
 use Rattle.cursor.specs.RunSteps.{stepIn}
@@ -19,15 +18,15 @@ module _ (g : Graph) (p : ℕ) where
   step-out h = rw (lent-out g p h)
 
   module _ (h : p < length g) where
-    pub step-done : node g p / 64 % 2 ≡ 1 → stepIn g p ≡ nothing
+    pub step-done : isEnd KBWG (node g p) ≡ true → stepIn g p ≡ nothing
     unfolding stepIn
-    step-done e = rw (lent-on g p h) (rw (eq-eqb (endBit KBWG (node g p)) 1 e))
+    step-done e = rw (lent-on g p h) (rw e)
 
-    module _ (n : node g p / 64 % 2 ≢ 1) where
+    module _ (n : isEnd KBWG (node g p) ≡ false) where
       pub step-last : length g ≤ p + 1 → stepIn g p ≡ refused 14 []
       unfolding stepIn
-      step-last k = rw (lent-on g p h) (rw (ne-eqb (endBit KBWG (node g p)) 1 n) (rw (lent-out g (suc p) (omega arith))))
+      step-last k = rw (lent-on g p h) (rw n (rw (lent-out g (suc p) (omega arith))))
 
       pub step-next : p + 1 < length g → stepIn g p ≡ gives ((p + 1) ∷ [])
       unfolding stepIn
-      step-next k = rw add-one (rw (lent-on g p h) (rw (ne-eqb (endBit KBWG (node g p)) 1 n) (rw (lent-on g (suc p) (omega arith)))))
+      step-next k = rw add-one (rw (lent-on g p h) (rw n (rw (lent-on g (suc p) (omega arith)))))

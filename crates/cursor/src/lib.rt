@@ -3,6 +3,7 @@ ghost use mathlib.Core.Path.{_≡_};
 ghost use Rattle.cursor.specs.RunSteps.{runStep, moves};
 ghost use Rattle.cursor.specs.Said.{saidStep, movedAs, Advances};
 use lookup::lent_part;
+use node::Node24;
 
 pub enum Stepped {
     To(u32),
@@ -31,7 +32,7 @@ pub fn run_step(nodes: &[u32], at: u32) -> Stepped
     if lent.len() <= i {
         return Stepped::NotLent;
     }
-    if lent[i] / 64 % 2 == 1 {
+    if Node24(lent[i]).is_end() {
         return Stepped::Done;
     }
     if lent.len() <= i + 1 {

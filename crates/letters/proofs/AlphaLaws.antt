@@ -1,10 +1,10 @@
 -- The walks of the alpha sets, step by step.
 use mathlib.Core.Path.{_≡_, refl, _∙_}
-use mathlib.Core.Bool.{Bool, false}
+use mathlib.Core.Bool.{Bool, true, false}
 use mathlib.Core.Logic.{_≢_}
 use mathlib.Core.List.{List, [], _∷_}
 use mathlib.Core.Option.{none, some}
-use Prim.Native.Nat.{ℕ, zero, suc, _+_, _-_, _%_, _/_, _≤_, _<_}
+use Prim.Native.Nat.{ℕ, zero, suc, _+_, _-_, _≤_, _<_}
 use native.Mathlib.Omega.{arith}
 use native.Mathlib.Numerals.{add-one}
 use borrow.Author.Tests.{eq-eqb, ne-eqb, lt-ltb, le-ltb}
@@ -12,7 +12,7 @@ use lib.ListN.{length, getD, drop, drop-of-length-le}
 use lib.Seq.{drop-cons}
 use Rattle.node.specs.Answers.{Answer, gives, nothing, refused, firstOf}
 use Rattle.node.specs.RowLaws.{row-refuses, row-passes, row-ends}
-use Rattle.node.specs.Nodes.{KBWG, tile, arc, accepts, endBit}
+use Rattle.node.specs.Nodes.{KBWG, tile, arc, accepts, isEnd}
 use Rattle.graph.specs.Runs.{Graph, node}
 use Rattle.lookup.specs.Steps.{Try, on, stop, _>>=_, answer}
 use Rattle.lookup.specs.Walks.{stepTo}
@@ -35,14 +35,14 @@ module _ (g : Graph) (p s : ℕ) where
   closing-out h = rw (drop-of-length-le g h)
 
   module _ (h : p < length g) where
-    pub closing-end : node g p / 64 % 2 ≡ 1 → closing (drop p g) s ≡ gives (marked s (tile KBWG (node g p)) (accepts KBWG (node g p)) ∷ [])
+    pub closing-end : isEnd KBWG (node g p) ≡ true → closing (drop p g) s ≡ gives (marked s (tile KBWG (node g p)) (accepts KBWG (node g p)) ∷ [])
     unfolding closing
-    closing-end e = rw (drop-cons g p 0 h) (rw (eq-eqb (endBit KBWG (node g p)) 1 e, closing))
+    closing-end e = rw (drop-cons g p 0 h) (rw (e, closing))
 
-    pub closing-next : node g p / 64 % 2 ≢ 1
+    pub closing-next : isEnd KBWG (node g p) ≡ false
         → closing (drop p g) s ≡ closing (drop (p + 1) g) (marked s (tile KBWG (node g p)) (accepts KBWG (node g p)))
     unfolding closing
-    closing-next e = rw add-one (rw (drop-cons g p 0 h) (rw (ne-eqb (endBit KBWG (node g p)) 1 e, closing)))
+    closing-next e = rw add-one (rw (drop-cons g p 0 h) (rw (e, closing)))
 
 -- ---- along the letters left
 module _ (g : Graph) (tally : List ℕ) where
@@ -148,17 +148,17 @@ module _ (g : Graph) (tally : List ℕ) where
             rw (drop-cons g p 0 h) (rw (le-ltb t (tile KBWG (node g p)) k, along) (rw (ne-eqb (tile KBWG (node g p)) t m) (rw e)))
 
         module _ (b : Bool) (e : completes g tally t p ≡ on b) where
-          pub node-end : node g p / 64 % 2 ≡ 1 → atNode n t p s ≡ gives (marked s (tile KBWG (node g p)) b ∷ [])
+          pub node-end : isEnd KBWG (node g p) ≡ true → atNode n t p s ≡ gives (marked s (tile KBWG (node g p)) b ∷ [])
           unfolding along
           node-end z =
               rw (drop-cons g p 0 h) (rw (le-ltb t (tile KBWG (node g p)) k, along) (rw (ne-eqb (tile KBWG (node g p)) t m) (rw e
-              (rw (eq-eqb (endBit KBWG (node g p)) 1 z)))))
+              (rw z))))
 
-          pub node-next : node g p / 64 % 2 ≢ 1 → atNode n t p s ≡ atNode n t (p + 1) (marked s (tile KBWG (node g p)) b)
+          pub node-next : isEnd KBWG (node g p) ≡ false → atNode n t p s ≡ atNode n t (p + 1) (marked s (tile KBWG (node g p)) b)
           unfolding along
           node-next z =
               rw (add-one p) (rw (drop-cons g p 0 h) (rw (le-ltb t (tile KBWG (node g p)) k, along) (rw (ne-eqb (tile KBWG (node g p)) t m) (rw e
-              (rw (ne-eqb (endBit KBWG (node g p)) 1 z))))))
+              (rw z)))))
 
   -- ---- the walk from the start
   pub cross-out : length g ≡ 0 → crossFrom g tally ≡ refused 14 []

@@ -8,6 +8,7 @@ use crate::tiles::marked;
 use lookup::Found;
 use lookup::lent_part;
 use lookup::seek_from;
+use node::Node24;
 
 pub enum Alpha {
     Accepts(bool),
@@ -49,7 +50,8 @@ fn completes_alpha_cross_set(nodes: &[u32], p: usize, tally: &[u8], next_letter:
     if nodes.len() <= p {
         return Completes::NotLent;
     }
-    Completes::Known(nodes[p] / 128 % 2 == 1)
+    let v = nodes[p];
+    Completes::Known(Node24(v).accepts())
 }
 
 // Whether the letters of the tally, entry 0 left out, spell a word in ascending order.
@@ -74,8 +76,8 @@ fn closing(nodes: &[u32], p: usize, set: u64) -> CrossSet
     let mut answer = set;
     while p < nodes.len() {
         let v = nodes[p];
-        answer = marked(answer, v, v / 128 % 2 == 1);
-        if v / 64 % 2 == 1 {
+        answer = marked(answer, v, Node24(v).accepts());
+        if Node24(v).is_end() {
             return CrossSet::Tiles(answer);
         }
         p += 1;
@@ -92,7 +94,7 @@ fn cross_from(nodes: &[u32], tally: &[u8]) -> CrossSet
         return CrossSet::NotLent;
     }
     let mut answer = 1; // always set bit 0 here
-    let mut p = (nodes[0] / 256) as usize;
+    let mut p = Node24(nodes[0]).arc_index() as usize;
     if p == 0 {
         return CrossSet::Tiles(answer);
     }
@@ -106,12 +108,12 @@ fn cross_from(nodes: &[u32], tally: &[u8]) -> CrossSet
             left -= 1;
             'run: while p < nodes.len() {
                 let v = nodes[p];
-                let tile = (v % 64) as usize;
+                let tile = Node24(v).tile() as usize;
                 if letter < tile {
                     break 'letters;
                 }
                 if tile == letter {
-                    p = (v / 256) as usize;
+                    p = Node24(v).arc_index() as usize;
                     if p == 0 {
                         break 'letters;
                     }
@@ -122,7 +124,7 @@ fn cross_from(nodes: &[u32], tally: &[u8]) -> CrossSet
                     return CrossSet::NotLent;
                 };
                 answer = marked(answer, v, yes);
-                if v / 64 % 2 == 1 {
+                if Node24(v).is_end() {
                     break 'letters;
                 }
                 p += 1;

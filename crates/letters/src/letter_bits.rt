@@ -3,6 +3,7 @@ ghost use mathlib.Core.Path.{_≡_};
 ghost use Rattle.letters.specs.LetterBits.{carry, letterBits};
 ghost use Rattle.letters.specs.Said.{letteredAs};
 use crate::tiles::marked;
+use node::Node24;
 
 pub enum LetterBits {
     Written,
@@ -13,7 +14,7 @@ pub enum LetterBits {
 fn carried(set: u64, v: u32) -> u64
     ensures { λ r. ⌜ r ≡ carry set v ⌝ }
 {
-    if v / 64 % 2 == 1 { 0 } else { set }
+    if Node24(v).is_end() { 0 } else { set }
 }
 
 // Writes for each node all tiles, and the accepting tiles, from it to its run's end.
@@ -37,7 +38,7 @@ pub fn compute_letter_bits(
         i -= 1;
         let v = nodes[i];
         all = marked(carried(all, v), v, true);
-        accepting = marked(carried(accepting, v), v, v / 128 % 2 == 1);
+        accepting = marked(carried(accepting, v), v, Node24(v).accepts());
         letter_bits[i] = all;
         accepting_bits[i] = accepting;
     }

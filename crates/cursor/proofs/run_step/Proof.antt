@@ -1,10 +1,13 @@
 -- `cursor::run_step` meets its contract: the step in the lent part, where the next place is a 32-bit number.
 use native.Mathlib.Omega.{arith}
 use mathlib.Core.Path.{_≡_, sym, ap, _∙_}
-use Prim.Native.Nat.{_≤_}
+use mathlib.Core.Bool.{Bool}
+use Prim.Native.Nat.{ℕ, _≤_, _<_}
 use lib.ListN.{length}
 use Rattle.lookup.specs.WalkLaws.{lent-part-length}
 use Rattle.node.specs.Answers.{Answer}
+use Rattle.node.specs.Nodes.{KBWG, isEnd}
+use Rattle.graph.specs.Runs.{Graph, node}
 use Rattle.cursor.specs.RunSteps.{stepIn, runStep}
 use Rattle.cursor.proofs.StepLaws.{step-out, step-done, step-last, step-next}
 use borrow.Author.Needs.{needs}
@@ -23,32 +26,50 @@ lent-part-requires c κs = search needs
 returns : tie.Need-returns
 returns c = lent-step (c .before) _ (step-out (c .before .lent-part .result .now) (c .before .before .before .args .at) (c .if1 .taken))
 
-mul-if2 : tie.Need-mul-if2
-mul-if2 c = search needs
+mul-t5 : tie.Need-mul-t5
+mul-t5 c = search needs
 
-shared-slice-read-if2 : tie.Need-shared-slice-read-if2
-shared-slice-read-if2 c = search needs
+shared-slice-read-t9 : tie.Need-shared-slice-read-t9
+shared-slice-read-t9 c = search needs
+
+is-end-requires : tie.Need-is-end-requires
+is-end-requires c κs = search needs
+
+-- a node that is read: the lent part, the place, and what the node's end flag says
+module _ (c : tie.After-is-end) where
+  abbrev lent : tie.After-lent-part
+  lent = c .before .before .before
+
+  abbrev part : Graph
+  part = lent .lent-part .result .now
+
+  abbrev place : ℕ
+  place = lent .before .before .args .at
+
+  abbrev inside : place < length part
+  inside = c .before .before .if1 .left
+
+  ends : {b : Bool} → c .is-end .result ≡ b → isEnd KBWG (node part place) ≡ b
+  ends e = sym (c .is-end .ensures) ∙ e
 
 returns-2 : tie.Need-returns-2
-returns-2 c = let l = c .before .before .before .lent-part .result .now in
-    lent-step (c .before .before .before) _ (step-done l (c .before .before .before .before .before .args .at) (c .before .before .if1 .left) (c .if2 .taken))
+returns-2 c = let r = c .before in lent-step (lent r) _ (step-done (part r) (place r) (inside r) (ends r (c .if2 .taken)))
 
 add-if3 : tie.Need-add-if3
 add-if3 c = search needs
 
 returns-3 : tie.Need-returns-3
-returns-3 c = let l = c .before .before .before .before .lent-part .result .now in
-    lent-step (c .before .before .before .before) _ (step-last l (c .before .before .before .before .before .before .args .at) (c .before .before .before .if1 .left) (c .before .if2 .left) (c .if3 .taken))
+returns-3 c = let r = c .before .before in
+    lent-step (lent r) _ (step-last (part r) (place r) (inside r) (ends r (c .before .if2 .left)) (c .if3 .taken))
 
-add-t10 : tie.Need-add-t10
-add-t10 c =
-    let l = c .before .before .before .before .lent-part in
-    let h : length (l .result .now) ≤ 4_294_967_296 = rw (l .ensures) (lent-part-length (c .before .before .before .before .before .before .args .nodes .now)) in
+add-t9 : tie.Need-add-t9
+add-t9 c = let l = lent (c .before .before) in
+    let h : length (l .lent-part .result .now) ≤ 4_294_967_296 = rw (l .lent-part .ensures) (lent-part-length (l .before .before .args .nodes .now)) in
     omega arith
 
 returns-4 : tie.Need-returns-4
-returns-4 c = let l = c .before .before .before .before .lent-part .result .now in
-    lent-step (c .before .before .before .before) _ (step-next l (c .before .before .before .before .before .before .args .at) (c .before .before .before .if1 .left) (c .before .if2 .left) (c .if3 .left))
+returns-4 c = let r = c .before .before in
+    lent-step (lent r) _ (step-next (part r) (place r) (inside r) (ends r (c .before .if2 .left)) (c .if3 .left))
 
 pub run-step-spec : {M : Type 1} → statement M
 run-step-spec =
@@ -56,10 +77,11 @@ run-step-spec =
     (tie.spec
     lent-part-requires
     returns
-    mul-if2
-    shared-slice-read-if2
+    mul-t5
+    shared-slice-read-t9
+    is-end-requires
     returns-2
     add-if3
     returns-3
-    add-t10
+    add-t9
     returns-4)

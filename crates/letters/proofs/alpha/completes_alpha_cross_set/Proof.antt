@@ -7,6 +7,7 @@ use borrow.Author.Needs.{needs}
 use lib.ListN.{length, drop}
 use Rattle.letters.specs.AlphaSets.{spent}
 use Rattle.letters.proofs.AlphaLaws.{spending, spent-end, spent-letter, spent-none, spent-step, spent-stop, completes-no, completes-stop, completes-out, completes-at}
+use Rattle.lookup.specs.Steps.{on}
 use Rattle.lookup.specs.Said.{tried}
 use Rattle.letters.proofs.alpha.completes_alpha_cross_set.Statement.{statement}
 use Rattle.letters.proofs.alpha.completes_alpha_cross_set.Tie as tie
@@ -92,17 +93,21 @@ returns-3 c =
     sym (completes-out (a .nodes .now) (a .tally .now) (a .next-letter) (a .p) (c .before .before .letters .p)
     (sym (c .before .before .letters .inv) ∙ spent-end (a .nodes .now) (a .tally .now) (c .before .before .letters .letter) (c .before .before .letters .p) (omega arith)) (omega arith))
 
-mul-t16 : tie.Need-mul-t16 Inv-copies μ-copies Inv-letters μ-letters
-mul-t16 c = search needs
+mul-v : tie.Need-mul-v Inv-copies μ-copies Inv-letters μ-letters
+mul-v c = search needs
 
-shared-slice-read-t19 : tie.Need-shared-slice-read-t19 Inv-copies μ-copies Inv-letters μ-letters
-shared-slice-read-t19 c = search needs
+shared-slice-read-v : tie.Need-shared-slice-read-v Inv-copies μ-copies Inv-letters μ-letters
+shared-slice-read-v c = search needs
+
+accepts-requires : tie.Need-accepts-requires Inv-copies μ-copies Inv-letters μ-letters
+accepts-requires c κs = search needs
 
 returns-4 : tie.Need-returns-4 Inv-copies μ-copies Inv-letters μ-letters
 returns-4 c =
-    let a = c .before .before .before .before .before .before .args in
-    sym (completes-at (a .nodes .now) (a .tally .now) (a .next-letter) (a .p) (c .before .before .before .letters .p)
-    (sym (c .before .before .before .letters .inv) ∙ spent-end (a .nodes .now) (a .tally .now) (c .before .before .before .letters .letter) (c .before .before .before .letters .p) (omega arith)) (omega arith))
+    let a = c .before .before .before .before .before .before .before .args in
+    let l = c .before .before .before .before .letters in
+    ap on (c .accepts .ensures) ∙ sym (completes-at (a .nodes .now) (a .tally .now) (a .next-letter) (a .p) (l .p)
+    (sym (l .inv) ∙ spent-end (a .nodes .now) (a .tally .now) (l .letter) (l .p) (omega arith)) (omega arith))
 
 pub completes-alpha-cross-set-spec : {M : Type 1} → statement M
 completes-alpha-cross-set-spec =
@@ -129,6 +134,7 @@ completes-alpha-cross-set-spec =
     letters-less
     letters-again
     returns-3
-    mul-t16
-    shared-slice-read-t19
+    mul-v
+    shared-slice-read-v
+    accepts-requires
     returns-4)

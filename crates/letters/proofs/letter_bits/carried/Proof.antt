@@ -1,15 +1,18 @@
--- `letters::carried` meets its contract.
-use borrow.Author.Tests.{eq-eqb, ne-eqb}
-use Rattle.node.specs.Nodes.{KBWG, endBit}
+-- `letters::carried` meets its contract, by its two cases.
+use mathlib.Core.Path.{sym, _∙_}
+use borrow.Author.Needs.{needs}
 use Rattle.letters.specs.LetterBits.{carry}
 use Rattle.letters.proofs.letter_bits.carried.Statement.{statement}
 use Rattle.letters.proofs.letter_bits.carried.Tie as tie
 
+is-end-requires : tie.Need-is-end-requires
+is-end-requires c κs = search needs
+
 returns : tie.Need-returns
-returns c = rw (eq-eqb (endBit KBWG (c .before .args .v)) 1 (c .if1 .taken), carry)
+returns c = rw (sym (c .before .is-end .ensures) ∙ c .if1 .taken, carry)
 
 returns-2 : tie.Need-returns-2
-returns-2 c = rw (ne-eqb (endBit KBWG (c .before .args .v)) 1 (c .if1 .left), carry)
+returns-2 c = rw (sym (c .before .is-end .ensures) ∙ c .if1 .left, carry)
 
 pub carried-spec : {M : Type 1} → statement M
-carried-spec = tie.close (tie.spec returns returns-2)
+carried-spec = tie.close (tie.spec is-end-requires returns returns-2)

@@ -1,5 +1,5 @@
 -- `letters::compute_letter_bits` meets its contract. The loop's invariant: the nodes from i on are done.
-use mathlib.Core.Path.{sym, ap, _∙_}
+use mathlib.Core.Path.{sym, ap, ap₂, _∙_}
 use mathlib.Core.Bool.{true}
 use mathlib.Core.List.{[]}
 use Prim.Native.Nat.{_-_, _≤_}
@@ -49,6 +49,9 @@ marked-requires c κs = search needs
 carried-requires-2 : tie.Need-carried-requires-2 Inv-loop μ-loop
 carried-requires-2 c κs = search needs
 
+accepts-requires : tie.Need-accepts-requires Inv-loop μ-loop
+accepts-requires c κs = search needs
+
 marked-requires-2 : tie.Need-marked-requires-2 Inv-loop μ-loop
 marked-requires-2 c κs = search needs
 
@@ -56,27 +59,27 @@ mul-letter-bits : tie.Need-mul-letter-bits Inv-loop μ-loop
 mul-letter-bits c = search needs
 
 slice-write-letter-bits : tie.Need-slice-write-letter-bits Inv-loop μ-loop
-slice-write-letter-bits c = let s = filling-length (c .before .before .before .before .before .before .loop .inv .1) in omega arith
+slice-write-letter-bits c = let s = filling-length (c .before .before .before .before .before .before .before .loop .inv .1) in omega arith
 
 mul-accepting-bits : tie.Need-mul-accepting-bits Inv-loop μ-loop
 mul-accepting-bits c = search needs
 
 slice-write-accepting-bits : tie.Need-slice-write-accepting-bits Inv-loop μ-loop
-slice-write-accepting-bits c = let s = filling-length (c .before .before .before .before .before .before .loop .inv .2) in omega arith
+slice-write-accepting-bits c = let s = filling-length (c .before .before .before .before .before .before .before .loop .inv .2) in omega arith
 
 loop-less : tie.Need-loop-less Inv-loop μ-loop
 loop-less c = omega arith
 
 loop-again : tie.Need-loop-again Inv-loop μ-loop
 loop-again c =
-    let l = c .before .before .before .before .before .before .loop in
-    let n = c .before .before .before .before .before .loop-test .taken in
-    let v = node (c .before .before .before .before .before .before .before .before .before .before .before .before .args .nodes .now) (l .i - 1) in (
+    let l = c .before .before .before .before .before .before .before .loop in
+    let n = c .before .before .before .before .before .before .loop-test .taken in
+    let v = node (c .before .before .before .before .before .before .before .before .before .before .before .before .before .args .nodes .now) (l .i - 1) in (
       omega arith,
-      filling-step (l .inv .1) (c .before .before .marked .result) n (l .inv .0)
-          (c .before .before .marked .ensures ∙ ap (λ s. marked s (tile KBWG v) true) (c .before .before .before .carried .ensures)),
+      filling-step (l .inv .1) (c .before .before .before .marked .result) n (l .inv .0)
+          (c .before .before .before .marked .ensures ∙ ap (λ s. marked s (tile KBWG v) true) (c .before .before .before .before .carried .ensures)),
       filling-step (l .inv .2) (c .marked2 .result) n (l .inv .0)
-          (c .marked2 .ensures ∙ ap (λ s. marked s (tile KBWG v) (accepts KBWG v)) (c .before .carried2 .ensures)),
+          (c .marked2 .ensures ∙ ap₂ (λ s. marked s (tile KBWG v)) (c .before .before .carried2 .ensures) (c .before .accepts .ensures)),
     )
 
 same-length : tie.Need-same-length Inv-loop μ-loop
@@ -110,6 +113,7 @@ compute-letter-bits-spec =
     carried-requires
     marked-requires
     carried-requires-2
+    accepts-requires
     marked-requires-2
     mul-letter-bits
     slice-write-letter-bits

@@ -13,22 +13,24 @@ use Rattle.laws.specs.BitSets.{marked}
 use Rattle.letters.proofs.tiles.marked.Statement.{statement}
 use Rattle.letters.proofs.tiles.marked.Tie as tie
 
-marked-shift : (s v : ℕ) (b : Bool) → b ≡ true → bitOr s (1 * 2 ^ (v % 64) % 2 ^ 64) ≡ marked s (tile KBWG v) b
-marked-shift s v b e =
-    let t : v % 64 ≡ tile KBWG v = omega arith in
-    rw (e, marked) (ap (bitOr s) (shl-exact {a = 1} 1 (v % 64) 64 (lit< tt) (omega arith) ∙ one-mul (2 ^ (v % 64)) ∙ ap (2 ^_) t))
+marked-shift : (s v t : ℕ) (b : Bool) → t ≡ tile KBWG v → b ≡ true → bitOr s (1 * 2 ^ t % 2 ^ 64) ≡ marked s (tile KBWG v) b
+marked-shift s v t b d e =
+    rw (e, marked) (ap (bitOr s) (shl-exact {a = 1} 1 t 64 (lit< tt) (omega arith) ∙ one-mul (2 ^ t) ∙ ap (2 ^_) d))
+
+tile-requires : tie.Need-tile-requires
+tile-requires c κs = search needs
 
 cast-result : tie.Need-cast-result
 cast-result c = search needs
 
 shl-result : tie.Need-shl-result
-shl-result c = search needs
+shl-result c = omega (arith, c .tile .ensures)
 
 returns : tie.Need-returns
-returns c = let a = c .before .args in marked-shift (a .set) (a .v) (a .yes) (c .if1 .taken)
+returns c = let a = c .before .before .args in marked-shift (a .set) (a .v) _ (a .yes) (c .tile .ensures) (c .before .if1 .taken)
 
 returns-2 : tie.Need-returns-2
 returns-2 c = search needs
 
 pub marked-spec : {M : Type 1} → statement M
-marked-spec = tie.close (tie.spec cast-result shl-result returns returns-2)
+marked-spec = tie.close (tie.spec tile-requires cast-result shl-result returns returns-2)
