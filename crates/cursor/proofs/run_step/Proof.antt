@@ -37,14 +37,14 @@ is-end-requires c κs = search needs
 
 -- a node that is read: the lent part, the place, and what the node's end flag says
 module _ (c : tie.After-is-end) where
-  abbrev lent : tie.After-lent-part
-  lent = c .before .before .before
+  abbrev start : tie.After-lent-part
+  start = c .before .before .before
 
   abbrev part : Graph
-  part = lent .lent-part .result .now
+  part = start .lent-part .result .now
 
   abbrev place : ℕ
-  place = lent .before .before .args .at
+  place = start .before .before .args .at
 
   abbrev inside : place < length part
   inside = c .before .before .if1 .left
@@ -53,23 +53,23 @@ module _ (c : tie.After-is-end) where
   ends e = sym (c .is-end .ensures) ∙ e
 
 returns-2 : tie.Need-returns-2
-returns-2 c = let r = c .before in lent-step (lent r) _ (step-done (part r) (place r) (inside r) (ends r (c .if2 .taken)))
+returns-2 c = let r = c .before in lent-step (start r) _ (step-done (part r) (place r) (inside r) (ends r (c .if2 .taken)))
 
 add-if3 : tie.Need-add-if3
 add-if3 c = search needs
 
 returns-3 : tie.Need-returns-3
 returns-3 c = let r = c .before .before in
-    lent-step (lent r) _ (step-last (part r) (place r) (inside r) (ends r (c .before .if2 .left)) (c .if3 .taken))
+    lent-step (start r) _ (step-last (part r) (place r) (inside r) (ends r (c .before .if2 .left)) (c .if3 .taken))
 
 add-t9 : tie.Need-add-t9
-add-t9 c = let l = lent (c .before .before) in
+add-t9 c = let l = start (c .before .before) in
     let h : length (l .lent-part .result .now) ≤ 4_294_967_296 = rw (l .lent-part .ensures) (lent-part-length (l .before .before .args .nodes .now)) in
     omega arith
 
 returns-4 : tie.Need-returns-4
 returns-4 c = let r = c .before .before in
-    lent-step (lent r) _ (step-next (part r) (place r) (inside r) (ends r (c .before .if2 .left)) (c .if3 .left))
+    lent-step (start r) _ (step-next (part r) (place r) (inside r) (ends r (c .before .if2 .left)) (c .if3 .left))
 
 pub run-step-spec : {M : Type 1} → statement M
 run-step-spec =

@@ -171,17 +171,17 @@ completes-alpha-cross-set-requires c κs = c .before .before .before .before .be
 
 -- a node before the letter's: whether its tile completes the letters
 module _ (c : tie.After-completes-alpha-cross-set Inv-run μ-run Inv-copies μ-copies Inv-letters μ-letters) where
-  abbrev passed : tie.After-tile Inv-run μ-run Inv-copies μ-copies Inv-letters μ-letters
-  passed = c .before .before .before
+  abbrev earlier : tie.After-tile Inv-run μ-run Inv-copies μ-copies Inv-letters μ-letters
+  earlier = c .before .before .before
 
-  at-most : tile KBWG (v passed) ≤ letter passed
-  at-most = omega (arith, passed .tile .ensures, c .before .before .if4 .left)
+  at-most : tile KBWG (v earlier) ≤ letter earlier
+  at-most = omega (arith, earlier .tile .ensures, c .before .before .if4 .left)
 
-  other : tile KBWG (v passed) ≢ letter passed
-  other z = c .before .if5 .left (passed .tile .ensures ∙ z)
+  other : tile KBWG (v earlier) ≢ letter earlier
+  other z = c .before .if5 .left (earlier .tile .ensures ∙ z)
 
   told : (r : Completes) → c .completes-alpha-cross-set .result ≡ r
-      → completes (nodes passed) (tally passed) (letter passed) (place passed) ≡ decided r
+      → completes (nodes earlier) (tally earlier) (letter earlier) (place earlier) ≡ decided r
   told r e = sym (c .completes-alpha-cross-set .ensures) ∙ ap decided e
 
 enum-known-known :
@@ -194,7 +194,7 @@ enum-told c = search needs
 returns-4 : tie.Need-returns-4 Inv-run μ-run Inv-copies μ-copies Inv-letters μ-letters
 returns-4 c =
     let k = c .before .before in
-    let n = passed k in
+    let n = earlier k in
     sym (node-stop (nodes n) (tally n) (left n) (letter n) (place n) (so-far n) (inside n) (at-most k) (other k) (told k NotLent (c .enum-told .given .1)))
     ∙ whole n
 
@@ -215,7 +215,7 @@ run-again c =
     let s = c .before in
     let y = s .before .before .before .known .given in
     let k = s .before .before .before .before .before in
-    let n = passed k in
+    let n = earlier k in
     ap (atNode (nodes n) (tally n) (left n) (letter n) (place n + 1)) (s .before .marked .ensures)
     ∙ sym (node-next (nodes n) (tally n) (left n) (letter n) (place n) (so-far n) (inside n) (at-most k) (other k) (y .0 .0) (told k (Known (y .0 .0)) (y .1))
     (sym (s .is-end .ensures) ∙ c .if7 .left)) ∙ whole n
@@ -256,7 +256,7 @@ returns-8 c =
     let s = c .before in
     let y = s .before .before .before .known .given in
     let k = s .before .before .before .before .before in
-    let n = passed k in
+    let n = earlier k in
     ap (λ x. gives (x ∷ [])) (s .before .marked .ensures)
     ∙ sym (node-end (nodes n) (tally n) (left n) (letter n) (place n) (so-far n) (inside n) (at-most k) (other k) (y .0 .0) (told k (Known (y .0 .0)) (y .1))
     (sym (s .is-end .ensures) ∙ c .if7 .taken)) ∙ whole n
