@@ -1,7 +1,7 @@
 -- The buffer of `get_word_by_index`, tile by tile.
 use mathlib.Core.Path.{_≡_, refl, sym, ap, ap₂, _∙_}
 use mathlib.Core.List.{List, [], _∷_, _++_, append-nil, append-assoc}
-use Prim.Native.Nat.{ℕ, suc, _+_, _-_, _*_, _≤_, _<_}
+use Prim.Native.Nat.{ℕ, suc, _+_, _-_, _*_, _/_, _%_, _^_, _≤_, _<_}
 use native.Mathlib.Nat.{suc-mul, sub-zero}
 use native.Mathlib.Numerals.{add-one}
 use native.Mathlib.Omega.{arith}
@@ -62,23 +62,25 @@ module _ {whole : List ℕ × Answer} {w₀ : List ℕ} {n : ℕ} {w : List ℕ}
   pub by-full : (t : Turn) → turnIn counts (drop p g) p idx ≡ on t → length w ≤ n → Put whole w₀ w T.BufferFull
   by-full t e h = left-done (refused 16 []) T.BufferFull refl (left-is (word-full counts g (length w - n) n p idx e (omega arith)) l)
 
-  pub by-last : (v t : ℕ) → t ≡ tile KBWG v → turnIn counts (drop p g) p idx ≡ on (last v) → n < length w → Put whole w₀ (set w n t) (T.Tiles (n + 1))
-  by-last v t s e h =
+  pub by-last : (v : ℕ) → turnIn counts (drop p g) p idx ≡ on (last v) → n < length w → Put whole w₀ (set w n (v % 64)) (T.Tiles (n + 1))
+  by-last v e h =
+      let t : tile KBWG v ≡ v % 64 = omega arith in
       left-done (gives ((n + 1) ∷ [])) (T.Tiles (n + 1)) refl
-      (left-put t [] (gives ((n + 1) ∷ [])) h
-      (left-is (word-last counts g (length w - n) n p idx e (omega arith) ∙ ap (λ k. (k ∷ [], gives ((n + 1) ∷ []))) (sym s)) l))
+      (left-put (v % 64) [] (gives ((n + 1) ∷ [])) h
+      (left-is (word-last counts g (length w - n) n p idx e (omega arith) ∙ ap (λ k. (k ∷ [], gives ((n + 1) ∷ []))) t) l))
 
-  pub by-down : (v k t q : ℕ) → t ≡ tile KBWG v → q ≡ arc KBWG v → turnIn counts (drop p g) p idx ≡ on (down v k) → n < length w
-      → Left whole w₀ (n + 1) (set w n t) (wordFrom counts g (length (set w n t) - (n + 1)) (n + 1) q k)
-  by-down v k t q s a e h =
-      let m = length (set w n t) - (n + 1) in
-      let o : length w - n - 1 ≡ m = rw length-set (omega arith) in
-      let r : ℕ → ℕ → Word × Answer = λ i j. wordFrom counts g i (n + 1) j k in
-      left-put t (r m q .0) (r m q .1) h
+  pub by-down : (v k : ℕ) → turnIn counts (drop p g) p idx ≡ on (down v k) → v < 2 ^ 32 → n < length w
+      → Left whole w₀ (n + 1) (set w n (v % 64)) (wordFrom counts g (length (set w n (v % 64)) - (n + 1)) (n + 1) (v / 256) k)
+  by-down v k e f h =
+      let t : tile KBWG v ≡ v % 64 = omega arith in
+      let a : arc KBWG v ≡ v / 256 = omega arith in
+      let o : length w - n - 1 ≡ length (set w n (v % 64)) - (n + 1) = rw length-set (omega arith) in
+      let r : ℕ → ℕ → Word × Answer = λ m q. wordFrom counts g m (n + 1) q k in
+      left-put (v % 64) (r (length (set w n (v % 64)) - (n + 1)) (v / 256) .0) (r (length (set w n (v % 64)) - (n + 1)) (v / 256) .1) h
       (left-is (word-down counts g (length w - n) n p idx e (omega arith)
-      ∙ ap (λ x. (x ∷ r (length w - n - 1) (arc KBWG v) .0, r (length w - n - 1) (arc KBWG v) .1)) (sym s)
-      ∙ ap (λ i. (t ∷ r i (arc KBWG v) .0, r i (arc KBWG v) .1)) o
-      ∙ ap (λ j. (t ∷ r m j .0, r m j .1)) (sym a)) l)
+      ∙ ap (λ x. (x ∷ r (length w - n - 1) (arc KBWG v) .0, r (length w - n - 1) (arc KBWG v) .1)) t
+      ∙ ap (λ m. (v % 64 ∷ r m (arc KBWG v) .0, r m (arc KBWG v) .1)) o
+      ∙ ap (λ q. (v % 64 ∷ r (length (set w n (v % 64)) - (n + 1)) q .0, r (length (set w n (v % 64)) - (n + 1)) q .1)) a) l)
 
   pub by-next : (q k : ℕ) → turnIn counts (drop p g) p idx ≡ turnIn counts (drop q g) q k
       → Left whole w₀ n w (wordFrom counts g (length w - n) n q k)

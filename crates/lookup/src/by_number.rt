@@ -6,8 +6,6 @@ ghost use lib.ListN.{length};
 ghost use Rattle.node.specs.Nodes.{KBWG, acceptsBit};
 ghost use Rattle.lookup.specs.Walks.{wordsHere, wordFrom, wordByIndex};
 ghost use Rattle.lookup.specs.Said.{here, Put};
-use node::Node24;
-use node::bit;
 
 pub enum WordByIndex {
     Tiles(usize),
@@ -28,7 +26,7 @@ fn words_here(counts: &[u32], v: u32, p: usize) -> Here
     requires { ⌜ p + 1 < 2 ^ 64 ⌝ }
     ensures { λ r. ⌜ here r ≡ wordsHere (now (counts .entry)) v p ⌝ }
 {
-    if Node24(v).is_end() {
+    if v / 64 % 2 == 1 {
         if counts.len() <= p {
             return Here::NotLent;
         }
@@ -52,7 +50,7 @@ fn ends_at(v: u32, idx: u32) -> bool
     if idx != 0 {
         return false;
     }
-    Node24(v).accepts()
+    v / 128 % 2 == 1
 }
 
 fn word_from(nodes: &[u32], counts: &[u32], p: usize, idx: u32, word: &mut [u8]) -> WordByIndex
@@ -63,11 +61,12 @@ fn word_from(nodes: &[u32], counts: &[u32], p: usize, idx: u32, word: &mut [u8])
     let mut n = 0;
     while p < nodes.len() {
         let v = nodes[p];
+        let accepts = v / 128 % 2;
         if ends_at(v, idx) {
             if word.len() <= n {
                 return WordByIndex::BufferFull;
             }
-            word[n] = Node24(v).tile();
+            word[n] = (v % 64) as u8;
             return WordByIndex::Tiles(n + 1);
         }
         let here = words_here(counts, v, p);
@@ -77,12 +76,12 @@ fn word_from(nodes: &[u32], counts: &[u32], p: usize, idx: u32, word: &mut [u8])
                     if n >= word.len() {
                         return WordByIndex::BufferFull;
                     }
-                    word[n] = Node24(v).tile();
+                    word[n] = (v % 64) as u8;
                     n += 1;
-                    idx -= bit(Node24(v).accepts());
-                    p = Node24(v).arc_index() as usize;
+                    idx -= accepts;
+                    p = (v / 256) as usize;
                 } else {
-                    if Node24(v).is_end() {
+                    if v / 64 % 2 == 1 {
                         return WordByIndex::Absent;
                     }
                     idx -= words;

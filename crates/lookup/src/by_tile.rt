@@ -5,7 +5,6 @@ ghost use Rattle.lookup.specs.Said.{tried, saidSeek};
 use crate::run::Found;
 use crate::run::find_in;
 use crate::run::lent_part;
-use node::Node24;
 
 pub enum Sought {
     At(u32),
@@ -21,7 +20,7 @@ pub fn seek_from(nodes: &[u32], p: usize, tile: u32) -> Found
     if nodes.len() <= p {
         return Found::NotLent;
     }
-    let arc = Node24(nodes[p]).arc_index() as usize;
+    let arc = (nodes[p] / 256) as usize;
     if arc == 0 {
         return Found::Absent;
     }

@@ -4,11 +4,6 @@ ghost use Prim.Native.Nat.{_-_, _^_};
 ghost use Rattle.lookup.specs.Walks.{passed, indexFrom, wordIndex};
 ghost use Rattle.lookup.specs.Said.{passedAs, saidIndex};
 use crate::run::Found;
-use node::Node24;
-use node::bit;
-
-// The greatest number, and the lowest count that is too many.
-const LIMIT: u32 = 4294967295;
 
 pub enum WordIndex {
     Number(u32),
@@ -45,7 +40,7 @@ fn pass_tile(nodes: &[u32], counts: &[u32], p: usize, idx: u32, tile: u32) -> Pa
         return Passed::NotLent;
     }
     let first = counts[p];
-    if LIMIT - idx < first {
+    if 4294967295 - idx < first {
         return Passed::OutOfRange;
     }
     let found = crate::run::find_in(nodes, p, tile);
@@ -78,21 +73,21 @@ fn index_from(nodes: &[u32], counts: &[u32], p: usize, word: &[u8]) -> WordIndex
         let step = pass_tile(nodes, counts, p, idx, wide(word[i]));
         match step {
             Passed::To { before, node } => {
-                let accepts = bit(Node24(node).accepts());
+                let accepts = node / 128 % 2;
                 i += 1;
                 if i == word.len() {
                     if accepts == 1 {
-                        if before != LIMIT {
+                        if before != 4294967295 {
                             return WordIndex::Number(before);
                         }
                     }
                     return WordIndex::Absent;
                 }
-                if LIMIT - before < accepts {
+                if 4294967295 - before < accepts {
                     return WordIndex::OutOfRange;
                 }
                 idx = before + accepts;
-                p = Node24(node).arc_index() as usize;
+                p = (node / 256) as usize;
             }
             Passed::Absent => return WordIndex::Absent,
             Passed::NotLent => return WordIndex::NotLent,

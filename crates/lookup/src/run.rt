@@ -4,7 +4,6 @@ ghost use lib.ListN.{drop};
 ghost use Rattle.lookup.specs.Steps.{lentPart};
 ghost use Rattle.lookup.specs.Walks.{findIn};
 ghost use Rattle.lookup.specs.Said.{tried};
-use node::Node24;
 
 pub enum Found {
     At(usize),
@@ -27,10 +26,10 @@ pub(crate) fn find_in(nodes: &[u32], p: usize, tile: u32) -> Found
     let mut i = p;
     while i < nodes.len() {
         let v = nodes[i];
-        if Node24(v).tile() as u32 == tile {
+        if v % 64 == tile {
             return Found::At(i);
         }
-        if Node24(v).is_end() {
+        if v / 64 % 2 == 1 {
             return Found::Absent;
         }
         i += 1;

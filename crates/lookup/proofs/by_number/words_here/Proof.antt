@@ -6,36 +6,30 @@ use lib.ListN.{length}
 use borrow.Author.Tests.{ltb-true, ltb-false}
 use Rattle.laws.specs.Cases.{split}
 use Rattle.lookup.specs.WalkLaws.{here-out, here-end, here-last, here-below, here-words}
-use Rattle.lookup.proofs.Flags.{ends, goes-on}
 use borrow.Author.Needs.{needs}
 use Rattle.lookup.proofs.by_number.words_here.Statement.{statement}
 use Rattle.lookup.proofs.by_number.words_here.Tie as tie
 
-is-end-requires : tie.Need-is-end-requires
-is-end-requires c κs = search needs
-
 returns : tie.Need-returns
-returns c = let a = c .before .before .before .before .args in sym (here-out (a .counts .now) (a .v) (a .p) (omega arith))
+returns c = let a = c .before .before .args in sym (here-out (a .counts .now) (a .v) (a .p) (omega arith))
 
-mul-t8 : tie.Need-mul-t8
-mul-t8 c = search needs
+mul-t9 : tie.Need-mul-t9
+mul-t9 c = search needs
 
-shared-slice-read-t11 : tie.Need-shared-slice-read-t11
-shared-slice-read-t11 c = search needs
+shared-slice-read-t12 : tie.Need-shared-slice-read-t12
+shared-slice-read-t12 c = search needs
 
 returns-2 : tie.Need-returns-2
-returns-2 c = let n = c .before .before .before in
-    let a = n .before .before .args in
-    sym (here-end (a .counts .now) (a .v) (a .p) (omega arith) (ends (a .v) (n .is-end .ensures) (c .before .before .if1 .taken)))
+returns-2 c = let a = c .before .before .before .args in sym (here-end (a .counts .now) (a .v) (a .p) (omega arith) (omega arith))
 
 add-if3 : tie.Need-add-if3
 add-if3 c = search needs
 
 returns-3 : tie.Need-returns-3
-returns-3 c = let n = c .before .before in
-    let a = n .before .before .args in
+returns-3 c =
+    let a = c .before .before .args in
     split (ltb (a .p) (length (a .counts .now)))
-    (λ t. let l = ltb-true _ _ t in sym (here-last (a .counts .now) (a .v) (a .p) l (goes-on (a .v) (n .is-end .ensures) (c .before .if1 .left)) (omega arith)))
+    (λ t. let l = ltb-true _ _ t in sym (here-last (a .counts .now) (a .v) (a .p) l (λ e. omega arith) (omega arith)))
     (λ t. let l = ltb-false _ _ t in sym (here-out (a .counts .now) (a .v) (a .p) l))
 
 mul-own : tie.Need-mul-own
@@ -54,23 +48,18 @@ shared-slice-read-next : tie.Need-shared-slice-read-next
 shared-slice-read-next c = search needs
 
 returns-4 : tie.Need-returns-4
-returns-4 c = let n = c .before .before .before .before .before in
-    let a = n .before .before .args in
-    sym (here-below (a .counts .now) (a .v) (a .p) (omega arith) (goes-on (a .v) (n .is-end .ensures) (c .before .before .before .before .if1 .left)) (omega arith) (omega arith))
+returns-4 c = let a = c .before .before .before .before .before .args in sym (here-below (a .counts .now) (a .v) (a .p) (omega arith) (λ e. omega arith) (omega arith) (omega arith))
 
 returns-5 : tie.Need-returns-5
-returns-5 c = let n = c .before .before .before .before .before in
-    let a = n .before .before .args in
-    sym (here-words (a .counts .now) (a .v) (a .p) (omega arith) (goes-on (a .v) (n .is-end .ensures) (c .before .before .before .before .if1 .left)) (omega arith) (omega arith))
+returns-5 c = let a = c .before .before .before .before .before .args in sym (here-words (a .counts .now) (a .v) (a .p) (omega arith) (λ e. omega arith) (omega arith) (omega arith))
 
 pub words-here-spec : {M : Type 1} → statement M
 words-here-spec =
     tie.close
     (tie.spec
-    is-end-requires
     returns
-    mul-t8
-    shared-slice-read-t11
+    mul-t9
+    shared-slice-read-t12
     returns-2
     add-if3
     returns-3

@@ -1,14 +1,11 @@
 -- `lookup::find_in` meets its contract. The loop's invariant: what is left to search gives the answer of the whole search.
-use Prim.Native.Nat.{ℕ, _-_, _%_}
+use Prim.Native.Nat.{_-_}
 use mathlib.Core.Path.{_≡_, sym, _∙_}
-use mathlib.Core.Logic.{_≢_}
 use native.Mathlib.Omega.{arith}
 use borrow.Author.Needs.{needs}
 use lib.ListN.{length, drop}
 use Rattle.lookup.specs.Walks.{findIn}
 use Rattle.lookup.specs.WalkLaws.{find-here, find-absent, find-next, find-out}
-use Rattle.graph.specs.Runs.{Graph, node}
-use Rattle.lookup.proofs.Flags.{ends, goes-on}
 use Rattle.lookup.proofs.run.find_in.Statement.{statement}
 use Rattle.lookup.proofs.run.find_in.Tie as tie
 
@@ -27,36 +24,11 @@ mul-v c = search needs
 shared-slice-read-v : tie.Need-shared-slice-read-v Inv-loop μ-loop
 shared-slice-read-v c = search needs
 
-tile-requires : tie.Need-tile-requires Inv-loop μ-loop
-tile-requires c κs = search needs
-
-cast-if1 : tie.Need-cast-if1 Inv-loop μ-loop
-cast-if1 c = search needs
-
 returns : tie.Need-returns Inv-loop μ-loop
-returns c = let w = c .before .before .before .before in
-    sym (find-here (w .before .before .args .nodes .now) (w .loop .i) (w .before .before .args .tile) (omega arith) (omega (arith, c .before .tile .ensures, c .if1 .taken))) ∙ w .loop .inv
-
-is-end-requires : tie.Need-is-end-requires Inv-loop μ-loop
-is-end-requires c κs = search needs
-
--- a node with another tile
-module _ (c : tie.After-is-end Inv-loop μ-loop) where
-  abbrev nodes : Graph
-  nodes = c .before .before .before .before .before .before .before .args .nodes .now
-
-  abbrev place : ℕ
-  place = c .before .before .before .before .before .loop .i
-
-  abbrev wanted : ℕ
-  wanted = c .before .before .before .before .before .before .before .args .tile
-
-  other : node nodes place % 64 ≢ wanted
-  other e = c .before .if1 .left (omega (arith, c .before .before .tile .ensures))
+returns c = let w = c .before .before .before in sym (find-here (w .before .args .nodes .now) (w .loop .i) (w .before .args .tile) (omega arith) (omega arith)) ∙ w .loop .inv
 
 returns-2 : tie.Need-returns-2 Inv-loop μ-loop
-returns-2 c = let n = c .before in
-    sym (find-absent (nodes n) (place n) (wanted n) (omega arith) (other n) (ends _ (n .is-end .ensures) (c .if2 .taken))) ∙ n .before .before .before .before .before .loop .inv
+returns-2 c = let w = c .before .before .before .before in sym (find-absent (w .before .args .nodes .now) (w .loop .i) (w .before .args .tile) (omega arith) (omega arith) (omega arith)) ∙ w .loop .inv
 
 add-i : tie.Need-add-i Inv-loop μ-loop
 add-i c = search needs
@@ -65,11 +37,10 @@ loop-less : tie.Need-loop-less Inv-loop μ-loop
 loop-less c = search needs
 
 loop-again : tie.Need-loop-again Inv-loop μ-loop
-loop-again c = let n = c .before in
-    sym (find-next (nodes n) (place n) (wanted n) (omega arith) (other n) (goes-on _ (n .is-end .ensures) (c .if2 .left))) ∙ n .before .before .before .before .before .loop .inv
+loop-again c = let w = c .before .before .before .before in sym (find-next (w .before .args .nodes .now) (w .loop .i) (w .before .args .tile) (omega arith) (omega arith) (omega arith)) ∙ w .loop .inv
 
 returns-3 : tie.Need-returns-3 Inv-loop μ-loop
-returns-3 c = let w = c .before in sym (find-out (w .before .before .args .nodes .now) (w .loop .i) (w .before .before .args .tile) (omega arith)) ∙ w .loop .inv
+returns-3 c = let w = c .before in sym (find-out (w .before .args .nodes .now) (w .loop .i) (w .before .args .tile) (omega arith)) ∙ w .loop .inv
 
 pub find-in-spec : {M : Type 1} → statement M
 find-in-spec =
@@ -80,10 +51,7 @@ find-in-spec =
     loop-holds
     mul-v
     shared-slice-read-v
-    tile-requires
-    cast-if1
     returns
-    is-end-requires
     returns-2
     add-i
     loop-less
