@@ -1,6 +1,5 @@
 // Files for other programs. A format is a number: 0 is a DAWG, every other number a GADDAG.
 ghost use mathlib.Core.Path.{_≡_};
-ghost use lib.ListN.{length};
 ghost use Rattle.macondo.specs.Said.{said as saidMacondo};
 ghost use Rattle.lxd.specs.Said.{said as saidLxd};
 ghost use Rattle.flat.specs.Flat.{refusalIn};

@@ -22,8 +22,6 @@ pub use loading::flat_feed;
 pub use loading::flat_finished;
 pub use loading::flat_loader;
 pub use loading::flat_repacked;
-pub use loading::kept_of;
-pub use loading::layout_number;
 pub use loading::layout_of;
 pub use loading::state_of;
 pub use lookups::FlatCursor;

@@ -3,7 +3,6 @@ ghost use mathlib.Core.Path.{_≡_};
 ghost use mathlib.Core.List.{[]};
 ghost use Rattle.node.specs.Answers.{gives};
 ghost use Rattle.load.specs.Repacking.{said};
-ghost use Rattle.load.specs.Loading.{feed, finish};
 ghost use Rattle.load.specs.Said.{saidBegin, saidFeed, saidFinish};
 ghost use Rattle.flat.specs.Flat.{layoutOf, layoutNumber, plainly, refusalIn};
 ghost use Rattle.flat.specs.FlatLoads.{keptOf, repackedOf, flatRepacked, stateOf, flatLoader, finishedOf, flatFinished};
@@ -78,7 +77,7 @@ pub fn layout_of(number: u32) -> Layout
     }
 }
 
-pub fn layout_number(layout: Layout) -> u32
+fn layout_number(layout: Layout) -> u32
     ensures { λ r. ⌜ r ≡ layoutNumber layout ⌝ }
 {
     match layout {
@@ -87,7 +86,7 @@ pub fn layout_number(layout: Layout) -> u32
     }
 }
 
-pub fn kept_of(refusal: u32, node: usize, tile: u8, arc_index: u32) -> Repacked
+fn kept_of(refusal: u32, node: usize, tile: u8, arc_index: u32) -> Repacked
     ensures { λ r. ⌜ r ≡ keptOf refusal node tile «arc_index» ⌝ }
 {
     if refusal == 0 {
