@@ -173,7 +173,7 @@ typedef struct machirsun_loaded {
 /* A whole load in one call: begin, a feed of each piece, finish. The pieces are the first cuts[0] bytes, the next cuts[1] and so on, and
  * the rest as one more; a cut past the end takes what is there. begun is the number of begin's refusal, or 0; loader is the state after the
  * last feed. Each feed's answer goes to answers, in order: the number of its refusal (4, 5, 6), or 0. Where answers is shorter than cuts_len
- * + 1 the later ones are not told; entries past them stay. The calls are those above: after a refused begin each feed and finish answers 4,
+ * + 1 the later ones are not written; entries past them stay. The calls are those above: after a refused begin each feed and finish answers 4,
  * a piece that is too long is left out and the next one is fed, and a 6 is repeated to the end. */
 machirsun_loaded machirsun_load_in_pieces(size_t announced, uint32_t layout, const uint8_t *bytes, size_t bytes_len, const uint32_t *cuts,
                                           size_t cuts_len, uint32_t *answers, size_t answers_len, uint32_t *nodes, size_t nodes_len);

@@ -181,7 +181,7 @@ impl Report {
     }
 }
 
-// An input is told whole up to this length.
+// An input is printed whole up to this length.
 const LONGEST_INPUT: usize = 1500;
 
 fn shortened(input: &str) -> String {
@@ -201,16 +201,16 @@ fn parted(expected: &Outcome, got: &Outcome) -> (String, String) {
     for (number, (e, g)) in expected.buffers.iter().zip(&got.buffers).enumerate() {
         let (e, g) = (entries(e), entries(g));
         if e.len() != g.len() {
-            let told = |list: &[u64]| format!("buffer {number} of {} entries", list.len());
-            return (told(&e), told(&g));
+            let described = |list: &[u64]| format!("buffer {number} of {} entries", list.len());
+            return (described(&e), described(&g));
         }
         if let Some(at) = (0..e.len()).find(|&at| e[at] != g[at]) {
-            let told = |list: &[u64]| format!("buffer {number}, entry {at}: {:x}", list[at]);
-            return (told(&e), told(&g));
+            let described = |list: &[u64]| format!("buffer {number}, entry {at}: {:x}", list[at]);
+            return (described(&e), described(&g));
         }
     }
-    let told = |outcome: &Outcome| format!("{} buffers", outcome.buffers.len());
-    (told(expected), told(got))
+    let described = |outcome: &Outcome| format!("{} buffers", outcome.buffers.len());
+    (described(expected), described(got))
 }
 
 fn entries(buffer: &Buffer) -> Vec<u64> {

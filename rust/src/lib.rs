@@ -133,7 +133,7 @@ pub struct Loaded {
 
 /// A whole load: begin, a feed of each piece, finish. The pieces have the lengths in `cuts`, and the rest of the bytes is one more; a cut
 /// past the end takes what is there. Each feed's answer goes to `answers`, in order: the number of its refusal, or 0. Where `answers` is
-/// shorter than that, the later ones are not told; entries past them stay.
+/// shorter than that, the later ones are not written; entries past them stay.
 #[inline]
 pub fn load_in_pieces(
     announced: usize,

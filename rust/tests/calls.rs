@@ -64,7 +64,7 @@ fn a_file_loads_in_one_call_however_it_is_cut() {
 }
 
 #[test]
-fn a_load_in_pieces_tells_each_answer() {
+fn a_load_in_pieces_gives_each_answer() {
     let file = bytes(&G_FILE);
     let load = |announced, file: &[u8], cuts: &[u32], answers: &mut [u32], nodes: &mut [u32]| {
         load_in_pieces(announced, Layout::Kwg, file, cuts, answers, nodes)
@@ -78,7 +78,7 @@ fn a_load_in_pieces_tells_each_answer() {
     assert_eq!(loaded.loader.taken(), 12);
     assert_eq!(nodes, [0x240, 0x40, 0xC2, 7, 7, 7]);
 
-    // the second node does not fit, which the piece that completes it tells, and each after it; there is room for three
+    // the second node does not fit, which the piece that completes it answers, and each after it; there is room for three
     let (mut answers, mut nodes) = ([9; 3], [7; 6]);
     let wide = bytes(&[0x0040_0000, 0x4040_0003, 0x0040_0000]);
     let misfit = Refusal::DoesNotFit {

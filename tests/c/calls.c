@@ -291,7 +291,7 @@ static void loads_in_pieces(void)
     SAME_LIST(answers, (uint32_t[]){0, MACHIRSUN_DOES_NOT_FIT, 0, 0, 9});
     SAME_LIST(nodes, (uint32_t[]){0x40, 0x40, 0x481, 0x442, 0xC2, 7});
 
-    /* The first piece is too long, and left out. Only one answer is told. */
+    /* The first piece is too long, and left out. Only one answer has room. */
     loaded = machirsun_load_in_pieces(4, MACHIRSUN_KWG, LENT(TILE_64), LENT(cut_6), answers, 1, LENT(nodes));
     SAME(loaded.begun == 0);
     SAME_LOADER(loaded.loader, .announced = 4, .taken = 2, .held_count = 2, .held = {0x40, 0x40, 0});

@@ -91,17 +91,17 @@ impl Checker {
     ) {
         let mut answers = Lent::numbers(&mut self.random, answers_len);
         let mut nodes = Lent::numbers(&mut self.random, nodes_len);
-        let (mut told, mut expected) = (answers.clone(), nodes.clone());
+        let (mut paper_answers, mut paper_nodes) = (answers.clone(), nodes.clone());
         let pieces = paper::cut(bytes, cuts);
-        let lists = (told.part_mut(), expected.part_mut());
+        let lists = (paper_answers.part_mut(), paper_nodes.part_mut());
         let paper = paper::load_in_pieces(announced, layout, &pieces, lists.0, lists.1);
         // "Domain of the comparison": a file of the length announced, where begin refuses nothing.
         let rust = (paper.begun == 0 && announced == bytes.len())
             .then(|| rust_load_in_pieces(bytes, layout, &pieces, &paper, &answers, &nodes));
-        let (told_to, to) = (answers.part_mut(), nodes.part_mut());
-        let got = engine::load_in_pieces(announced, layout, bytes, cuts, told_to, to);
+        let (answers_to, nodes_to) = (answers.part_mut(), nodes.part_mut());
+        let got = engine::load_in_pieces(announced, layout, bytes, cuts, answers_to, nodes_to);
         let got = Outcome::of(got).with(answers).with(nodes);
-        let paper = Outcome::of(paper).with(told).with(expected);
+        let paper = Outcome::of(paper).with(paper_answers).with(paper_nodes);
         let input = || {
             format!(
                 "length {announced}, layout {layout}, bytes {bytes:x?}, cuts {cuts:?}, {answers_len} answers and {nodes_len} nodes lent"
@@ -157,11 +157,11 @@ fn rust_load_in_pieces(
     nodes: &Lent<u32>,
 ) -> Outcome {
     let mut end = 0;
-    let mut told = Vec::new();
+    let mut feeds = Vec::new();
     for piece in pieces.iter().take(answers.len()) {
         end += piece.len();
         let repacked = rust_side::repack(&mut file[..end].to_vec(), layout, 1);
-        told.push(repacked.map_or_else(|refusal| refusal.number, |()| 0));
+        feeds.push(repacked.map_or_else(|refusal| refusal.number, |()| 0));
     }
     let fitting = rust_fitting(file, layout).1;
     let loaded = rust_side::load(file, layout);
@@ -171,7 +171,7 @@ fn rust_load_in_pieces(
         state: paper.state,
         ..answered(loaded, |loaded| Answer::gives(loaded.len() as u64))
     };
-    let answers = answers.clone().after_writing(&told);
+    let answers = answers.clone().after_writing(&feeds);
     Outcome::of(answer).with(answers).with(nodes)
 }
 

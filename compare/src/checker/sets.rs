@@ -24,7 +24,12 @@ impl Checker {
                 .with(accepting.after_writing(&second))
         });
         let paper = Outcome::of(paper).with(first).with(second);
-        let input = || format!("{}, {all_len} and {accepting_len} sets lent", graph.told());
+        let input = || {
+            format!(
+                "{}, {all_len} and {accepting_len} sets lent",
+                graph.described()
+            )
+        };
         self.compare(Call::LetterBits, got, paper, rust, &input);
     }
 
@@ -33,7 +38,7 @@ impl Checker {
         let paper = alpha::accepts_alpha(&graph.nodes, tally);
         let rust = graph.asked(&paper);
         let rust = rust.map(|rust| answered(rust_side::accepts_alpha(rust, tally), Answer::says));
-        let input = || format!("{}, tally {tally:?}", graph.told());
+        let input = || format!("{}, tally {tally:?}", graph.described());
         self.compare_answers(Call::AcceptsAlpha, got, paper, rust, &input);
     }
 
@@ -43,7 +48,7 @@ impl Checker {
         let rust = graph.asked(&paper);
         let rust =
             rust.map(|rust| answered(rust_side::alpha_cross_set(rust, tally), Answer::gives));
-        let input = || format!("{}, tally {tally:?}", graph.told());
+        let input = || format!("{}, tally {tally:?}", graph.described());
         self.compare_answers(Call::AlphaCrossSet, got, paper, rust, &input);
     }
 }

@@ -1,19 +1,20 @@
 -- The walk of `completes_alpha_cross_set` says whether a word is read below a node.
-use mathlib.Core.Path.{_≡_, refl, sym, ap, _∙_, subst}
+use mathlib.Core.Path.{_≡_, refl, sym, _∙_, subst}
 use mathlib.Core.Bool.{Bool, true, false, true≢false}
-use mathlib.Core.Logic.{_≢_, ⊎-elim}
-use mathlib.Core.List.{List, [], _∷_, _++_, map, List·Memᴰ, List·Memᴰ·head, List·Memᴰ·tail, List·Memᴰ·not-nil, List·Memᴰ·cases-cons, Memᴰ·append-left, Memᴰ·append-right}
+use mathlib.Core.Logic.{_≢_}
+use mathlib.Core.List.{List, [], _∷_, _++_, List·Memᴰ, List·Memᴰ·head, List·Memᴰ·tail, Memᴰ·append-left, Memᴰ·append-right}
 use Prim.Native.Nat.{ℕ, zero, suc, _+_, _<_}
 use borrow.Author.Tests.{eqb-true, eqb-false, ne-eqb}
 use lib.Dec.{eqb}
 use lib.ListN.{length, drop, replicate}
 use Rattle.laws.specs.Cases.{split}
+use Rattle.laws.specs.Members.{map-in}
 use Rattle.node.specs.Nodes.{KBWG, tile, arc, accepts, isEnd}
 use Rattle.graph.specs.Runs.{Graph, node, ascends}
 use Rattle.graph.specs.Words.{Word, words, spelled}
 use Rattle.lookup.specs.Steps.{Try, on, stop, _>>=_}
 use Rattle.lookup.specs.Walks.{stepTo}
-use Rattle.lookup.specs.WalkLaws.{lent-on}
+use Rattle.lookup.specs.StepsLaws.{lent-on}
 use Rattle.numbers.specs.Walkable.{Walkable}
 use Rattle.numbers.specs.RunWords.{own-leaf, own-arc, no-arc, words-end, words-on}
 use Rattle.numbers.specs.TileSearch.{NotIn, FoundIs, found, absent, find, in-found, alone, longer}
@@ -55,11 +56,6 @@ module _ (g : Graph) where
       ∙ sym (walk-append p (replicate n t) (alphagramFrom (suc t) ns)))
 
 -- ---- a word read below a node is spelled by the node, and the other way round
-pub mem-under : (t : ℕ) (ws : List Word) (w : Word) → List·Memᴰ w ws → List·Memᴰ (t ∷ w) (map (t ∷_) ws)
-mem-under t [] w m = absurd (List·Memᴰ·not-nil m)
-mem-under t (x ∷ ws) w m =
-    ⊎-elim (λ i. List·Memᴰ·head (ap (t ∷_) i)) (λ k. List·Memᴰ·tail (mem-under t ws w k)) (List·Memᴰ·cases-cons m)
-
 module _ (g : Graph) (counted : List ℕ) (walk : Walkable g g counted) (up : ascends KBWG g ≡ true) where
   abbrev W : ℕ → List Word
   W q = words KBWG g q
@@ -71,7 +67,7 @@ module _ (g : Graph) (counted : List ℕ) (walk : Walkable g g counted) (up : as
       (λ z. rw (own-arc g (node g q) a z) (List·Memᴰ·head refl))
   spelled-below q (u ∷ us) r =
       let z = ne-eqb (arc KBWG (node g q)) 0 (r .0) in
-      let m = mem-under (tile KBWG (node g q)) (W (arc KBWG (node g q))) (u ∷ us) (r .1) in
+      let m = map-in (tile KBWG (node g q) ∷_) (W (arc KBWG (node g q))) (u ∷ us) (r .1) in
       split (accepts KBWG (node g q))
       (λ a. rw (own-arc g (node g q) a z) (List·Memᴰ·tail m))
       (λ a. rw (no-arc g (node g q) a z) m)

@@ -6,7 +6,7 @@ use mathlib.Core.Logic.{_≢_, _⊎_, _↔_}
 use Prim.Native.Nat.{ℕ, zero, suc, _≤_, _<_}
 use lib.ListN.{drop, replicate}
 use Rattle.laws.specs.Bits.{hasBit}
-use Rattle.node.specs.Answers.{gives}
+use Rattle.answers.specs.Answers.{gives}
 use Rattle.node.specs.Nodes.{KBWG, arc, accepts}
 use Rattle.graph.specs.Runs.{Graph, node}
 use Rattle.graph.specs.Words.{Word, words}
@@ -49,7 +49,7 @@ Accepted g tally = acceptsAlpha g tally ≡ gives (1 ∷ [])
 -- What the calls say of a tally of at most 64 entries: `accepts_alpha` answers 1 or 0, 1 exactly where the tally's letters are a word from
 -- the start ("an empty tally accepts as node 0 does"); bit t above 0 of the cross set is set exactly where the tally with one t more
 -- is accepted
-pub record Alpha (g : Graph) (tally : List ℕ) : Type 0 where
+pub record AlphaMeans (g : Graph) (tally : List ℕ) : Type 0 where
   pub answers : Accepted g tally ⊎ (acceptsAlpha g tally ≡ gives (0 ∷ []))
   pub accepts-means : Accepted g tally ↔ ReadBelow g 0 (alphagram tally)
   pub set : ℕ

@@ -14,11 +14,11 @@ use lib.Seq.{drop-cons, drop-drop}
 use Rattle.laws.specs.Bits.{hasBit, or-bit, power-bit}
 use Rattle.laws.specs.Cases.{split}
 use Rattle.laws.specs.Lists.{all-mem}
-use Rattle.node.specs.Answers.{Answer, gives, nothing}
+use Rattle.answers.specs.Answers.{Answer, gives, nothing}
 use Rattle.node.specs.Nodes.{KBWG, tile, arc, accepts, isEnd}
 use Rattle.graph.specs.Runs.{Graph, node, run, ascends}
 use Rattle.graph.specs.Words.{Word, words, spelled, inOrder}
-use Rattle.graph.specs.WordsAscend.{From, Begins, heads, spelled-begins, ascends-drop, words-ascend}
+use Rattle.graph.specs.WordsAscend.{From, BeginsWith, heads, spelled-begins, ascends-drop, words-ascend}
 use Rattle.lookup.specs.Steps.{Try, on, stop}
 use Rattle.numbers.specs.Walkable.{Walkable}
 use Rattle.numbers.specs.RunWords.{words-run, words-end, words-on}
@@ -44,7 +44,7 @@ or-cases true b e = inl refl
 or-cases false b e = inr e
 
 -- a tile marked: its bit, where asked, and all that was set before
-pub bit-marked : (u s t : ℕ) (b : Bool) → Bit u (marked s t b) ↔ (Bit u s ⊎ ((u ≡ t) × (b ≡ true)))
+bit-marked : (u s t : ℕ) (b : Bool) → Bit u (marked s t b) ↔ (Bit u s ⊎ ((u ≡ t) × (b ≡ true)))
 bit-marked u s t true =
     let is : hasBit (bitOr s (2 ^ t)) u ≡ hasBit s u || eqb u t = or-bit s (2 ^ t) u ∙ ap (λ b. hasBit s u || b) (power-bit t u) in (
       (λ e. ⊎-elim (λ k. inl k) (λ k. inr (eqb-true u t k, refl)) (or-cases (hasBit s u) (eqb u t) (sym is ∙ e))),
@@ -72,7 +72,7 @@ module _ (g : Graph) (counted : List ℕ) (walk : Walkable g g counted) (up : as
 
   own-tile : (p a : ℕ) (w : Word) → List·Memᴰ (a ∷ w) (Sp p) → a ≡ tile KBWG (node g p)
   own-tile p a w m =
-      all-mem (Begins (tile KBWG (node g p))) (Sp p) (a ∷ w) (spelled-begins KBWG W (nonempty g g counted walk up) (words-ascend KBWG g up) (node g p)) m
+      all-mem (BeginsWith (tile KBWG (node g p))) (Sp p) (a ∷ w) (spelled-begins KBWG W (nonempty g g counted walk up) (words-ascend KBWG g up) (node g p)) m
 
   -- ---- what a walk adds to a set
   pub record Adds (s : ℕ) (left : Word) (p : ℕ) (x : Answer) : Type 0 where
@@ -122,7 +122,7 @@ module _ (g : Graph) (counted : List ℕ) (walk : Walkable g g counted) (up : as
     (λ k. subst (λ a. List·Memᴰ (a ∷ []) (Sp p)) (sym (k .0)) (spelled-below g counted walk up p [] (k .1))),
   )
 
-  pub closing-adds : (l : Graph) (p s : ℕ) → drop p g ≡ l → p < length g → Adds s [] p (closing l s)
+  closing-adds : (l : Graph) (p s : ℕ) → drop p g ≡ l → p < length g → Adds s [] p (closing l s)
   unfolding closing
   closing-adds [] p s e h = absurd (let n : length g - p ≡ 0 = sym (length-drop p g) ∙ ap length e in omega arith)
   closing-adds (v ∷ l) p s e h =
@@ -199,7 +199,8 @@ module _ (g : Graph) (counted : List ℕ) (walk : Walkable g g counted) (up : as
       (λ k. let f = head-from p h (u ∷ t ∷ left) (rw (insert-low u t left (ltb-true u t k)) at m) in let j = ltb-true u t k in omega arith)
       (λ k. let f = head-from p h (t ∷ insert u left) (rw (insert-high u t left (ltb-false u t k)) at m) in omega arith)
 
-  no-arc-there : (t : ℕ) (left : Word) (p : ℕ) → p < length g → tile KBWG (node g p) ≡ t → arc KBWG (node g p) ≡ 0 → (u : ℕ) → List·Memᴰ (insert u (t ∷ left)) (W p) → ⊥
+  no-arc-there : (t : ℕ) (left : Word) (p : ℕ) → p < length g → tile KBWG (node g p) ≡ t → arc KBWG (node g p) ≡ 0
+      → (u : ℕ) → List·Memᴰ (insert u (t ∷ left)) (W p) → ⊥
   no-arc-there t left p h e z u m =
       split (ltb u t)
       (λ k. let f = head-from p h (u ∷ t ∷ left) (rw (insert-low u t left (ltb-true u t k)) at m) in let j = ltb-true u t k in omega arith)
@@ -257,7 +258,8 @@ module _ (g : Graph) (counted : List ℕ) (walk : Walkable g g counted) (up : as
           by-letters x (yes k) b e = ((λ z. k), (λ z. let i : true ≡ b = on-eq e in sym i))
           by-letters x (no k) b e = ((λ z. absurd (true≢false (sym z ∙ sym (on-eq e)))), (λ z. absurd (k z)))
 
-          by-none : ((w : Word) → ReadBelow g p w → ⊥) → (x : Try Bool) → Reads g counted walk up p (letters t) x → (b : Bool) → x ≡ on b → b ≡ true ↔ ReadBelow g p (t ∷ left)
+          by-none : ((w : Word) → ReadBelow g p w → ⊥) → (x : Try Bool) → Reads g counted walk up p (letters t) x → (b : Bool) → x ≡ on b
+              → b ≡ true ↔ ReadBelow g p (t ∷ left)
           by-none n x (yes k) b e = absurd (n (letters t) k)
           by-none n x (no k) b e = ((λ z. absurd (true≢false (sym z ∙ sym (on-eq e)))), (λ z. absurd (n (t ∷ left) z)))
 
@@ -317,7 +319,8 @@ module _ (g : Graph) (counted : List ℕ) (walk : Walkable g g counted) (up : as
       along-same l p s h v x y =
           let same = eqb-true (tile KBWG (node g p)) t y in
           split (eqb (arc KBWG (node g p)) 0)
-          (λ z. subst (Adds s (t ∷ left) p) (sym (turn-no-arc l p s x y z)) (adds-none s (t ∷ left) p (no-arc-there t left p h same (eqb-true (arc KBWG (node g p)) 0 z))))
+          (λ z. subst (Adds s (t ∷ left) p) (sym (turn-no-arc l p s x y z))
+          (adds-none s (t ∷ left) p (no-arc-there t left p h same (eqb-true (arc KBWG (node g p)) 0 z))))
           (λ z.
           let n = eqb-false (arc KBWG (node g p)) 0 z in
           let d = subst (λ k. Level k (arc KBWG (node g p))) same (level-down m p h n v) in
@@ -328,11 +331,13 @@ module _ (g : Graph) (counted : List ℕ) (walk : Walkable g g counted) (up : as
           → Adds s (t ∷ left) p (along g tally t follows (node g p ∷ l) p s)
       along-node l p s e h v ih =
           split (ltb t (tile KBWG (node g p)))
-          (λ x. subst (Adds s (t ∷ left) p) (sym (turn-greater l p s x)) (adds-none s (t ∷ left) p (past-letter t left p h (ltb-true t (tile KBWG (node g p)) x))))
+          (λ x. subst (Adds s (t ∷ left) p) (sym (turn-greater l p s x))
+          (adds-none s (t ∷ left) p (past-letter t left p h (ltb-true t (tile KBWG (node g p)) x))))
           (λ x. split (eqb (tile KBWG (node g p)) t)
           (λ y. along-same l p s h v x y)
           (λ y. subst (Adds s (t ∷ left) p) (sym (turn-less l p s x y))
-          (lower l p s e h v (strictly (ltb-false t (tile KBWG (node g p)) x) (eqb-false (tile KBWG (node g p)) t y)) ih (completes g tally t p) (completes-reads t p h))))
+          (lower l p s e h v (strictly (ltb-false t (tile KBWG (node g p)) x) (eqb-false (tile KBWG (node g p)) t y)) ih
+          (completes g tally t p) (completes-reads t p h))))
 
       along-adds : (l : Graph) (p s : ℕ) → drop p g ≡ l → p < length g → Level m p → Adds s (t ∷ left) p (along g tally t follows l p s)
       along-adds [] p s e h v = absurd (let n : length g - p ≡ 0 = sym (length-drop p g) ∙ ap length e in omega arith)

@@ -1,6 +1,6 @@
 -- On a graph whose every step leads to a node, that does not loop, whose runs ascend and whose words from the start never descend, the
 -- alpha sets mean what they say.
-use mathlib.Core.Path.{_≡_, refl, sym, ap, _∙_, subst}
+use mathlib.Core.Path.{_≡_, refl, sym, _∙_, subst}
 use mathlib.Core.Bool.{Bool, true}
 use mathlib.Core.Logic.{_≢_, _⊎_, _↔_, inl, inr, ⊎-elim}
 use mathlib.Core.List.{List, [], _∷_, List·Memᴰ}
@@ -10,34 +10,34 @@ use native.Mathlib.Omega.{arith}
 use borrow.Author.Tests.{eqb-true, eqb-false, le-ltb}
 use lib.Dec.{eqb}
 use lib.ListN.{length, drop}
-use lib.Seq.{take-all}
+use lib.Seq.{take-all, take-length}
 use Rattle.laws.specs.Bits.{hasBit, power-bit}
 use Rattle.laws.specs.Cases.{split}
-use Rattle.node.specs.Answers.{gives, firstOf}
-use Rattle.node.specs.RowLaws.{row-passes, row-ends}
-use Rattle.node.specs.Nodes.{KBWG, arc, flag}
+use Rattle.base.specs.Numbers.{flag}
+use Rattle.answers.specs.Answers.{gives, firstOf}
+use Rattle.answers.specs.RowLaws.{row-passes, row-ends}
+use Rattle.node.specs.Nodes.{KBWG, arc}
 use Rattle.graph.specs.Runs.{Graph, node, ascends}
 use Rattle.graph.specs.Words.{words, count}
 use Rattle.graph.specs.ChecksLaws.{Fit}
 use Rattle.graph.specs.Counting.{counts, Loopless}
 use Rattle.lookup.specs.Steps.{Try, on, _>>=_, answer, lentPart}
-use Rattle.lookup.specs.WalkLaws.{lent-on}
+use Rattle.lookup.specs.StepsLaws.{lent-on}
 use Rattle.numbers.specs.Walkable.{Walkable}
-use Rattle.graph.specs.TableLaws.{table-length, table-at}
+use Rattle.numbers.specs.LentLaws.{walkable}
+use Rattle.graph.specs.TableLaws.{table-length}
 use Rattle.letters.specs.AlphaSets.{tallyRow, completes, crossFrom, acceptsAlpha, crossSet}
-use Rattle.alphagrams.specs.Alphagrams.{alphagram, ReadBelow, AlphagramLexicon, oneMore, Accepted, Alpha}
+use Rattle.alphagrams.specs.Alphagrams.{alphagram, ReadBelow, AlphagramLexicon, oneMore, Accepted, AlphaMeans}
 use Rattle.alphagrams.specs.InsertLaws.{insert, starts, one-more, one-more-short}
 use Rattle.alphagrams.specs.AcceptsLaws.{Reads, yes, no}
 use Rattle.alphagrams.specs.CrossLaws.{Level, letters-adds, completes-reads}
 
 module _ (g : Graph) (fits : Fit g) (loopless : Loopless g) (up : ascends KBWG g ≡ true) where
   walk : Walkable g g (counts g)
-  walk = record {
-    steps = fits .steps;
-    loopless = loopless;
-    same = λ p h. (h, refl);
-    count-lent = λ p h. lent-on (counts g) p (let n = table-length (length g) (count KBWG g) in omega arith) ∙ ap on (table-at (length g) (count KBWG g) p h);
-  }
+  walk =
+      let n = table-length (length g) (count KBWG g) in
+      walkable g fits g (counts g)
+      (record { nodes-are = take-length g; counts-are = take-all (length g) (counts g) (omega arith) }) loopless
 
   whole : lentPart g ≡ g
   whole = take-all 4_294_967_296 g (let m = fits .most in omega arith)
@@ -119,7 +119,7 @@ module _ (g : Graph) (fits : Fit g) (loopless : Loopless g) (up : ascends KBWG g
           );
         })
 
-    pub alpha-means : Alpha g tally
+    pub alpha-means : AlphaMeans g tally
     unfolding crossSet
     alpha-means = record {
       answers = answered tally (accepts tally short);

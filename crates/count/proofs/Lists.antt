@@ -1,21 +1,15 @@
 -- Lists kept from a place on, and lists whose first numbers are set to 0.
 use mathlib.Core.Path.{_≡_, refl, sym, ap, _∙_}
 use mathlib.Core.List.{List, _++_}
-use Prim.Native.Nat.{ℕ, _+_, _-_, _≤_, _<_}
+use Prim.Native.Nat.{ℕ, _+_, _-_, _≤_}
 use native.Mathlib.Omega.{arith}
-use lib.ListN.{length, set, drop, replicate, length-set, length-replicate}
-use lib.Seq.{drop-drop, drop-at, drop-set-lt}
+use lib.ListN.{length, drop, replicate, length-replicate}
+use lib.Seq.{drop-drop, drop-at}
 use Rattle.laws.specs.Cleared.{cleared, cleared-length}
 use Rattle.graph.specs.Lent.{Kept}
 
 pub kept-all : (n : ℕ) (l : List ℕ) → Kept n l l
 kept-all n l = record { size = refl; rest = refl }
-
-pub kept-then : {n : ℕ} {l m r : List ℕ} → Kept n l m → Kept n m r → Kept n l r
-kept-then a b = record { size = b .size ∙ a .size; rest = b .rest ∙ a .rest }
-
-pub kept-set : (n : ℕ) (l : List ℕ) (i v : ℕ) → i < n → Kept n l (set l i v)
-kept-set n l i v h = record { size = length-set l i v; rest = drop-set-lt n l i v h }
 
 pub kept-further : (m n : ℕ) (l r : List ℕ) → n ≤ m → Kept n l r → Kept m l r
 kept-further m n l r h k =

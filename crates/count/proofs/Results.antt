@@ -8,28 +8,28 @@ use Prim.Native.Nat.{ℕ, _*_, _≤_, _<_}
 use native.Mathlib.Nat.{not-suc-le-zero}
 use native.Mathlib.Omega.{arith}
 use lib.ListN.{length, getD, drop}
-use Rattle.node.specs.Answers.{Answer, gives, refused, firstOf}
+use Rattle.answers.specs.Answers.{Answer, gives, refused, firstOf}
 use Rattle.node.specs.Nodes.{KBWG}
 use Rattle.graph.specs.Runs.{Graph}
 use Rattle.graph.specs.Words.{count}
 use Rattle.graph.specs.LoopLaws.{reach-inside}
 use Rattle.laws.specs.Cleared.{cleared}
 use Rattle.graph.specs.TableLaws.{begins-with-table}
-use Rattle.graph.specs.Counting.{table, Loopless, countRow, Counted, unfit, loop, many, all}
+use Rattle.graph.specs.Counting.{table, Loopless, countRow, IsCounted, unfit, loop, many, all}
 use Rattle.graph.specs.Lent.{WorkKept, work-untouched}
-use Rattle.count.specs.Walk.{mark, isMet, isDone, Walk, AllDone, LoopFound, ReachesIs}
+use Rattle.count.specs.CountWalk.{mark, isMet, isDone, CountWalk, AllDone, LoopFound, ReachesIs}
 use Rattle.count.proofs.Lists.{cleared-of-kept}
 use Rattle.count.proofs.Rows.{counts-room}
 use Rattle.count.proofs.Tally.{tally-zero}
 
 -- a refusal before the walk leaves both lists as they were
 pub unfit-answer : (limit : ℕ) (g : Graph) (c w : List ℕ) {r : Answer} → firstOf (countRow g (length c) (length w)) ≡ some r
-    → Counted limit g c (length w) r c × WorkKept (countRow g (length c) (length w)) (2 * length g) w w
+    → IsCounted limit g c (length w) r c × WorkKept (countRow g (length c) (length w)) (2 * length g) w w
 unfit-answer limit g c w e = (unfit e, work-untouched refl)
 
 -- the walk begins with all marks 0
 pub walk-start : (limit : ℕ) (g : Graph) (c w : List ℕ) → 2 * length g ≤ length w → length g ≤ length c
-    → ((k : ℕ) → k < length g → mark w k ≡ 0) → Walk limit g c w 0
+    → ((k : ℕ) → k < length g → mark w k ≡ 0) → CountWalk limit g c w 0
 walk-start limit g c w r s z =
     let m = tally-zero isMet w (length g) refl z in
     let d = tally-zero isDone w (length g) refl z in
@@ -43,14 +43,14 @@ walk-start limit g c w r s z =
     }
 
 module _ (limit : ℕ) (g : Graph) (c : List ℕ) (work : ℕ) (w c′ w′ : List ℕ) (fit : firstOf (countRow g (length c) work) ≡ none) where
-  pub loop-answer : (q : ℕ) → LoopFound g c w c′ w′ q → Counted limit g c work (refused 12 (q ∷ [])) (cleared (length g) c′)
+  pub loop-answer : (q : ℕ) → LoopFound g c w c′ w′ q → IsCounted limit g c work (refused 12 (q ∷ [])) (cleared (length g) c′)
   loop-answer q L = rw (cleared-of-kept (length g) c c′ (L .counts-kept)) (loop fit (L .loops))
 
   module _ (A : AllDone limit g c w c′ w′) where
     loopless : Loopless g
     loopless q l = A .clear q (reach-inside KBWG l) .itself l
 
-    pub many-answer : ReachesIs limit c′ (length g) true → Counted limit g c work (refused 13 []) (cleared (length g) c′)
+    pub many-answer : ReachesIs limit c′ (length g) true → IsCounted limit g c work (refused 13 []) (cleared (length g) c′)
     many-answer m =
         let e = A .counted (m .0) (m .1) in
         let h = m .2 in
@@ -70,5 +70,5 @@ module _ (limit : ℕ) (g : Graph) (c : List ℕ) (work : ℕ) (w c′ w′ : Li
           begins-with-table (length g) (count KBWG g) c′ (omega arith) exact
           ∙ ap (table (length g) (count KBWG g) ++_) (A .counts-kept .rest)
 
-      pub all-answer : Counted limit g c work (gives []) c′
-      all-answer = subst (λ l. Counted limit g c work (gives []) l) (sym after) (all fit loopless few)
+      pub all-answer : IsCounted limit g c work (gives []) c′
+      all-answer = subst (λ l. IsCounted limit g c work (gives []) l) (sym after) (all fit loopless few)

@@ -7,15 +7,15 @@ use native.Mathlib.Omega.{arith}
 use lib.ListN.{length}
 use Rattle.graph.specs.Runs.{Graph}
 use Rattle.graph.specs.ChecksLaws.{Fit}
-use Rattle.graph.specs.Lent.{Kept}
-use Rattle.count.specs.Walk.{mark, pushed, mets, dones, Done, Walk, Stepped, AllDone, LoopFound}
-use Rattle.count.proofs.Lists.{kept-all, kept-then}
+use Rattle.graph.specs.Lent.{Kept, kept-then}
+use Rattle.count.specs.CountWalk.{mark, pushed, mets, dones, Done, CountWalk, StepTaken, AllDone, LoopFound}
+use Rattle.count.proofs.Lists.{kept-all}
 use Rattle.count.proofs.Tally.{same?, mets-le, dones-le}
 use Rattle.count.proofs.WalkLaws.{pushed-walk}
 
 -- so many roots are left; those after them are met, and the walk from a root ends before the next
 pub record Roots (limit : ℕ) (g : Graph) (c₀ w₀ c w : List ℕ) (roots size : ℕ) : Type 0 where
-  pub walk : Walk limit g c w size
+  pub walk : CountWalk limit g c w size
   pub passed : (k : ℕ) → roots ≤ k → k < length g → mark w k ≢ 0
   pub within : roots ≤ length g
   pub idle : roots ≡ 0 → size ≡ 0
@@ -26,7 +26,7 @@ pub record Roots (limit : ℕ) (g : Graph) (c₀ w₀ c w : List ℕ) (roots siz
 abbrev pub turns : Graph → List ℕ → ℕ → ℕ
 turns g w roots = 2 * length g + roots - (mets g w + dones g w)
 
-pub roots-start : (limit : ℕ) (g : Graph) (c w : List ℕ) → Walk limit g c w 0 → Roots limit g c w c w (length g) 0
+pub roots-start : (limit : ℕ) (g : Graph) (c w : List ℕ) → CountWalk limit g c w 0 → Roots limit g c w c w (length g) 0
 roots-start limit g c w W =
     record {
       walk = W;
@@ -39,7 +39,7 @@ roots-start limit g c w W =
 
 module _ (limit : ℕ) (g : Graph) (c₀ w₀ c w : List ℕ) (roots size : ℕ) (R : Roots limit g c₀ w₀ c w roots size) where
   -- a step of the walk
-  module _ (b : 0 < roots) (c′ w′ : List ℕ) (size′ : ℕ) (S : Stepped limit g c w c′ w′ size′) where
+  module _ (b : 0 < roots) (c′ w′ : List ℕ) (size′ : ℕ) (S : StepTaken limit g c w c′ w′ size′) where
     pub roots-step : Roots limit g c₀ w₀ c′ w′ roots size′
     roots-step =
         record {
@@ -78,10 +78,10 @@ module _ (limit : ℕ) (g : Graph) (c₀ w₀ c w : List ℕ) (roots size : ℕ)
       omega arith
 
   -- a root that is new
-  pub root-steps : Fit g → 0 < roots → size ≡ 0 → mark w (roots - 1) ≡ 0 → Stepped limit g c w c (pushed w (length g) 0 (roots - 1)) 1
+  pub root-steps : Fit g → 0 < roots → size ≡ 0 → mark w (roots - 1) ≡ 0 → StepTaken limit g c w c (pushed w (length g) 0 (roots - 1)) 1
   root-steps K b z n =
       let l = R .within in
-      pushed-walk limit g c w 0 K (subst (λ k. Walk limit g c w k) z (R .walk)) (roots - 1) (omega arith) n (λ i e. absurd (omega arith))
+      pushed-walk limit g c w 0 K (subst (λ k. CountWalk limit g c w k) z (R .walk)) (roots - 1) (omega arith) n (λ i e. absurd (omega arith))
 
   pub roots-loop : (c′ w′ : List ℕ) (q : ℕ) → LoopFound g c w c′ w′ q → LoopFound g c₀ w₀ c′ w′ q
   roots-loop c′ w′ q L =

@@ -8,8 +8,8 @@ use borrow.Author.Tests.{lt-ltb, le-ltb, ltb-false}
 use lib.Dec.{ltb}
 use lib.ListN.{length, drop}
 use Rattle.laws.specs.Cases.{or-false-left, or-false-right}
-use Rattle.node.specs.Answers.{Answer, refused, Row, firstOf}
-use Rattle.node.specs.RowLaws.{row-refuses, row-passes, row-passed, row-ends, rows-refuse, rows-pass, rows-passed}
+use Rattle.answers.specs.Answers.{Answer, refused, Row, firstOf}
+use Rattle.answers.specs.RowLaws.{row-refuses, row-passes, row-passed, row-ends, rows-refuse, rows-pass, rows-passed}
 use Rattle.graph.specs.Runs.{Graph}
 use Rattle.graph.specs.Checks.{graphRow}
 use Rattle.graph.specs.ChecksLaws.{Fit, fit}

@@ -9,7 +9,7 @@ use native.Mathlib.Omega.{arith}
 use lib.ListN.{length, getD, set}
 use lib.Seq.{getD-set-same, getD-set-other}
 use Rattle.graph.specs.Runs.{Graph}
-use Rattle.count.specs.Walk.{tally, isMet, isDone, mets, dones}
+use Rattle.count.specs.CountWalk.{tally, isMet, isDone, mets, dones}
 
 pub same? : (a b : ℕ) → (a ≡ b) ⊎ (a ≢ b)
 same? a b = elim (ℕ-discrete a b) [ yes e ↦ inl e | no n ↦ inr n ]

@@ -14,13 +14,14 @@ use Rattle.graph.specs.Loops.{Step, Reach, once, then, Loops, Clear}
 use Rattle.graph.specs.ChecksLaws.{Fit}
 use Rattle.graph.specs.LoopLaws.{step-inside, clear-above}
 use Rattle.graph.specs.CountLaws.{sumAt, count-equation, sum-capped}
-use Rattle.count.specs.Walk.{mark, done, stacked, pushed, isMet, isDone, mets, dones, Open, Entry, Done, Walk, Stepped}
-use Rattle.count.proofs.Lists.{kept-all, kept-then, kept-set}
+use Rattle.count.specs.CountWalk.{mark, done, stacked, pushed, isMet, isDone, mets, dones, Open, Entry, Done, CountWalk, StepTaken}
+use Rattle.graph.specs.Lent.{kept-then, kept-set}
+use Rattle.count.proofs.Lists.{kept-all}
 use Rattle.count.proofs.Tally.{same?, tally-inside, tally-outside, mets-le}
 
-module _ (limit : ℕ) (g : Graph) (c w : List ℕ) (size : ℕ) (K : Fit g) (W : Walk limit g c w size) where
+module _ (limit : ℕ) (g : Graph) (c w : List ℕ) (size : ℕ) (K : Fit g) (W : CountWalk limit g c w size) where
   -- the stack holds no more nodes than there are
-  pub size-le : size ≤ length g
+  size-le : size ≤ length g
   size-le =
       let a = W .tallied in
       let l = mets-le g w in
@@ -160,7 +161,7 @@ module _ (limit : ℕ) (g : Graph) (c w : List ℕ) (size : ℕ) (K : Fit g) (W 
           (λ l. rw (at-entry (suc i) l) (W .path i l))
           (eq-or-lt-of-le (omega arith)))
 
-      pub pushed-walk : Stepped limit g c w c (pushed w (length g) size q) (size + 1)
+      pub pushed-walk : StepTaken limit g c w c (pushed w (length g) size q) (size + 1)
       unfolding w′
       pushed-walk =
           let a = W .tallied in
@@ -179,10 +180,12 @@ module _ (limit : ℕ) (g : Graph) (c w : List ℕ) (size : ℕ) (K : Fit g) (W 
             met = still-met;
             on = omega arith;
             counts-kept = kept-all (length g) c;
-            work-kept = kept-then (kept-set (2 * length g) w q (size + 1) (omega arith)) (kept-set (2 * length g) (set w q (size + 1)) (length g + size) q (omega arith));
+            work-kept =
+                kept-then (kept-set (2 * length g) w q (size + 1) (omega arith))
+                (kept-set (2 * length g) (set w q (size + 1)) (length g + size) q (omega arith));
           }
 
-  pub done-of : (q : ℕ) → q < length g → mark w q ≡ done → Done limit g c w q
+  done-of : (q : ℕ) → q < length g → mark w q ≡ done → Done limit g c w q
   done-of q h f =
       ⊎-elim
       (λ z. absurd (omega arith))
@@ -192,7 +195,7 @@ module _ (limit : ℕ) (g : Graph) (c w : List ℕ) (size : ℕ) (K : Fit g) (W 
       y)
       (W .marks q h)
 
-  pub open-of : (q : ℕ) → q < length g → mark w q ≢ 0 → mark w q ≢ done → Open g w size q
+  open-of : (q : ℕ) → q < length g → mark w q ≢ 0 → mark w q ≢ done → Open g w size q
   open-of q h n f = ⊎-elim (λ z. absurd (n z)) (λ y. ⊎-elim (λ o. absurd (f (o .marked))) (λ o. o) y) (W .marks q h)
 
   -- ---- the top is counted, by nodes that are done, and goes off the stack
@@ -312,7 +315,7 @@ module _ (limit : ℕ) (g : Graph) (c w : List ℕ) (size : ℕ) (K : Fit g) (W 
         (λ x. n (sym (other-w k x) ∙ z))
         (same? k p)
 
-    pub counted-walk : Stepped limit g c w (set c p v) (set w p done) s
+    counted-walk : StepTaken limit g c w (set c p v) (set w p done) s
     unfolding w″ c″
     counted-walk =
         let a = W .tallied in
@@ -335,7 +338,7 @@ module _ (limit : ℕ) (g : Graph) (c w : List ℕ) (size : ℕ) (K : Fit g) (W 
         }
 
 -- ---- the same by the code's terms: p is what stands at the top of the stack
-module _ (limit : ℕ) (g : Graph) (c w : List ℕ) (size : ℕ) (K : Fit g) (W : Walk limit g c w size) (some : 0 < size) where
+module _ (limit : ℕ) (g : Graph) (c w : List ℕ) (size : ℕ) (K : Fit g) (W : CountWalk limit g c w size) (some : 0 < size) where
   pub top-place : length g + (size - 1) < length w
   top-place =
       let l = size-le limit g c w size K W in
@@ -351,11 +354,11 @@ module _ (limit : ℕ) (g : Graph) (c w : List ℕ) (size : ℕ) (K : Fit g) (W 
       step-loops f n =
           loop-closed limit g c w size K W q (size - 1) (omega arith) (rw top at d) (open-of limit g c w size K W q (step-inside (K .steps) d) n f)
 
-      pub step-pushes : mark w q ≡ 0 → Stepped limit g c w c (pushed w (length g) size q) (size + 1)
+      pub step-pushes : mark w q ≡ 0 → StepTaken limit g c w c (pushed w (length g) size q) (size + 1)
       step-pushes n =
           pushed-walk limit g c w size K W q (step-inside (K .steps) d) n
           (λ i e. subst (λ k. Step KBWG g k q) (top ∙ ap (stacked g w) (omega arith)) d)
 
     pub step-counts : ((q : ℕ) → Step KBWG g p q → mark w q ≡ done) → (v : ℕ) → v ≡ min (sumAt KBWG g (λ q. getD c q 0) p) limit
-        → Stepped limit g c w (set c p v) (set w p done) (size - 1)
+        → StepTaken limit g c w (set c p v) (set w p done) (size - 1)
     step-counts all v e = counted-walk limit g c w size K W (size - 1) (omega arith) p (sym top) all v e

@@ -7,14 +7,14 @@ ghost use mathlib.Core.Path.{_≡_};
 ghost use mathlib.Core.Option.{none};
 ghost use Prim.Native.Nat.{_*_};
 ghost use lib.ListN.{length};
-ghost use Rattle.node.specs.Answers.{firstOf};
-ghost use Rattle.graph.specs.Counting.{Counted as IsCounted, countRow};
+ghost use Rattle.answers.specs.Answers.{firstOf};
+ghost use Rattle.graph.specs.Counting.{IsCounted, countRow, countLimit};
 ghost use Rattle.graph.specs.Lent.{Kept, WorkKept};
-ghost use Rattle.count.specs.Said.{limit, said};
+ghost use Rattle.count.specs.Said.{saidCounting};
+use base::clear;
 use counts::reaches_limit;
 use graph::GraphCheck;
-use lists::clear;
-use walk::Found;
+use walk::MaybeNode;
 use walk::walk;
 
 pub enum Counted {
@@ -30,17 +30,18 @@ pub enum Counted {
 // Counts the words once the checks have passed.
 fn count_checked(nodes: &[u32], counts: &mut [u32], work: &mut [u32]) -> Counted
     requires { ⌜ firstOf (countRow (now nodes) (length (now counts)) (length (now work))) ≡ none ⌝ }
-    ensures counted { λ r. ⌜ IsCounted limit (now (nodes .entry)) (now (counts .entry)) (length (now (work .entry))) (said r) (now (counts .exit)) ⌝ }
+    ensures counted { λ r. ⌜ IsCounted countLimit (now (nodes .entry)) (now (counts .entry)) (length (now (work .entry)))
+        (saidCounting r) (now (counts .exit)) ⌝ }
     ensures free { λ r. ⌜ Kept (2 * length (now (nodes .entry))) (now (work .entry)) (now (work .exit)) ⌝ }
 {
     let n = nodes.len();
     clear(work, n);
     match walk(nodes, counts, work) {
-        Found::At(q) => {
+        MaybeNode::At(q) => {
             clear(counts, n);
             Counted::Loops(q as u32)
         }
-        Found::Nothing => {
+        MaybeNode::Nothing => {
             if reaches_limit(counts, n) {
                 clear(counts, n);
                 return Counted::TooMany;
@@ -52,8 +53,10 @@ fn count_checked(nodes: &[u32], counts: &mut [u32], work: &mut [u32]) -> Counted
 
 // Puts the number of words from each node into counts.
 pub fn count_words(nodes: &[u32], counts: &mut [u32], work: &mut [u32]) -> Counted
-    ensures counted { λ r. ⌜ IsCounted limit (now (nodes .entry)) (now (counts .entry)) (length (now (work .entry))) (said r) (now (counts .exit)) ⌝ }
-    ensures free { λ r. ⌜ WorkKept (countRow (now (nodes .entry)) (length (now (counts .entry))) (length (now (work .entry)))) (2 * length (now (nodes .entry))) (now (work .entry)) (now (work .exit)) ⌝ }
+    ensures counted { λ r. ⌜ IsCounted countLimit (now (nodes .entry)) (now (counts .entry)) (length (now (work .entry)))
+        (saidCounting r) (now (counts .exit)) ⌝ }
+    ensures free { λ r. ⌜ WorkKept (countRow (now (nodes .entry)) (length (now (counts .entry))) (length (now (work .entry))))
+        (2 * length (now (nodes .entry))) (now (work .entry)) (now (work .exit)) ⌝ }
 {
     let n = nodes.len();
     match graph::check_graph(nodes) {

@@ -3,21 +3,13 @@ ghost use mathlib.Core.Path.{_≡_};
 ghost use mathlib.Core.Bool.{false};
 ghost use Prim.Native.Nat.{_+_, _<_, _≤_, min};
 ghost use lib.ListN.{length, getD};
-ghost use Rattle.node.specs.Nodes.{KBWG, arc, accepts, isEnd, flag};
+ghost use Rattle.graph.specs.Counting.{countLimit};
+ghost use Rattle.base.specs.Numbers.{flag};
+ghost use Rattle.node.specs.Nodes.{KBWG, arc, accepts, isEnd};
 ghost use Rattle.graph.specs.ChecksLaws.{Fit};
 ghost use Rattle.graph.specs.CountLaws.{byArc, byRun, sumAt};
-ghost use Rattle.count.specs.Said.{limit};
+use base::capped_sum;
 use node::Node24;
-
-// The lowest count that is too many.
-pub(crate) const LIMIT: u32 = 4294967295;
-
-// The sum, or the limit where the sum is larger.
-fn capped_sum(a: u32, b: u32) -> u32
-    ensures { λ r. ⌜ r ≡ min (a + b) limit ⌝ }
-{
-    if LIMIT - b < a { LIMIT } else { a + b }
-}
 
 // The word that ends at the node itself.
 fn own_word(node: u32) -> u32
@@ -54,7 +46,7 @@ pub(crate) fn count_at(nodes: &[u32], counts: &[u32], p: usize) -> u32
     requires { ⌜ Fit (now nodes) ⌝ }
     requires { ⌜ p < length (now nodes) ⌝ }
     requires { ⌜ length (now nodes) ≤ length (now counts) ⌝ }
-    ensures { λ r. ⌜ r ≡ min (sumAt KBWG (now (nodes .entry)) (λ q. getD (now (counts .entry)) q 0) p) limit ⌝ }
+    ensures { λ r. ⌜ r ≡ min (sumAt KBWG (now (nodes .entry)) (λ q. getD (now (counts .entry)) q 0) p) countLimit ⌝ }
 {
     let node = nodes[p];
     let own = own_word(node);

@@ -4,9 +4,9 @@
 ghost use mathlib.Core.Path.{_≡_};
 ghost use Prim.Native.Nat.{_*_, _<_, _≤_};
 ghost use lib.ListN.{length};
+ghost use Rattle.graph.specs.Counting.{countLimit};
 ghost use Rattle.graph.specs.ChecksLaws.{Fit};
-ghost use Rattle.count.specs.Said.{limit};
-ghost use Rattle.count.specs.Walk.{Walk, NextIs, StepIs, WalkedIs, pushed};
+ghost use Rattle.count.specs.CountWalk.{CountWalk, NextIs, StepIs, WalkedIs, pushed};
 use crate::sums::count_at;
 use node::Node24;
 
@@ -14,7 +14,7 @@ use node::Node24;
 const DONE: u32 = 4294967295;
 
 // A node that was looked for, if there is one.
-pub enum Found {
+pub enum MaybeNode {
     Nothing,
     At(usize),
 }
@@ -26,7 +26,7 @@ enum AfterStep {
 }
 
 // The first node that p leads to and that is not done.
-fn next_to_count(nodes: &[u32], work: &[u32], p: usize) -> Found
+fn next_to_count(nodes: &[u32], work: &[u32], p: usize) -> MaybeNode
     requires { ⌜ Fit (now nodes) ⌝ }
     requires { ⌜ p < length (now nodes) ⌝ }
     requires { ⌜ length (now nodes) ≤ length (now work) ⌝ }
@@ -36,16 +36,16 @@ fn next_to_count(nodes: &[u32], work: &[u32], p: usize) -> Found
     let arc = Node24(node).arc_index() as usize;
     if arc != 0 {
         if work[arc] != DONE {
-            return Found::At(arc);
+            return MaybeNode::At(arc);
         }
     }
     if Node24(node).is_end() {
-        return Found::Nothing;
+        return MaybeNode::Nothing;
     }
     if work[p + 1] != DONE {
-        return Found::At(p + 1);
+        return MaybeNode::At(p + 1);
     }
-    Found::Nothing
+    MaybeNode::Nothing
 }
 
 // Puts q on the stack of so many nodes above n marks.
@@ -65,20 +65,20 @@ fn push(work: &mut [u32], n: usize, size: usize, q: usize)
 fn take_step(nodes: &[u32], counts: &mut [u32], work: &mut [u32], size: usize) -> AfterStep
     requires { ⌜ Fit (now nodes) ⌝ }
     requires { ⌜ 0 < size ⌝ }
-    requires { ⌜ Walk limit (now nodes) (now counts) (now work) size ⌝ }
-    ensures { λ r. ⌜ StepIs limit (now (nodes .entry)) (now (counts .entry)) (now (work .entry)) (now (counts .exit)) (now (work .exit)) r ⌝ }
+    requires { ⌜ CountWalk countLimit (now nodes) (now counts) (now work) size ⌝ }
+    ensures { λ r. ⌜ StepIs countLimit (now (nodes .entry)) (now (counts .entry)) (now (work .entry)) (now (counts .exit)) (now (work .exit)) r ⌝ }
 {
     let n = nodes.len();
     let p = work[n + (size - 1)] as usize;
     match next_to_count(nodes, work, p) {
-        Found::At(q) => {
+        MaybeNode::At(q) => {
             if work[q] != 0 {
                 return AfterStep::LoopAt(q);
             }
             push(work, n, size, q);
             AfterStep::Stack(size + 1)
         }
-        Found::Nothing => {
+        MaybeNode::Nothing => {
             counts[p] = count_at(nodes, counts, p);
             work[p] = DONE;
             AfterStep::Stack(size - 1)
@@ -87,10 +87,10 @@ fn take_step(nodes: &[u32], counts: &mut [u32], work: &mut [u32], size: usize) -
 }
 
 // Counts every node, or finds one that loops. Every node is a root, the last first: the rest of a root's run is then done before it.
-pub(crate) fn walk(nodes: &[u32], counts: &mut [u32], work: &mut [u32]) -> Found
+pub(crate) fn walk(nodes: &[u32], counts: &mut [u32], work: &mut [u32]) -> MaybeNode
     requires { ⌜ Fit (now nodes) ⌝ }
-    requires { ⌜ Walk limit (now nodes) (now counts) (now work) 0 ⌝ }
-    ensures { λ r. ⌜ WalkedIs limit (now (nodes .entry)) (now (counts .entry)) (now (work .entry)) (now (counts .exit)) (now (work .exit)) r ⌝ }
+    requires { ⌜ CountWalk countLimit (now nodes) (now counts) (now work) 0 ⌝ }
+    ensures { λ r. ⌜ WalkedIs countLimit (now (nodes .entry)) (now (counts .entry)) (now (work .entry)) (now (counts .exit)) (now (work .exit)) r ⌝ }
 {
     let n = nodes.len();
     let mut roots = n;
@@ -109,10 +109,10 @@ pub(crate) fn walk(nodes: &[u32], counts: &mut [u32], work: &mut [u32]) -> Found
                     size = s;
                 }
                 AfterStep::LoopAt(q) => {
-                    return Found::At(q);
+                    return MaybeNode::At(q);
                 }
             }
         }
     }
-    Found::Nothing
+    MaybeNode::Nothing
 }

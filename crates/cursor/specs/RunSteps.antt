@@ -2,7 +2,7 @@
 use mathlib.Core.Bool.{not}
 use mathlib.Core.List.{[], _∷_}
 use Prim.Native.Nat.{ℕ, suc}
-use Rattle.node.specs.Answers.{Answer, gives, nothing, refused}
+use Rattle.answers.specs.Answers.{Answer, gives, nothing, refused}
 use Rattle.node.specs.Nodes.{KBWG, isEnd}
 use Rattle.graph.specs.Runs.{Graph}
 use Rattle.lookup.specs.Steps.{on, _>>=_, answer, require, lentPart, lent}
@@ -25,11 +25,11 @@ pub record Moves : Type 0 where
   pub at : ℕ
 
 -- "moves to the next node"; "and stays": a cursor that is given no node is where it was
-abbrev pub reached : Answer → ℕ → ℕ
-reached (gives []) p = p
-reached (gives (q ∷ qs)) p = q
-reached nothing p = p
-reached (refused n vs) p = p
+abbrev pub nodeReached : Answer → ℕ → ℕ
+nodeReached (gives []) p = p
+nodeReached (gives (q ∷ qs)) p = q
+nodeReached nothing p = p
+nodeReached (refused n vs) p = p
 
 abbrev pub moves : Graph → ℕ → Moves
-moves g p = record { answer = runStep g p; at = reached (runStep g p) p }
+moves g p = record { answer = runStep g p; at = nodeReached (runStep g p) p }

@@ -2,7 +2,7 @@
 use mathlib.Core.Path.{_≡_}
 use mathlib.Core.List.{[], _∷_}
 use denote.Ref.{now}
-use Rattle.node.specs.Answers.{Answer, gives, nothing, refused}
+use Rattle.answers.specs.Answers.{Answer, gives, nothing, refused}
 use Rattle.cursor.specs.RunSteps.{Moves, moves}
 use Rattle.cursor.specs.declared.Stepped.{Stepped}
 use Rattle.cursor.specs.declared.Stepped.the-variants.{To, Done, NotLent}

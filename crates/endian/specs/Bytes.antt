@@ -1,7 +1,7 @@
 -- Numbers in the bytes of a file: "files are little-endian" (document 01, "Nodes and words"), "Macondo (big-endian)".
 use mathlib.Core.List.{List, [], _∷_, _++_}
 use Prim.Native.Nat.{ℕ, zero, suc, _+_, _*_, _/_, _%_, _^_}
-use lib.ListN.{take, drop}
+use lib.ListN.{getD, take, drop}
 
 -- ---- the lowest byte first, four bytes a number
 abbrev pub fromBytes : ℕ → ℕ → ℕ → ℕ → ℕ
@@ -9,6 +9,10 @@ fromBytes a b c d = a + b * 2 ^ 8 + c * 2 ^ 16 + d * 2 ^ 24
 
 abbrev pub toBytes : ℕ → List ℕ
 toBytes v = v % 2 ^ 8 ∷ v / 2 ^ 8 % 2 ^ 8 ∷ v / 2 ^ 16 % 2 ^ 8 ∷ v / 2 ^ 24 % 2 ^ 8 ∷ []
+
+-- the node that begins at byte i
+abbrev pub nodeAt : List ℕ → ℕ → ℕ
+nodeAt s i = fromBytes (getD s i 0) (getD s (i + 1) 0) (getD s (i + 2) 0) (getD s (i + 3) 0)
 
 -- the whole nodes
 unfoldable pub wholeNodes : List ℕ → List ℕ

@@ -6,11 +6,7 @@ use native.Mathlib.Omega.{arith}
 use native.Mathlib.Numerals.{add-one, add-two, add-three, add-four}
 use lib.ListN.{length, getD, drop, length-drop}
 use lib.Seq.{drop-cons}
-use Rattle.endian.specs.Bytes.{fromBytes, wholeNodes, partNode}
-
--- the node that begins at byte i
-abbrev pub nodeAt : List ℕ → ℕ → ℕ
-nodeAt s i = fromBytes (getD s i 0) (getD s (i + 1) 0) (getD s (i + 2) 0) (getD s (i + 3) 0)
+use Rattle.endian.specs.Bytes.{nodeAt, wholeNodes, partNode}
 
 drop-four : (s : List ℕ) (i : ℕ) → i + 4 ≤ length s
     → drop i s ≡ getD s i 0 ∷ getD s (i + 1) 0 ∷ getD s (i + 2) 0 ∷ getD s (i + 3) 0 ∷ drop (i + 4) s

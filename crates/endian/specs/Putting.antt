@@ -5,7 +5,7 @@ use Prim.Native.Nat.{ℕ, _+_, _≤_}
 use native.Mathlib.Omega.{arith}
 use lib.ListN.{length, length-append}
 use lib.Seq.{sets, length-sets}
-use Rattle.laws.specs.Sets.{sets-append}
+use Rattle.laws.specs.ListWrites.{sets-append}
 
 -- of `all`, which goes to `at` over the bytes `before`, `rest` is left, which goes to w over the bytes now
 pub record Putting (all before : List ℕ) (at : ℕ) (rest now : List ℕ) (w : ℕ) : Type 0 where

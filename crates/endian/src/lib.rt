@@ -1,9 +1,9 @@
 // Numbers in the bytes of a file. The calls that read and write files use these; each asks that its bytes are there.
 ghost use mathlib.Core.Path.{_≡_};
 ghost use Prim.Native.Nat.{_+_, _*_, _<_, _≤_};
-ghost use lib.ListN.{length, getD};
+ghost use lib.ListN.{length};
 ghost use lib.Seq.{sets};
-ghost use Rattle.endian.specs.Bytes.{fromBytes, toBytes, bigEndian};
+ghost use Rattle.endian.specs.Bytes.{fromBytes, toBytes, nodeAt, bigEndian};
 
 pub fn from_le_bytes(a: u8, b: u8, c: u8, d: u8) -> u32
     ensures { λ r. ⌜ r ≡ fromBytes a b c d ⌝ }
@@ -14,7 +14,7 @@ pub fn from_le_bytes(a: u8, b: u8, c: u8, d: u8) -> u32
 // The number in the four bytes from p on, which must be there.
 pub fn read_le_u32(bytes: &[u8], p: usize) -> u32
     requires { ⌜ p + 3 < length (now bytes) ⌝ }
-    ensures { λ r. ⌜ r ≡ fromBytes (getD (now (bytes .entry)) p 0) (getD (now (bytes .entry)) (p + 1) 0) (getD (now (bytes .entry)) (p + 2) 0) (getD (now (bytes .entry)) (p + 3) 0) ⌝ }
+    ensures { λ r. ⌜ r ≡ nodeAt (now (bytes .entry)) p ⌝ }
 {
     from_le_bytes(bytes[p], bytes[p + 1], bytes[p + 2], bytes[p + 3])
 }

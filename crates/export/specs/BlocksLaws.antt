@@ -3,7 +3,8 @@
 use mathlib.Core.Path.{_≡_, refl, ap, _∙_, sym, subst}
 use mathlib.Core.Bool.{true, false}
 use mathlib.Core.Logic.{_⊎_, inl, inr, ⊎-elim}
-use mathlib.Core.List.{List, [], _∷_, _++_, map, List·Memᴰ, List·Memᴰ·head, List·Memᴰ·tail, List·Memᴰ·not-nil, List·Memᴰ·cases-cons, List·Memᴰ·append-cases, List·Memᴰ·eq-of-singleton, Memᴰ·append-left, Memᴰ·append-right, Memᴰ·cast}
+use mathlib.Core.List.{List, [], _∷_, _++_, map, List·Memᴰ, List·Memᴰ·head, List·Memᴰ·tail, List·Memᴰ·not-nil, List·Memᴰ·cases-cons}
+use mathlib.Core.List.{List·Memᴰ·append-cases, List·Memᴰ·eq-of-singleton, Memᴰ·append-left, Memᴰ·append-right, Memᴰ·cast}
 use Prim.Native.Nat.{ℕ, zero, suc, zero-le, _+_, _≤_, _<_}
 use native.Mathlib.Nat.{add-zero, add-assoc}
 use native.Mathlib.Omega.{arith}
@@ -20,15 +21,15 @@ use Rattle.export.specs.Blocks.{each, met, blockAt, total}
 -- ---- what holds of the blocks seen, and still holds with one more that was not seen, holds of all that are met
 module _ (children : ℕ → List ℕ) (S : ℕ → Type 0) (stays : (p q : ℕ) → S p → List·Memᴰ q (children p) → S q)
     (P : List ℕ → Type 0) (more : (seen : List ℕ) (p : ℕ) → P seen → S p → member p seen ≡ false → P (seen ++ p ∷ [])) where
-  abbrev Held : ℕ → Type 0
-  Held k = (seen : List ℕ) (p : ℕ) → P seen → S p → P (met children k seen p)
+  abbrev MeetingHolds : ℕ → Type 0
+  MeetingHolds k = (seen : List ℕ) (p : ℕ) → P seen → S p → P (met children k seen p)
 
-  each-holds : (k : ℕ) → Held k → (qs seen : List ℕ) → P seen → ((q : ℕ) → List·Memᴰ q qs → S q) → P (each (met children k) seen qs)
+  each-holds : (k : ℕ) → MeetingHolds k → (qs seen : List ℕ) → P seen → ((q : ℕ) → List·Memᴰ q qs → S q) → P (each (met children k) seen qs)
   each-holds k f [] seen h s = h
   each-holds k f (q ∷ qs) seen h s =
       each-holds k f qs (met children k seen q) (f seen q h (s q (List·Memᴰ·head refl))) (λ r m. s r (List·Memᴰ·tail m))
 
-  pub met-holds : (k : ℕ) → Held k
+  met-holds : (k : ℕ) → MeetingHolds k
   unfolding met
   met-holds zero seen p h s = h
   met-holds (suc k) seen p h s =
@@ -37,7 +38,7 @@ module _ (children : ℕ → List ℕ) (S : ℕ → Type 0) (stays : (p q : ℕ)
       (λ t. rw (t, met) (each-holds k (met-holds k) (children p) (seen ++ p ∷ []) (more seen p h s t) (λ q m. stays p q s m)))
 
   -- the same from nothing seen, where it holds of the first block alone
-  pub met-from-first : (k p : ℕ) → P (p ∷ []) → S p → P (met children (suc k) [] p)
+  met-from-first : (k p : ℕ) → P (p ∷ []) → S p → P (met children (suc k) [] p)
   unfolding met
   met-from-first k p h s = each-holds k (met-holds k) (children p) (p ∷ []) h (λ q m. stays p q s m)
 
@@ -86,11 +87,11 @@ module _ (children : ℕ → List ℕ) where
   Low (suc k) p = (q : ℕ) → List·Memᴰ q (children p) → Low k q
 
   -- what was seen stays, and what was not has its children met
-  record Met (seen result : List ℕ) : Type 0 where
+  record MetOnward (seen result : List ℕ) : Type 0 where
     keeps : (x : ℕ) → List·Memᴰ x seen → List·Memᴰ x result
     closed : (x : ℕ) → List·Memᴰ x result → List·Memᴰ x seen ⊎ ((q : ℕ) → List·Memᴰ q (children x) → List·Memᴰ q result)
 
-  met-then : (a b c : List ℕ) → Met a b → Met b c → Met a c
+  met-then : (a b c : List ℕ) → MetOnward a b → MetOnward b c → MetOnward a c
   met-then a b c h k =
       record {
         keeps = λ x m. k .keeps x (h .keeps x m);
@@ -101,8 +102,8 @@ module _ (children : ℕ → List ℕ) where
       }
 
   -- a block with its children met
-  met-after : (seen result : List ℕ) (p : ℕ) → Met (seen ++ p ∷ []) result → ((q : ℕ) → List·Memᴰ q (children p) → List·Memᴰ q result)
-      → Met seen result
+  met-after : (seen result : List ℕ) (p : ℕ) → MetOnward (seen ++ p ∷ []) result → ((q : ℕ) → List·Memᴰ q (children p) → List·Memᴰ q result)
+      → MetOnward seen result
   met-after seen result p h own =
       record {
         keeps = λ x m. h .keeps x (Memᴰ·append-left (p ∷ []) m);
@@ -116,10 +117,10 @@ module _ (children : ℕ → List ℕ) where
       }
 
   abbrev MetFrom : ℕ → Type 0
-  MetFrom k = (seen : List ℕ) (p : ℕ) → Low k p → Met seen (met children k seen p) × List·Memᴰ p (met children k seen p)
+  MetFrom k = (seen : List ℕ) (p : ℕ) → Low k p → MetOnward seen (met children k seen p) × List·Memᴰ p (met children k seen p)
 
   each-met : (k : ℕ) → MetFrom k → (qs seen : List ℕ) → ((q : ℕ) → List·Memᴰ q qs → Low k q)
-      → Met seen (each (met children k) seen qs) × ((q : ℕ) → List·Memᴰ q qs → List·Memᴰ q (each (met children k) seen qs))
+      → MetOnward seen (each (met children k) seen qs) × ((q : ℕ) → List·Memᴰ q qs → List·Memᴰ q (each (met children k) seen qs))
   each-met k f [] seen l = (record { keeps = λ x m. m; closed = λ x m. inl m }, λ q m. absurd (List·Memᴰ·not-nil m))
   each-met k f (q ∷ qs) seen l =
       let a = f seen q (l q (List·Memᴰ·head refl)) in

@@ -1,4 +1,4 @@
--- Chains of runs that end: what the test of document 01's refusal 22 tells. The idea: where no chain from a node has over k runs, no
+-- Chains of runs that end: what follows from the test of document 01's refusal 22. The idea: where no chain from a node has over k runs, no
 -- chain has more runs than there are nodes to go to, because a run whose chains are shorter cannot lead to it.
 use mathlib.Core.Path.{_≡_, sym, ap, _∙_, subst}
 use mathlib.Core.Bool.{Bool, true, false, _&&_, not, true≢false}
@@ -21,6 +21,11 @@ use Rattle.graph.specs.RunLaws.{in-graph}
 use Rattle.graph.specs.WordsEquation.{in-order-ext, spelled-ext, Short, stable}
 use Rattle.export.specs.Starts.{runOf, hasArc, deeper}
 use Rattle.export.specs.BlocksLaws.{Low}
+
+-- with no run left every chain has too many
+pub deep-at-once : (g : Graph) (p left : ℕ) → left ≡ 0 → deeper g left p ≡ true
+unfolding deeper
+deep-at-once g p left z = rw z
 
 node-of : (g : Graph) (v : ℕ) → List·Memᴰ v g → (i : ℕ) × (i < length g) × (node g i ≡ v)
 node-of [] v m = absurd (List·Memᴰ·not-nil m)
@@ -117,7 +122,7 @@ module _ (g : Graph) where
     shallow-closed k p m e =
         shallow-within (length (shallow k)) (length xs) p (kept-length (λ x. not (deeper g k x)) xs) (shallow-count k p m e)
 
-  pub shallow-graph : Closed g → (k p : ℕ) → p < length g → deeper g k p ≡ false → deeper g (length g) p ≡ false
+  shallow-graph : Closed g → (k p : ℕ) → p < length g → deeper g k p ≡ false → deeper g (length g) p ≡ false
   shallow-graph c k p h e =
       let b = shallow-closed (below (length g)) (λ x q m n. in-below (length g) q (arcs-inside c x q n)) k p (in-below (length g) p h) e in
       rw (length-below (length g)) at b

@@ -1,14 +1,7 @@
 pub mod Starts
+pub mod RunOfLaws
+pub mod LabelLaws
 pub mod Blocks
 pub mod BlocksLaws
 pub mod ChainLaws
-pub mod Latin1
-pub mod Encoded
 pub mod Written
-pub mod Places
-pub mod PlacesLaws
-pub mod Survey
-pub mod SurveyLaws
-pub mod ReachLaws
-pub mod Depths
-pub mod DepthsLaws

@@ -8,10 +8,6 @@ use Rattle.laws.specs.Lists.{someOf}
 use Rattle.node.specs.Nodes.{KBWG, tile, arc}
 use Rattle.graph.specs.Runs.{Graph, node, run}
 
--- "The start node s is node 0's arc, for a Macondo gaddag node 1's arc; if that is 0, s is node 0": an arc of 0 is node 0's number
-abbrev pub start : Graph → ℕ → ℕ
-start g root = arc KBWG (node g root)
-
 -- "The run from node p"
 abbrev pub runOf : Graph → ℕ → List ℕ
 runOf g p = run KBWG (drop p g)

@@ -3,7 +3,7 @@ use mathlib.Core.List.{List, [], _∷_, _++_}
 use mathlib.Core.Option.{Option, none, some}
 use Prim.Native.Nat.{ℕ}
 use lib.ListN.{length, drop}
-use Rattle.node.specs.Answers.{Answer, gives}
+use Rattle.answers.specs.Answers.{Answer, gives}
 
 -- What the call answers, and the bytes after it.
 pub record Written : Type 0 where

@@ -1,15 +1,18 @@
-// What both writers of files for other programs share.
-mod labels;
-mod latin1;
-mod places;
-pub mod survey;
+// What both writers read of a graph and of its labels; the meaning of chains and blocks is in specs/.
+ghost use mathlib.Core.Path.{_≡_};
+ghost use Rattle.export.specs.Starts.{unlabelled};
+use node::Node24;
 
-pub use labels::lacks_label;
-pub use latin1::byte_of;
-pub use latin1::no_byte;
-pub use places::Place;
-pub use places::Tally;
-pub use places::depth_of;
-pub use places::keep_depth;
-pub use places::place_of;
-pub use places::push_block;
+// Whether some node's tile has no label.
+pub fn lacks_label(nodes: &[u32], labels: &[u32]) -> bool
+    ensures { λ r. ⌜ r ≡ unlabelled (now (nodes .entry)) (now (labels .entry)) ⌝ }
+{
+    let mut i = 0;
+    while i < nodes.len() {
+        if labels.len() <= Node24(nodes[i]).tile() as usize {
+            return true;
+        }
+        i += 1;
+    }
+    false
+}

@@ -4,14 +4,14 @@ use mathlib.Core.List.{[], _∷_}
 use types.Run.{OneOf, miss}
 use denote.Enum.Declared.{tagOf}
 use Rattle.macondo.proofs.Macondo as macondo
-use Rattle.macondo.specs.Said.{said as saidMacondo}
+use Rattle.macondo.specs.Said.{saidMacondo}
 use Rattle.macondo.specs.declared.Macondo.{Macondo}
 use Rattle.macondo.specs.declared.Macondo.the-variants as M
 use Rattle.lxd.proofs.Lxd as lxd
-use Rattle.lxd.specs.Said.{said as saidLxd}
+use Rattle.lxd.specs.Said.{saidLxd}
 use Rattle.lxd.specs.declared.Lxd.{Lxd}
 use Rattle.lxd.specs.declared.Lxd.the-variants as L
-use Rattle.node.specs.Answers.{Answer}
+use Rattle.answers.specs.Answers.{Answer}
 use Rattle.flat.specs.Flat.{refusalIn}
 use Rattle.flat.specs.FlatFiles.{fileOf, flatFile}
 use Rattle.flat.specs.declared.files.FlatFile.{FlatFile}

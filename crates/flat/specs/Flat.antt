@@ -5,7 +5,7 @@ use mathlib.Core.List.{List, [], _∷_}
 use Prim.Native.Nat.{ℕ}
 use lib.Dec.{eqb}
 use lib.ListN.{getD}
-use Rattle.node.specs.Answers.{Answer, gives, nothing, refused}
+use Rattle.answers.specs.Answers.{Answer, gives, nothing, refused}
 pub use Rattle.pieces.specs.Said.{refusalIn}
 use Rattle.node.specs.declared.Layout.{Layout}
 use Rattle.node.specs.declared.Layout.the-variants.{Kwg, Kbwg}
@@ -51,17 +51,17 @@ isGiven (gives vs) = true
 isGiven nothing = false
 isGiven (refused n vs) = false
 
-abbrev pub nodeIn : Answer → ℕ
-nodeIn (gives vs) = 0
-nodeIn nothing = 0
-nodeIn (refused n vs) = elim (eqb n 6 || eqb n 12) [ true ↦ getD vs 0 0 | false ↦ 0 ]
+abbrev pub nodeCarried : Answer → ℕ
+nodeCarried (gives vs) = 0
+nodeCarried nothing = 0
+nodeCarried (refused n vs) = elim (eqb n 6 || eqb n 12) [ true ↦ getD vs 0 0 | false ↦ 0 ]
 
 abbrev pub tileIn : Answer → ℕ
 tileIn (gives vs) = 0
 tileIn nothing = 0
 tileIn (refused n vs) = elim (eqb n 6) [ true ↦ getD vs 1 0 | false ↦ 0 ]
 
-abbrev pub arcIn : Answer → ℕ
-arcIn (gives vs) = 0
-arcIn nothing = 0
-arcIn (refused n vs) = elim (eqb n 6) [ true ↦ getD vs 2 0 | false ↦ elim (eqb n 8) [ true ↦ getD vs 0 0 | false ↦ 0 ] ]
+abbrev pub arcCarried : Answer → ℕ
+arcCarried (gives vs) = 0
+arcCarried nothing = 0
+arcCarried (refused n vs) = elim (eqb n 6) [ true ↦ getD vs 2 0 | false ↦ elim (eqb n 8) [ true ↦ getD vs 0 0 | false ↦ 0 ] ]

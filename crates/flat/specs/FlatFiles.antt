@@ -3,11 +3,11 @@ use mathlib.Core.Bool.{true, false}
 use mathlib.Core.List.{List, [], _∷_}
 use Prim.Native.Nat.{ℕ}
 use lib.Dec.{eqb}
-use Rattle.node.specs.Answers.{Answer, gives}
+use Rattle.answers.specs.Answers.{Answer, gives}
 use Rattle.export.specs.Written.{Written}
 use Rattle.macondo.specs.declared.MacondoFormat.{MacondoFormat}
 use Rattle.macondo.specs.declared.MacondoFormat.the-variants.{Dawg, Gaddag}
-use Rattle.flat.specs.Flat.{refusedOr, refusalIn, valueIn, arcIn}
+use Rattle.flat.specs.Flat.{refusedOr, refusalIn, valueIn, arcCarried}
 use Rattle.flat.specs.declared.files.FlatFile.{FlatFile}
 
 -- a format's number: 0 is a DAWG, every other number a GADDAG
@@ -22,4 +22,4 @@ abbrev pub fileWritten : FlatFile → List ℕ → Written
 fileWritten r bytes = record { answer = fileOf r; bytes = bytes }
 
 abbrev pub flatFile : Answer → FlatFile
-flatFile a = record { refusal = refusalIn a; arc = arcIn a; written = valueIn a }
+flatFile a = record { refusal = refusalIn a; arc = arcCarried a; written = valueIn a }

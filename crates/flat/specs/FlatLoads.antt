@@ -3,15 +3,15 @@ use mathlib.Core.Bool.{true, false}
 use mathlib.Core.List.{List, [], _∷_}
 use Prim.Native.Nat.{ℕ}
 use lib.Dec.{eqb}
-use Rattle.node.specs.Answers.{Answer, gives}
+use Rattle.answers.specs.Answers.{Answer, gives}
 use Rattle.graph.specs.Runs.{Graph}
-use Rattle.load.specs.Repacking.{misfitOf, misfitAnswer}
-use Rattle.load.specs.Loading.{Begins, Feeds, Finishes}
-use Rattle.load.specs.declared.repack.Repacked.{Repacked}
-use Rattle.load.specs.declared.repack.Repacked.the-variants.{Whole, DoesNotFit}
+use Rattle.load.specs.Repacking.{misfit, misfitAnswer}
+use Rattle.load.specs.Loading.{keptMisfit, Begins, Feeds, Finishes}
+use Rattle.load.specs.declared.loader.KeptRefusal.{KeptRefusal}
+use Rattle.load.specs.declared.loader.KeptRefusal.the-variants.{Nothing, DoesNotFit}
 use Rattle.load.specs.declared.loader.Loader.{Loader}
 use Rattle.pieces.specs.Said.{LoadLeft}
-use Rattle.flat.specs.Flat.{layoutOf, layoutNumber, refusedOr, plainly, refusalIn, valueIn, nodeIn, tileIn, arcIn}
+use Rattle.flat.specs.Flat.{layoutOf, layoutNumber, refusedOr, plainly, refusalIn, valueIn, nodeCarried, tileIn, arcCarried}
 use Rattle.flat.specs.declared.loading.FlatRepacked.{FlatRepacked}
 use Rattle.flat.specs.declared.loading.FlatLoader.{FlatLoader}
 use Rattle.flat.specs.declared.loading.FlatBegun.{FlatBegun}
@@ -24,11 +24,11 @@ abbrev pub repackedOf : FlatRepacked → Answer
 repackedOf r = refusedOr (r .refusal) (r .node) (r .tile) (r .arc) (gives [])
 
 abbrev pub flatRepacked : Answer → FlatRepacked
-flatRepacked a = record { refusal = refusalIn a; arc = arcIn a; node = nodeIn a; tile = tileIn a }
+flatRepacked a = record { refusal = refusalIn a; arc = arcCarried a; node = nodeCarried a; tile = tileIn a }
 
 -- ---- the state: "a refusal 6 once met" is kept where the state's refusal is not 0
-abbrev pub keptOf : ℕ → ℕ → ℕ → ℕ → Repacked
-keptOf n node tile arc = elim (eqb n 0) [ true ↦ Whole | false ↦ DoesNotFit node tile arc ]
+abbrev pub keptOf : ℕ → ℕ → ℕ → ℕ → KeptRefusal
+keptOf n node tile arc = elim (eqb n 0) [ true ↦ Nothing | false ↦ DoesNotFit (misfit node tile arc) ]
 
 abbrev pub stateOf : FlatLoader → Loader
 stateOf s =
@@ -41,8 +41,8 @@ stateOf s =
       kept = keptOf (s .refusal) (s .node) (s .tile) (s .arc);
     }
 
-abbrev pub keptAnswer : Loader → Answer
-keptAnswer s = misfitAnswer (misfitOf (s .kept))
+abbrev pub keptAnswer : KeptRefusal → Answer
+keptAnswer k = misfitAnswer (keptMisfit k)
 
 abbrev pub flatLoader : Loader → FlatLoader
 flatLoader s =
@@ -50,11 +50,11 @@ flatLoader s =
       announced = s .announced;
       taken = s .taken;
       «held_count» = s .«held_count»;
-      node = nodeIn (keptAnswer s);
+      node = nodeCarried (keptAnswer (s .kept));
       layout = layoutNumber (s .layout);
-      refusal = refusalIn (keptAnswer s);
-      arc = arcIn (keptAnswer s);
-      tile = tileIn (keptAnswer s);
+      refusal = refusalIn (keptAnswer (s .kept));
+      arc = arcCarried (keptAnswer (s .kept));
+      tile = tileIn (keptAnswer (s .kept));
       held = s .held;
     }
 
@@ -77,8 +77,8 @@ abbrev pub flatFed : Feeds → FlatFed
 flatFed f =
     record {
       refusal = refusalIn (f .answer);
-      arc = arcIn (f .answer);
-      node = nodeIn (f .answer);
+      arc = arcCarried (f .answer);
+      node = nodeCarried (f .answer);
       tile = tileIn (f .answer);
       loader = flatLoader (f .state);
     }
@@ -90,7 +90,7 @@ abbrev pub finishesOf : FlatFinished → Graph → Finishes
 finishesOf r nodes = record { answer = finishedOf r; nodes = nodes }
 
 abbrev pub flatFinished : Answer → FlatFinished
-flatFinished a = record { refusal = refusalIn a; arc = arcIn a; nodes = valueIn a; node = nodeIn a; tile = tileIn a }
+flatFinished a = record { refusal = refusalIn a; arc = arcCarried a; nodes = valueIn a; node = nodeCarried a; tile = tileIn a }
 
 -- ---- a whole load, with the lists that it left
 abbrev pub loadedOf : FlatLoaded → List ℕ → Graph → LoadLeft

@@ -4,7 +4,7 @@ use mathlib.Core.Bool.{Bool, true, false}
 use mathlib.Core.List.{List, [], _∷_, _++_}
 use Prim.Native.Nat.{ℕ}
 use lib.ListN.{length, drop}
-use Rattle.node.specs.Answers.{Answer, gives, nothing, refused}
+use Rattle.answers.specs.Answers.{Answer, gives, nothing, refused}
 use Rattle.graph.specs.Runs.{Graph}
 use Rattle.lookup.specs.Steps.{on, _>>=_, answer, lentPart, lent}
 use Rattle.cursor.specs.RunSteps.{Moves}
@@ -65,7 +65,7 @@ abbrev pub flatWord : Answer → FlatWord
 flatWord a = record { refusal = refusalIn a; found = isGiven a; tiles = valueIn a }
 
 -- "After a refusal or none the tiles already put stay, the rest of the buffer as before."
-pub record Put (walk : List ℕ × Answer) (before after : List ℕ) (r : FlatWord) : Type 0 where
+pub record FlatWordPut (walk : List ℕ × Answer) (before after : List ℕ) (r : FlatWord) : Type 0 where
   pub said : wordOf r ≡ walk .1
   pub tiles : after ≡ walk .0 ++ drop (length (walk .0)) before
   pub flat : r ≡ flatWord (wordOf r)

@@ -2,8 +2,8 @@
 use mathlib.Core.List.{List, [], _∷_}
 use Prim.Native.Nat.{ℕ}
 use lib.Dec.{eqb}
-use Rattle.node.specs.Answers.{Answer, gives}
-use Rattle.node.specs.Nodes.{flag}
+use Rattle.base.specs.Numbers.{flag}
+use Rattle.answers.specs.Answers.{Answer, gives}
 use Rattle.letters.specs.LetterBits.{Lettered}
 use Rattle.flat.specs.Flat.{plainly, refusalIn, valueIn}
 use Rattle.flat.specs.declared.sets.FlatAccepts.{FlatAccepts}

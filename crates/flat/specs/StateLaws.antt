@@ -2,21 +2,20 @@
 use mathlib.Core.Path.{_≡_, refl, sym, ap, _∙_}
 use Rattle.node.specs.declared.Layout.{Layout}
 use Rattle.node.specs.declared.Layout.the-variants.{Kwg, Kbwg}
-use Rattle.load.specs.Repacking.{said}
-use Rattle.load.specs.declared.repack.Repacked.{Repacked}
-use Rattle.load.specs.declared.repack.Repacked.the-variants.{Whole, DoesNotFit}
+use Rattle.load.specs.declared.loader.KeptRefusal.{KeptRefusal}
+use Rattle.load.specs.declared.loader.KeptRefusal.the-variants.{Nothing, DoesNotFit}
 use Rattle.load.specs.declared.loader.Loader.{Loader}
-use Rattle.flat.specs.Flat.{layoutOf, layoutNumber, refusalIn, nodeIn, tileIn, arcIn}
-use Rattle.flat.specs.FlatLoads.{keptOf, stateOf, flatLoader}
+use Rattle.flat.specs.Flat.{layoutOf, layoutNumber, refusalIn, nodeCarried, tileIn, arcCarried}
+use Rattle.flat.specs.FlatLoads.{keptOf, keptAnswer, stateOf, flatLoader}
 use Rattle.flat.specs.declared.loading.FlatLoader.{FlatLoader}
 
 layout-back : (y : Layout) → layoutOf (layoutNumber y) ≡ y
 layout-back Kwg = refl
 layout-back Kbwg = refl
 
-kept-back : (k : Repacked) → keptOf (refusalIn (said k)) (nodeIn (said k)) (tileIn (said k)) (arcIn (said k)) ≡ k
-kept-back Whole = refl
-kept-back (DoesNotFit node tile arc) = refl
+kept-back : (k : KeptRefusal) → let a = keptAnswer k in keptOf (refusalIn a) (nodeCarried a) (tileIn a) (arcCarried a) ≡ k
+kept-back Nothing = refl
+kept-back (DoesNotFit m) = refl
 
 state-back : (s : Loader) → stateOf (flatLoader s) ≡ s
 state-back s = λ i.

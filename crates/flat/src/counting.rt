@@ -1,6 +1,6 @@
 // Counting the words from every node.
 ghost use mathlib.Core.Path.{_≡_};
-ghost use Rattle.count.specs.Said.{said};
+ghost use Rattle.count.specs.Said.{saidCounting};
 ghost use Rattle.flat.specs.FlatCounts.{countedOf, flatCounted};
 use count::Counted;
 
@@ -18,7 +18,7 @@ fn counted(refusal: u32, arc: u32, node: u32) -> FlatCounted
 }
 
 pub fn flat_counted(answer: Counted) -> FlatCounted
-    ensures answer { λ r. ⌜ countedOf r ≡ said answer ⌝ }
+    ensures answer { λ r. ⌜ countedOf r ≡ saidCounting answer ⌝ }
     ensures flat { λ r. ⌜ r ≡ flatCounted (countedOf r) ⌝ }
 {
     match answer {

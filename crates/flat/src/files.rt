@@ -1,7 +1,7 @@
 // Files for other programs. A format is a number: 0 is a DAWG, every other number a GADDAG.
 ghost use mathlib.Core.Path.{_≡_};
-ghost use Rattle.macondo.specs.Said.{said as saidMacondo};
-ghost use Rattle.lxd.specs.Said.{said as saidLxd};
+ghost use Rattle.macondo.specs.Said.{saidMacondo};
+ghost use Rattle.lxd.specs.Said.{saidLxd};
 ghost use Rattle.flat.specs.Flat.{refusalIn};
 ghost use Rattle.flat.specs.FlatFiles.{formatNumbered, fileOf, flatFile};
 use lxd::Lxd;
@@ -14,6 +14,16 @@ pub struct FlatFile {
     pub refusal: u32,
     pub arc: u32,
     pub written: usize,
+}
+
+fn file(refusal: u32, arc: u32, written: usize) -> FlatFile
+    ensures { λ r. ⌜ r ≡ record { refusal = refusal; arc = arc; written = written } ⌝ }
+{
+    FlatFile {
+        refusal,
+        arc,
+        written,
+    }
 }
 
 pub fn format_of(number: u32) -> MacondoFormat
@@ -51,21 +61,9 @@ pub fn flat_macondo(answer: Macondo) -> FlatFile
     ensures flat { λ r. ⌜ r ≡ flatFile (fileOf r) ⌝ }
 {
     match answer {
-        Macondo::Written(written) => FlatFile {
-            refusal: 0,
-            arc: 0,
-            written,
-        },
-        Macondo::ArcPastEnd(arc) => FlatFile {
-            refusal: 8,
-            arc,
-            written: 0,
-        },
-        _ => FlatFile {
-            refusal: macondo_refusal(answer),
-            arc: 0,
-            written: 0,
-        },
+        Macondo::Written(written) => file(0, 0, written),
+        Macondo::ArcPastEnd(arc) => file(8, arc, 0),
+        _ => file(macondo_refusal(answer), 0, 0),
     }
 }
 
@@ -96,20 +94,8 @@ pub fn flat_lxd(answer: Lxd) -> FlatFile
     ensures flat { λ r. ⌜ r ≡ flatFile (fileOf r) ⌝ }
 {
     match answer {
-        Lxd::Written(written) => FlatFile {
-            refusal: 0,
-            arc: 0,
-            written,
-        },
-        Lxd::ArcPastEnd(arc) => FlatFile {
-            refusal: 8,
-            arc,
-            written: 0,
-        },
-        _ => FlatFile {
-            refusal: lxd_refusal(answer),
-            arc: 0,
-            written: 0,
-        },
+        Lxd::Written(written) => file(0, 0, written),
+        Lxd::ArcPastEnd(arc) => file(8, arc, 0),
+        _ => file(lxd_refusal(answer), 0, 0),
     }
 }

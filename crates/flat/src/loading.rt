@@ -1,15 +1,17 @@
 // Loading and repacking. A layout is a number: 0 is KWG, every other number KBWG.
 ghost use mathlib.Core.Path.{_≡_};
 ghost use mathlib.Core.List.{[]};
-ghost use Rattle.node.specs.Answers.{gives};
-ghost use Rattle.load.specs.Repacking.{said};
+ghost use Rattle.answers.specs.Answers.{gives};
+ghost use Rattle.load.specs.Repacking.{saidRepack};
 ghost use Rattle.load.specs.Said.{saidBegin, saidFeed, saidFinish};
 ghost use Rattle.flat.specs.Flat.{layoutOf, layoutNumber, plainly, refusalIn};
 ghost use Rattle.flat.specs.FlatLoads.{keptOf, repackedOf, flatRepacked, stateOf, flatLoader, finishedOf, flatFinished};
 use load::BeginAnswer;
 use load::FeedAnswer;
 use load::Finished;
+use load::KeptRefusal;
 use load::Loader;
+use load::Misfit;
 use load::Repacked;
 use node::Layout;
 
@@ -86,17 +88,17 @@ fn layout_number(layout: Layout) -> u32
     }
 }
 
-fn kept_of(refusal: u32, node: usize, tile: u8, arc_index: u32) -> Repacked
+fn kept_of(refusal: u32, node: usize, tile: u8, arc_index: u32) -> KeptRefusal
     ensures { λ r. ⌜ r ≡ keptOf refusal node tile «arc_index» ⌝ }
 {
     if refusal == 0 {
-        return Repacked::Whole;
+        return KeptRefusal::Nothing;
     }
-    Repacked::DoesNotFit {
+    KeptRefusal::DoesNotFit(Misfit {
         node,
         tile,
         arc_index,
-    }
+    })
 }
 
 // Every flat state is some state: none is refused before the calls judge it.
@@ -127,7 +129,7 @@ pub fn flat_loader(state: Loader) -> FlatLoader
     let layout = layout_number(old);
     let kept = state.kept;
     match kept {
-        Repacked::Whole => FlatLoader {
+        KeptRefusal::Nothing => FlatLoader {
             announced,
             taken,
             held_count,
@@ -138,26 +140,22 @@ pub fn flat_loader(state: Loader) -> FlatLoader
             tile: 0,
             held,
         },
-        Repacked::DoesNotFit {
-            node,
-            tile,
-            arc_index,
-        } => FlatLoader {
+        KeptRefusal::DoesNotFit(misfit) => FlatLoader {
             announced,
             taken,
             held_count,
-            node,
+            node: misfit.node,
             layout,
             refusal: 6,
-            arc: arc_index,
-            tile,
+            arc: misfit.arc_index,
+            tile: misfit.tile,
             held,
         },
     }
 }
 
 pub fn flat_repacked(answer: Repacked) -> FlatRepacked
-    ensures answer { λ r. ⌜ repackedOf r ≡ said answer ⌝ }
+    ensures answer { λ r. ⌜ repackedOf r ≡ saidRepack answer ⌝ }
     ensures flat { λ r. ⌜ r ≡ flatRepacked (repackedOf r) ⌝ }
 {
     match answer {
@@ -167,15 +165,11 @@ pub fn flat_repacked(answer: Repacked) -> FlatRepacked
             node: 0,
             tile: 0,
         },
-        Repacked::DoesNotFit {
-            node,
-            tile,
-            arc_index,
-        } => FlatRepacked {
+        Repacked::DoesNotFit(misfit) => FlatRepacked {
             refusal: 6,
-            arc: arc_index,
-            node,
-            tile,
+            arc: misfit.arc_index,
+            node: misfit.node,
+            tile: misfit.tile,
         },
     }
 }
@@ -215,15 +209,11 @@ pub fn flat_feed(answer: FeedAnswer) -> FlatRepacked
             node: 0,
             tile: 0,
         },
-        FeedAnswer::DoesNotFit {
-            node,
-            tile,
-            arc_index,
-        } => FlatRepacked {
+        FeedAnswer::DoesNotFit(misfit) => FlatRepacked {
             refusal: 6,
-            arc: arc_index,
-            node,
-            tile,
+            arc: misfit.arc_index,
+            node: misfit.node,
+            tile: misfit.tile,
         },
     }
 }
@@ -254,16 +244,12 @@ pub fn flat_finished(answer: Finished) -> FlatFinished
             tile: 0,
         },
         Finished::BadState => unfinished(4, 0),
-        Finished::DoesNotFit {
-            node,
-            tile,
-            arc_index,
-        } => FlatFinished {
+        Finished::DoesNotFit(misfit) => FlatFinished {
             refusal: 6,
-            arc: arc_index,
+            arc: misfit.arc_index,
             nodes: 0,
-            node,
-            tile,
+            node: misfit.node,
+            tile: misfit.tile,
         },
         Finished::Missing => unfinished(7, 0),
         Finished::ArcPastEnd(arc) => unfinished(8, arc),

@@ -1,6 +1,5 @@
 // Lookups in a loaded graph: a tile in a run, the steps along a run, words and their numbers.
 ghost use mathlib.Core.Path.{_≡_};
-ghost use Prim.Native.Nat.{_-_};
 ghost use Rattle.lookup.specs.Said.{saidSeek, saidIndex, saidWord};
 ghost use Rattle.flat.specs.FlatLookups.{soughtOf, flatSought, indexOf, flatIndex, wordOf, flatWord};
 use lookup::Sought;
@@ -36,26 +35,34 @@ pub struct FlatWord {
     pub tiles: usize,
 }
 
+fn sought(refusal: u32, found: bool, place: u32) -> FlatSought
+    ensures { λ r. ⌜ r ≡ record { refusal = refusal; found = found; place = place } ⌝ }
+{
+    FlatSought {
+        refusal,
+        found,
+        place,
+    }
+}
+
 pub fn flat_sought(answer: Sought) -> FlatSought
     ensures answer { λ r. ⌜ soughtOf r ≡ saidSeek answer ⌝ }
     ensures flat { λ r. ⌜ r ≡ flatSought (soughtOf r) ⌝ }
 {
     match answer {
-        Sought::At(place) => FlatSought {
-            refusal: 0,
-            found: true,
-            place,
-        },
-        Sought::Absent => FlatSought {
-            refusal: 0,
-            found: false,
-            place: 0,
-        },
-        Sought::NotLent => FlatSought {
-            refusal: 14,
-            found: false,
-            place: 0,
-        },
+        Sought::At(place) => sought(0, true, place),
+        Sought::Absent => sought(0, false, 0),
+        Sought::NotLent => sought(14, false, 0),
+    }
+}
+
+fn index(refusal: u32, found: bool, number: u32) -> FlatIndex
+    ensures { λ r. ⌜ r ≡ record { refusal = refusal; found = found; number = number } ⌝ }
+{
+    FlatIndex {
+        refusal,
+        found,
+        number,
     }
 }
 
@@ -64,26 +71,20 @@ pub fn flat_index(answer: WordIndex) -> FlatIndex
     ensures flat { λ r. ⌜ r ≡ flatIndex (indexOf r) ⌝ }
 {
     match answer {
-        WordIndex::Number(number) => FlatIndex {
-            refusal: 0,
-            found: true,
-            number,
-        },
-        WordIndex::Absent => FlatIndex {
-            refusal: 0,
-            found: false,
-            number: 0,
-        },
-        WordIndex::NotLent => FlatIndex {
-            refusal: 14,
-            found: false,
-            number: 0,
-        },
-        WordIndex::OutOfRange => FlatIndex {
-            refusal: 15,
-            found: false,
-            number: 0,
-        },
+        WordIndex::Number(number) => index(0, true, number),
+        WordIndex::Absent => index(0, false, 0),
+        WordIndex::NotLent => index(14, false, 0),
+        WordIndex::OutOfRange => index(15, false, 0),
+    }
+}
+
+fn word(refusal: u32, found: bool, tiles: usize) -> FlatWord
+    ensures { λ r. ⌜ r ≡ record { refusal = refusal; found = found; tiles = tiles } ⌝ }
+{
+    FlatWord {
+        refusal,
+        found,
+        tiles,
     }
 }
 
@@ -92,30 +93,10 @@ pub fn flat_word(answer: WordByIndex) -> FlatWord
     ensures flat { λ r. ⌜ r ≡ flatWord (wordOf r) ⌝ }
 {
     match answer {
-        WordByIndex::Tiles(tiles) => FlatWord {
-            refusal: 0,
-            found: true,
-            tiles,
-        },
-        WordByIndex::Absent => FlatWord {
-            refusal: 0,
-            found: false,
-            tiles: 0,
-        },
-        WordByIndex::NotLent => FlatWord {
-            refusal: 14,
-            found: false,
-            tiles: 0,
-        },
-        WordByIndex::OutOfRange => FlatWord {
-            refusal: 15,
-            found: false,
-            tiles: 0,
-        },
-        WordByIndex::BufferFull => FlatWord {
-            refusal: 16,
-            found: false,
-            tiles: 0,
-        },
+        WordByIndex::Tiles(tiles) => word(0, true, tiles),
+        WordByIndex::Absent => word(0, false, 0),
+        WordByIndex::NotLent => word(14, false, 0),
+        WordByIndex::OutOfRange => word(15, false, 0),
+        WordByIndex::BufferFull => word(16, false, 0),
     }
 }

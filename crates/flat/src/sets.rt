@@ -1,7 +1,7 @@
 // Sets of tiles: the letters of each node's run, and the alpha sets of a tally of letters.
 ghost use mathlib.Core.Path.{_≡_};
 ghost use mathlib.Core.List.{[]};
-ghost use Rattle.node.specs.Answers.{gives};
+ghost use Rattle.answers.specs.Answers.{gives};
 ghost use Rattle.letters.specs.Said.{saidBits, saidAlpha, saidCross};
 ghost use Rattle.flat.specs.Flat.{plainly};
 ghost use Rattle.flat.specs.FlatSets.{acceptsOf, flatAccepts, crossOf, flatCross};

@@ -4,7 +4,7 @@ use mathlib.Core.List.{[], _∷_}
 use mathlib.Core.Option.{Option, none, some}
 use lib.Dec.{ltb, leb}
 use lib.ListN.{length}
-use Rattle.node.specs.Answers.{Answer, refused, refusing, Row}
+use Rattle.answers.specs.Answers.{Answer, refused, refusing, Row}
 use Rattle.node.specs.Nodes.{KBWG}
 use Rattle.graph.specs.Runs.{Graph, largestArc, lastEnds}
 use Rattle.graph.specs.declared.GraphCheck.{GraphCheck}
@@ -12,10 +12,10 @@ use Rattle.graph.specs.declared.NodesCheck.{NodesCheck}
 use Rattle.graph.specs.declared.NodesCheck.the-variants.{Sound, ArcPastEnd, NoEnd}
 
 -- what `check_nodes` refuses by
-abbrev pub refusal : NodesCheck → Option Answer
-refusal Sound = none
-refusal (ArcPastEnd r) = some (refused 8 (r ∷ []))
-refusal NoEnd = some (refused 9 [])
+abbrev pub nodesRefusal : NodesCheck → Option Answer
+nodesRefusal Sound = none
+nodesRefusal (ArcPastEnd r) = some (refused 8 (r ∷ []))
+nodesRefusal NoEnd = some (refused 9 [])
 
 -- "8 largest arc (carried) at least the node count; 9 last node no end"
 abbrev pub nodesRow : Graph → Row

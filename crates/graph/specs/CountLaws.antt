@@ -10,7 +10,8 @@ use borrow.Author.Tests.{eqb-false, eq-eqb, ne-eqb}
 use lib.ListN.{length, length-append, length-map}
 use lib.Seq.{drop-cons}
 use Rattle.laws.specs.Cases.{split}
-use Rattle.node.specs.Nodes.{Places, tile, arc, accepts, isEnd, flag}
+use Rattle.base.specs.Numbers.{flag}
+use Rattle.node.specs.Nodes.{BitLayout, tile, arc, accepts, isEnd}
 use Rattle.graph.specs.Runs.{Graph, node, run}
 use Rattle.graph.specs.Words.{Word, inOrder, spelled, words, count}
 use Rattle.graph.specs.Loops.{Step, by-arc, by-run, once, Clear}
@@ -20,11 +21,12 @@ own-length : (b : Bool) (w : Word) → length {A = Word} (elim b [ true ↦ w �
 own-length true w = refl
 own-length false w = refl
 
-arc-length : (b : Bool) (ws : List Word) (f : Word → Word) → length {A = Word} (elim b [ true ↦ [] | false ↦ map f ws ]) ≡ elim b [ true ↦ 0 | false ↦ length ws ]
+arc-length : (b : Bool) (ws : List Word) (f : Word → Word)
+    → length {A = Word} (elim b [ true ↦ [] | false ↦ map f ws ]) ≡ elim b [ true ↦ 0 | false ↦ length ws ]
 arc-length true ws f = refl
 arc-length false ws f = length-map ws f
 
-module _ (y : Places) where
+module _ (y : BitLayout) where
   -- the words of a node that go on by its arc, and by its run, counted by `from`
   unfoldable pub byArc : (ℕ → ℕ) → ℕ → ℕ
   byArc from v = elim (eqb (arc y v) 0) [ true ↦ 0 | false ↦ from (arc y v) ]

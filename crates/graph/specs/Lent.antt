@@ -3,15 +3,22 @@
 use mathlib.Core.Path.{_≡_, sym, ap, _∙_}
 use mathlib.Core.List.{List}
 use mathlib.Core.Option.{none, some}
-use Prim.Native.Nat.{ℕ}
-use lib.ListN.{length, drop}
+use Prim.Native.Nat.{ℕ, _<_}
+use lib.ListN.{length, drop, set, length-set}
+use lib.Seq.{drop-set-lt}
 use Rattle.laws.specs.Cases.{some≢none}
-use Rattle.node.specs.Answers.{Answer, Row, firstOf}
+use Rattle.answers.specs.Answers.{Answer, Row, firstOf}
 
 -- a list as long as before, and the same from place n on
 pub record Kept (n : ℕ) (before after : List ℕ) : Type 0 where
   pub size : length after ≡ length before
   pub rest : drop n after ≡ drop n before
+
+pub kept-then : {n : ℕ} {l m r : List ℕ} → Kept n l m → Kept n m r → Kept n l r
+kept-then a b = record { size = b .size ∙ a .size; rest = b .rest ∙ a .rest }
+
+pub kept-set : (n : ℕ) (l : List ℕ) (i v : ℕ) → i < n → Kept n l (set l i v)
+kept-set n l i v h = record { size = length-set l i v; rest = drop-set-lt n l i v h }
 
 -- A work list of n numbers, "free afterwards": where a check before the walk refuses it is as before.
 pub record WorkKept (checks : Row) (n : ℕ) (before after : List ℕ) : Type 0 where

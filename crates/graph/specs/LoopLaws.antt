@@ -2,7 +2,7 @@
 use mathlib.Core.Path.{_≡_, refl, sym}
 use Prim.Native.Nat.{ℕ, _<_}
 use lib.ListN.{length}
-use Rattle.node.specs.Nodes.{Places, KBWG}
+use Rattle.node.specs.Nodes.{BitLayout, KBWG}
 use Rattle.graph.specs.Runs.{Graph}
 use Rattle.graph.specs.Loops.{Step, by-arc, by-run, Reach, once, then, Loops, Clear}
 use Rattle.graph.specs.ChecksLaws.{Closed}
@@ -12,7 +12,7 @@ pub step-inside : {g : Graph} {p q : ℕ} → Closed g → Step KBWG g p q → q
 step-inside {g} {p} k (by-arc h n) = k .arcs p h
 step-inside {g} {p} k (by-run h e) = k .runs p h e
 
-module _ (y : Places) where
+module _ (y : BitLayout) where
   -- a path begins at a node
   pub reach-inside : {g : Graph} {p q : ℕ} → Reach y g p q → p < length g
   reach-inside (once (by-arc h n)) = h

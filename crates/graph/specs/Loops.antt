@@ -4,10 +4,10 @@ use mathlib.Core.Bool.{false}
 use mathlib.Core.Logic.{_≢_}
 use Prim.Native.Nat.{ℕ, suc, _<_}
 use lib.ListN.{length}
-use Rattle.node.specs.Nodes.{Places, arc, isEnd}
+use Rattle.node.specs.Nodes.{BitLayout, arc, isEnd}
 use Rattle.graph.specs.Runs.{Graph, node}
 
-module _ (y : Places) where
+module _ (y : BitLayout) where
   -- "by an arc that is not 0 or by p+1 after a node that is not an end"
   pub data Step (g : Graph) (p : ℕ) : ℕ → Type 0 where
     by-arc : p < length g → arc y (node g p) ≢ 0 → Step g p (arc y (node g p))

@@ -7,10 +7,10 @@ use Prim.Native.Nat.{ℕ}
 use lib.ListN.{drop}
 use Rattle.laws.specs.Cases.{split}
 use Rattle.laws.specs.Members.{in-drop}
-use Rattle.node.specs.Nodes.{Places, isEnd}
+use Rattle.node.specs.Nodes.{BitLayout, isEnd}
 use Rattle.graph.specs.Runs.{Graph, run}
 
-module _ (y : Places) where
+module _ (y : BitLayout) where
   pub run-last : (v : ℕ) (l : Graph) → isEnd y v ≡ true → run y (v ∷ l) ≡ v ∷ []
   unfolding run
   run-last v l e = rw (e, run)

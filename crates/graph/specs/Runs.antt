@@ -4,7 +4,7 @@ use mathlib.Core.List.{List, [], _∷_}
 use Prim.Native.Nat.{ℕ, max}
 use lib.Dec.{ltb}
 use lib.ListN.{getD}
-use Rattle.node.specs.Nodes.{Places, tile, arc, isEnd}
+use Rattle.node.specs.Nodes.{BitLayout, KBWG, tile, arc, isEnd}
 
 -- A graph is the list of its nodes, each a 32-bit number; node p stands at place p.
 abbrev pub Graph : Type 0
@@ -13,7 +13,11 @@ Graph = List ℕ
 abbrev pub node : Graph → ℕ → ℕ
 node g p = getD g p 0
 
-module _ (y : Places) where
+-- "The start node s is node 0's arc, for a Macondo gaddag node 1's arc; if that is 0, s is node 0": an arc of 0 is node 0's number
+abbrev pub startNode : Graph → ℕ → ℕ
+startNode g root = arc KBWG (node g root)
+
+module _ (y : BitLayout) where
   -- "The run from node p is p, p+1, .. up to the first end node": the run at the head of the nodes from p on
   unfoldable pub run : Graph → List ℕ
   run [] = []

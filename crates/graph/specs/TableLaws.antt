@@ -24,13 +24,13 @@ table-in zero f i h = absurd (omega arith)
 table-in (suc n) f zero h = List·Memᴰ·head refl
 table-in (suc n) f (suc i) h = List·Memᴰ·tail (table-in n (λ k. f (suc k)) i (omega arith))
 
-pub in-table : (n : ℕ) (f : ℕ → ℕ) (x : ℕ) → List·Memᴰ x (table n f) → (i : ℕ) × (i < n) × (x ≡ f i)
+pub from-table : (n : ℕ) (f : ℕ → ℕ) (x : ℕ) → List·Memᴰ x (table n f) → (i : ℕ) × (i < n) × (x ≡ f i)
 unfolding table
-in-table zero f x m = absurd (List·Memᴰ·not-nil m)
-in-table (suc n) f x m =
+from-table zero f x m = absurd (List·Memᴰ·not-nil m)
+from-table (suc n) f x m =
     ⊎-elim
     (λ e. (0, omega arith, e))
-    (λ k. let r = in-table n (λ j. f (suc j)) x k in let h = r .1 in (suc (r .0), omega arith, r .2))
+    (λ k. let r = from-table n (λ j. f (suc j)) x k in let h = r .1 in (suc (r .0), omega arith, r .2))
     (List·Memᴰ·cases-cons m)
 
 -- a list whose first numbers are those of a table

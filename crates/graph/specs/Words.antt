@@ -4,7 +4,7 @@ use mathlib.Core.List.{List, [], _∷_, _++_, map}
 use Prim.Native.Nat.{ℕ, zero, suc}
 use lib.Dec.{eqb}
 use lib.ListN.{length, drop}
-use Rattle.node.specs.Nodes.{Places, tile, arc, accepts}
+use Rattle.node.specs.Nodes.{BitLayout, tile, arc, accepts}
 use Rattle.graph.specs.Runs.{Graph, run}
 
 abbrev pub Word : Type 0
@@ -15,7 +15,7 @@ unfoldable pub inOrder : (ℕ → List Word) → List ℕ → List Word
 inOrder f [] = []
 inOrder f (v ∷ vs) = f v ++ inOrder f vs
 
-module _ (y : Places) where
+module _ (y : BitLayout) where
   -- "its tile alone if it accepts; then, where its arc is not 0, its tile before each word from the arc"
   -- (`from` gives the words from a node)
   unfoldable pub spelled : (ℕ → List Word) → ℕ → List Word

@@ -11,7 +11,7 @@ use lib.ListN.{length, getD, drop}
 use Rattle.laws.specs.Cases.{split, and-left, and-right}
 use Rattle.laws.specs.Lists.{All, all-append, all-weaken, all-mem}
 use Rattle.laws.specs.NoRepeats.{NoRepeats}
-use Rattle.node.specs.Nodes.{Places, tile, arc, accepts, isEnd}
+use Rattle.node.specs.Nodes.{BitLayout, tile, arc, accepts, isEnd}
 use Rattle.graph.specs.Runs.{Graph, run, ascends}
 use Rattle.graph.specs.Words.{Word, inOrder, spelled, wordsWithin, words}
 use Rattle.graph.specs.Order.{_≺_, prefix, lower, later, Ascending}
@@ -30,20 +30,20 @@ abbrev pub From : ℕ → Word → Type 0
 From t [] = ⊥
 From t (a ∷ u) = t ≤ a
 
-abbrev pub Begins : ℕ → Word → Type 0
-Begins t [] = ⊥
-Begins t (a ∷ u) = a ≡ t
+abbrev pub BeginsWith : ℕ → Word → Type 0
+BeginsWith t [] = ⊥
+BeginsWith t (a ∷ u) = a ≡ t
 
-begins-map : (t : ℕ) (ws : List Word) → All (Begins t) (map (t ∷_) ws)
+begins-map : (t : ℕ) (ws : List Word) → All (BeginsWith t) (map (t ∷_) ws)
 begins-map t [] = tt
 begins-map t (w ∷ ws) = (refl, begins-map t ws)
 
-below : (t : ℕ) (x y : Word) → Begins t x → From (suc t) y → x ≺ y
+below : (t : ℕ) (x y : Word) → BeginsWith t x → From (suc t) y → x ≺ y
 below t (a ∷ u) (b ∷ v) h k = let l : a < b = omega arith in lower l
 below t [] y h k = absurd h
 below t (a ∷ u) [] h k = absurd k
 
-ascending-append : (t : ℕ) (xs ys : List Word) → All (Begins t) xs → All (From (suc t)) ys → Ascending xs → Ascending ys → Ascending (xs ++ ys)
+ascending-append : (t : ℕ) (xs ys : List Word) → All (BeginsWith t) xs → All (From (suc t)) ys → Ascending xs → Ascending ys → Ascending (xs ++ ys)
 ascending-append t [] ys h k a b = b
 ascending-append t (x ∷ xs) ys h k a b =
     (all-append (x ≺_) xs ys (a .0) (all-weaken (From (suc t)) (x ≺_) (λ y f. below t x y (h .0) f) ys k), ascending-append t xs ys (h .1) k (a .1) b)
@@ -61,7 +61,7 @@ alone-first t [] h = tt
 alone-first t ([] ∷ ws) h = absurd (h .0)
 alone-first t ((a ∷ u) ∷ ws) h = (later prefix, alone-first t ws (h .1))
 
-module _ (y : Places) where
+module _ (y : BitLayout) where
   pub ascends-tail : (v w : ℕ) (l : Graph) → ascends y (v ∷ w ∷ l) ≡ true → ascends y (w ∷ l) ≡ true
   unfolding ascends
   ascends-tail v w l a = and-right (isEnd y v || ltb (tile y v) (tile y w)) (ascends y (w ∷ l)) a
@@ -71,7 +71,7 @@ module _ (y : Places) where
   ascends-head v w l a e = ltb-true (tile y v) (tile y w) (rw e at (and-left (isEnd y v || ltb (tile y v) (tile y w)) (ascends y (w ∷ l)) a))
 
   module _ (from : ℕ → List Word) (nonempty : (q : ℕ) → All (From 0) (from q)) (sorted : (q : ℕ) → Ascending (from q)) where
-    pub spelled-begins : (v : ℕ) → All (Begins (tile y v)) (spelled y from v)
+    pub spelled-begins : (v : ℕ) → All (BeginsWith (tile y v)) (spelled y from v)
     unfolding spelled
     spelled-begins v =
         split (accepts y v)
@@ -89,12 +89,12 @@ module _ (y : Places) where
         (λ z. rw (a, z, spelled) tt)
         (λ z. rw (a, z, spelled) (ascending-map (tile y v) (from (arc y v)) (sorted (arc y v)))))
 
-    at-least : (t : ℕ) (v : ℕ) → t ≤ tile y v → (w : Word) → Begins (tile y v) w → From t w
+    at-least : (t : ℕ) (v : ℕ) → t ≤ tile y v → (w : Word) → BeginsWith (tile y v) w → From t w
     at-least t v h [] b = b
     at-least t v h (a ∷ u) b = omega arith
 
     one-head : (t : ℕ) (v : ℕ) → t ≤ tile y v → All (From t) (spelled y from v)
-    one-head t v h = all-weaken (Begins (tile y v)) (From t) (at-least t v h) (spelled y from v) (spelled-begins v)
+    one-head t v h = all-weaken (BeginsWith (tile y v)) (From t) (at-least t v h) (spelled y from v) (spelled-begins v)
 
     -- the words of an ascending run, t at most its first tile
     pub heads : (l : Graph) (t : ℕ) → ascends y l ≡ true → t ≤ tile y (getD l 0 0) → All (From t) (inOrder (spelled y from) (run y l))

@@ -2,7 +2,8 @@
 -- to a node ends before it has followed as many arcs as there are nodes, so more turns of `wordsWithin` change nothing.
 use mathlib.Core.Path.{_≡_, refl, sym, ap, ap₂, _∙_, subst}
 use mathlib.Core.Logic.{_≢_, _⊎_, inl, inr, ⊎-elim}
-use mathlib.Core.List.{List, [], _∷_, _++_, List·Memᴰ, List·Memᴰ·head, List·Memᴰ·tail, List·Memᴰ·not-nil, List·Memᴰ·cases-cons, head-eq-of-cons-eq, tail-eq-of-cons-eq}
+use mathlib.Core.List.{List, [], _∷_, _++_, head-eq-of-cons-eq, tail-eq-of-cons-eq}
+use mathlib.Core.List.{List·Memᴰ, List·Memᴰ·head, List·Memᴰ·tail, List·Memᴰ·not-nil, List·Memᴰ·cases-cons}
 use Prim.Native.Nat.{ℕ, zero, suc, _-_, _≤_, _<_}
 use native.Mathlib.Omega.{arith}
 use lib.Dec.{eqb, ltb}
@@ -11,7 +12,7 @@ use lib.ListN.{length, drop, length-drop, drop-of-length-le}
 use lib.Seq.{drop-cons}
 use Rattle.laws.specs.Cases.{split}
 use Rattle.laws.specs.Without.{without, without-lt, without-keeps, below, length-below, in-below}
-use Rattle.node.specs.Nodes.{Places, tile, arc, accepts, isEnd}
+use Rattle.node.specs.Nodes.{BitLayout, tile, arc, accepts, isEnd}
 use Rattle.graph.specs.Runs.{Graph, node, run}
 use Rattle.graph.specs.Words.{Word, inOrder, spelled, wordsWithin, words}
 use Rattle.graph.specs.Loops.{Step, by-arc, by-run, Reach, once, then, Clear}
@@ -21,7 +22,7 @@ unfolding inOrder
 in-order-ext f h [] e = refl
 in-order-ext f h (v ∷ l) e = ap₂ _++_ (e v (List·Memᴰ·head refl)) (in-order-ext f h l (λ w m. e w (List·Memᴰ·tail m)))
 
-module _ (y : Places) where
+module _ (y : BitLayout) where
   -- ---- enough fuel
   pub spelled-ext : (f h : ℕ → List Word) (v : ℕ) → (arc y v ≢ 0 → f (arc y v) ≡ h (arc y v)) → spelled y f v ≡ spelled y h v
   unfolding spelled
@@ -92,7 +93,8 @@ module _ (y : Places) where
     arc-reached : (p : ℕ) (v : ℕ) → List·Memᴰ v (run y (drop p g)) → arc y v ≢ 0 → Reach y g p (arc y v)
     arc-reached p v m n =
         let r = in-run (drop p g) p refl v m in
-        let s : Reach y g (r .at) (arc y v) = subst (λ w. Reach y g (r .at) (arc y w)) (r .is) (once (by-arc (r .within) (λ z. n (ap (arc y) (sym (r .is)) ∙ z)))) in
+        let step = once (by-arc (r .within) (λ z. n (ap (arc y) (sym (r .is)) ∙ z))) in
+        let s : Reach y g (r .at) (arc y v) = subst (λ w. Reach y g (r .at) (arc y w)) (r .is) step in
         ⊎-elim (λ i. subst (λ k. Reach y g k (arc y v)) i s) (λ u. trans u s) (r .from)
 
   module _ (g : Graph) where

@@ -1,11 +1,14 @@
 // A word graph: the meaning of its runs, words and loops is in specs/; here are the checks that several calls share.
 ghost use mathlib.Core.Path.{_≡_};
-ghost use Prim.Native.Nat.{max};
-ghost use Rattle.node.specs.Answers.{firstOf};
+ghost use Rattle.answers.specs.Answers.{firstOf};
 ghost use Rattle.node.specs.Nodes.{KBWG};
 ghost use Rattle.graph.specs.Runs.{largestArc, lastEnds};
-ghost use Rattle.graph.specs.Checks.{nodesRow, refusal, graphRow, graphRefusal};
+ghost use Rattle.graph.specs.Checks.{nodesRow, nodesRefusal, graphRow, graphRefusal};
+use base::larger;
 use node::Node24;
+
+// The lowest count that is too many, and the largest sum of counts.
+pub const COUNT_LIMIT: u32 = 4294967295;
 
 pub enum NodesCheck {
     Sound,
@@ -18,13 +21,6 @@ pub enum GraphCheck {
     WrongSize,
     ArcPastEnd(u32),
     NoEnd,
-}
-
-// The larger of two numbers.
-pub fn larger(a: u32, b: u32) -> u32
-    ensures { λ r. ⌜ r ≡ max a b ⌝ }
-{
-    if a < b { b } else { a }
 }
 
 fn largest_arc(nodes: &[u32]) -> u32
@@ -51,7 +47,7 @@ fn last_ends(nodes: &[u32]) -> bool
 
 // Whether every arc leads to a node and the last node ends its run, so that no walk leaves the nodes.
 pub fn check_nodes(nodes: &[u32]) -> NodesCheck
-    ensures { λ r. ⌜ refusal r ≡ firstOf (nodesRow (now (nodes .entry))) ⌝ }
+    ensures { λ r. ⌜ nodesRefusal r ≡ firstOf (nodesRow (now (nodes .entry))) ⌝ }
 {
     let largest = largest_arc(nodes);
     if nodes.len() <= largest as usize {

@@ -7,15 +7,14 @@ use mathlib.Core.List.{List, [], _∷_}
 use Prim.Native.Nat.{ℕ, _<_}
 use lib.ListN.{take, drop}
 use Rattle.laws.specs.Lists.{joinAll}
-use Rattle.node.specs.Answers.{gives}
+use Rattle.answers.specs.Answers.{gives}
 use Rattle.node.specs.Nodes.{KBWG}
 use Rattle.node.specs.declared.Layout.{Layout}
-use Rattle.graph.specs.Runs.{Graph, run, ascends}
+use Rattle.graph.specs.Runs.{Graph, run, ascends, startNode}
 use Rattle.graph.specs.Words.{inOrder, spelled, words}
-use Rattle.graph.specs.Counting.{Counted}
+use Rattle.graph.specs.Counting.{IsCounted}
 use Rattle.pieces.specs.Pieces.{LoadsAsWhole, LoadsHoweverCut, loadPieces}
-use Rattle.numbers.specs.Numbered.{Lent, Numbered}
-use Rattle.export.specs.Starts.{start}
+use Rattle.numbers.specs.WordNumbers.{Lent, WordNumbers}
 use Rattle.export.specs.Written.{Written}
 use Rattle.macondo_file.specs.File.{Format, marks}
 use Rattle.macondo_file.specs.Row.{toMacondo}
@@ -36,17 +35,17 @@ pub record Wrote (w : Written) (file : List ℕ) : Type 0 where
 
 -- Begin, the feeds of the pieces, and finish, over lent nodes.
 module _ (announced : ℕ) (layout : Layout) (lent : Graph) (pieces : List (List ℕ)) where
-  abbrev pub table : Graph
-  table = loadPieces announced layout lent pieces .nodes
+  abbrev pub loadedNodes : Graph
+  loadedNodes = loadPieces announced layout lent pieces .nodes
 
   -- "A file loads where finish gives no refusal, and counts where counting its N nodes, with lists long enough, gives none"; its runs
   -- ascend; `counted` is what counting left of the counts it was lent
-  pub record Ready (limit n : ℕ) (counted : List ℕ) : Type 0 where
+  pub record CountedLoad (limit n : ℕ) (counted : List ℕ) : Type 0 where
     pub loads : loadPieces announced layout lent pieces .finished ≡ gives (n ∷ [])
     pub lentCounts : List ℕ
     pub lentWork : ℕ
-    pub counts : Counted limit (take n table) lentCounts lentWork (gives []) counted
-    pub ascending : ascends KBWG (take n table) ≡ true
+    pub counts : IsCounted limit (take n loadedNodes) lentCounts lentWork (gives []) counted
+    pub ascending : ascends KBWG (take n loadedNodes) ≡ true
 
 -- The limit is the lowest count that is too many, of as many bits as the counts have.
 pub record Demand3 (limit : ℕ) : Type 0 where
@@ -56,20 +55,20 @@ pub record Demand3 (limit : ℕ) : Type 0 where
   pub cutting : (layout : Layout) (lent : Graph) (pieces : List (List ℕ)) → LoadsHoweverCut layout lent (joinAll pieces) pieces
   -- from every node above 0: the numbers below its count name its words, its words give their numbers back, and all else gets none
   pub numbering : (announced : ℕ) (layout : Layout) (lent : Graph) (pieces : List (List ℕ)) (n : ℕ) (counted : List ℕ)
-      → Ready announced layout lent pieces limit n counted
-      → (p : ℕ) → 0 < p → p < n → Numbered limit (take n (table announced layout lent pieces)) (table announced layout lent pieces) counted p
+      → CountedLoad announced layout lent pieces limit n counted
+      → (p : ℕ) → 0 < p → p < n → WordNumbers limit (take n (loadedNodes announced layout lent pieces)) (loadedNodes announced layout lent pieces) counted p
   -- the same where node and count lists are lent longer than N
   pub lending : (announced : ℕ) (layout : Layout) (lent : Graph) (pieces : List (List ℕ)) (n : ℕ) (counted : List ℕ)
-      → Ready announced layout lent pieces limit n counted
-      → (nodes counts : List ℕ) → Lent (take n (table announced layout lent pieces)) nodes counts
-      → (p : ℕ) → 0 < p → p < n → Numbered limit (take n (table announced layout lent pieces)) nodes counts p
+      → CountedLoad announced layout lent pieces limit n counted
+      → (nodes counts : List ℕ) → Lent (take n (loadedNodes announced layout lent pieces)) nodes counts
+      → (p : ℕ) → 0 < p → p < n → WordNumbers limit (take n (loadedNodes announced layout lent pieces)) nodes counts p
   -- every Macondo file, once written, spells exactly the words of its start node, renamed, less those ending in tile 0: each once, with
   -- the labels as its code points, to the file's last byte
   pub macondo : (g : Graph) (labels name : List ℕ) (f : Format) (lentWork : ℕ) (lent file : List ℕ)
       → Wrote (toMacondo g labels name f lentWork lent) file
-      → WordsAt g (start g (marks f .root)) × macondo.Spells file labels (macondo.endingInLetters g f)
-  -- every LXD file, once written, spells exactly the words of its start node, renamed: as a list, in order; and its header tells how many
+      → WordsAt g (startNode g (marks f .root)) × macondo.Spells file labels (macondo.endingInLetters g f)
+  -- every LXD file, once written, spells exactly the words of its start node, renamed: as a list, in order; and its header says how many
   -- nodes and words are read
   pub lxd : (g : Graph) (labels title date : List ℕ) (lentWork : ℕ) (lent file : List ℕ)
       → Wrote (toLxd g labels title date lentWork lent) file
-      → WordsAt g (start g 0) × lxd.Spells file (lxd.spelt g labels)
+      → WordsAt g (startNode g 0) × lxd.Spells file (lxd.wordsSpelled g labels)

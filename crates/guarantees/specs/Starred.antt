@@ -8,11 +8,11 @@ use Rattle.laws.specs.BitSets.{bitSet}
 use Rattle.laws.specs.Lists.{All}
 use Rattle.laws.specs.Sorting.{insertedAll}
 use Rattle.node.specs.Nodes.{KWG, KBWG, fits}
-use Rattle.node.specs.Answers.{Answer, gives, nothing, firstOf}
+use Rattle.answers.specs.Answers.{Answer, gives, nothing, firstOf}
 use Rattle.node.specs.declared.Layout.the-variants.{Kwg}
-use Rattle.graph.specs.Runs.{Graph, run, largestArc, lastEnds}
+use Rattle.graph.specs.Runs.{Graph, run, largestArc, lastEnds, startNode}
 use Rattle.graph.specs.Words.{Word, inOrder, spelled, wordsWithin, words, count}
-use Rattle.graph.specs.Counting.{table, counts}
+use Rattle.graph.specs.Counting.{table, counts, countLimit}
 use Rattle.endian.specs.Bytes.{wholeNodes, partNode}
 use Rattle.load.specs.Repacking.{fitting, firstMisfit}
 use Rattle.load.specs.Loading.{begin, feed, finish, holding, stateAfter, nodesAfter, zeros}
@@ -20,12 +20,11 @@ use Rattle.lookup.specs.Steps.{lent, difference, sum}
 use Rattle.lookup.specs.Walks.{findIn, passed, indexFrom, wordIndex, wordsHere, turnIn, wordFrom, wordByIndex, stepTo}
 use Rattle.letters.specs.LetterBits.{letterBits, filled, tilesOf}
 use Rattle.letters.specs.AlphaSets.{copies, spent, ended, completes, closing, along, crossCopies, crossLetters, crossFrom, crossSet}
-use Rattle.pieces.specs.Pieces.{Loads, loadPieces, loadWhole, fedPieces, feedAll}
-use Rattle.export.specs.Starts.{start}
+use Rattle.pieces.specs.Pieces.{LoadOutcome, loadPieces, loadWhole, fedPieces, feedAll}
 use Rattle.export.specs.Blocks.{met, blockAt}
-use Rattle.export.specs.Latin1.{byteOf}
+use Rattle.latin1.specs.Latin1.{byteOf}
 use Rattle.macondo_file.specs.Alphabet.{letters, letterOf}
-use Rattle.macondo_file.specs.File.{dawg, arcsOf, setOf, blocks, sets, blockOf, macondoNodes}
+use Rattle.macondo_file.specs.File.{dawg, arcsOf, setOf, blocks, letterSets, blockOf, macondoNodes}
 use Rattle.lxd_file.specs.File.{runs, child, lxdNode, lxdNodes}
 
 -- "G in KBWG words (hexadecimal): 240, 40, 481, 442, C2"
@@ -37,12 +36,12 @@ abbrev pub labels : List ℕ
 labels = 0x3F ∷ 0x41 ∷ 0x42 ∷ []
 
 -- what a load answers at its end, and the nodes
-abbrev loaded : Loads → Answer × Graph
+abbrev loaded : LoadOutcome → Answer × Graph
 loaded l = (l .finished, l .nodes)
 
 -- the accepting bits and all bits of a node
-abbrev bitsOf : ℕ → ℕ × ℕ
-bitsOf p = let l = letterBits G (counts G) (counts G) in (getD (l .accepting) p 0, getD (l .all) p 0)
+abbrev nodeBits : ℕ → ℕ × ℕ
+nodeBits p = let l = letterBits G (counts G) (counts G) in (getD (l .accepting) p 0, getD (l .all) p 0)
 
 -- A sentence of the paper, as what the rules give and what the paper says they give.
 pub record Case : Type 1 where
@@ -78,9 +77,9 @@ cases =
     -- "Number 3: none."
     ∷ record { Side = Word × Answer; found = wordByIndex (counts G) G 2 2 3; expected = ([], nothing) }
     -- "Word 2: none."
-    ∷ record { Side = Answer; found = wordIndex 4_294_967_295 G (counts G) 2 (2 ∷ []); expected = nothing }
+    ∷ record { Side = Answer; found = wordIndex countLimit G (counts G) 2 (2 ∷ []); expected = nothing }
     -- "Accepting bits of node 2: 2; all bits: 6."
-    ∷ record { Side = ℕ × ℕ; found = bitsOf 2; expected = (2, 6) }
+    ∷ record { Side = ℕ × ℕ; found = nodeBits 2; expected = (2, 6) }
     -- "Cross set of one A: 5."
     ∷ record { Side = Answer; found = crossSet G (0 ∷ 1 ∷ []); expected = gives (5 ∷ []) }
     -- "Of one B: 7."
@@ -88,17 +87,21 @@ cases =
     -- "Macondo nodes: 02000000 00000003 01000003 00000001; sets 1, 2."
     ∷ record {
       Side = List ℕ × List ℕ;
-      found = (macondoNodes G labels dawg, sets G labels dawg);
+      found = (macondoNodes G labels dawg, letterSets G labels dawg);
       expected = (0x02000000 ∷ 0x00000003 ∷ 0x01000003 ∷ 0x00000001 ∷ [], 1 ∷ 2 ∷ []);
     }
     -- "LXD nodes: 8A800000 8A800002 50400004 90800004 D0800000; 3 words."
     ∷ record {
       Side = List ℕ × ℕ;
-      found = (lxdNodes G labels, count KBWG G (start G 0));
+      found = (lxdNodes G labels, count KBWG G (startNode G 0));
       expected = (0x8A800000 ∷ 0x8A800002 ∷ 0x50400004 ∷ 0x90800004 ∷ 0xD0800000 ∷ [], 3);
     }
     ∷ []
 
 pub starred : All Holds cases
-unfolding cases fits fitting run inOrder spelled wordsWithin words table loadPieces fedPieces feedAll begin feed finish firstOf holding stateAfter nodesAfter wholeNodes partNode firstMisfit zeros largestArc lastEnds lent difference sum findIn passed indexFrom wordIndex wordsHere turnIn wordFrom wordByIndex stepTo bitSet letterBits filled tilesOf copies spent ended completes closing along crossCopies crossLetters crossFrom crossSet insertedAll met blockAt letters letterOf arcsOf setOf blocks sets blockOf macondoNodes byteOf runs child lxdNode lxdNodes
+unfolding cases fits fitting run inOrder spelled wordsWithin words table loadPieces fedPieces feedAll begin feed finish firstOf
+    holding stateAfter nodesAfter wholeNodes partNode firstMisfit zeros largestArc lastEnds lent difference sum findIn passed
+    indexFrom wordIndex wordsHere turnIn wordFrom wordByIndex stepTo bitSet letterBits filled tilesOf copies spent ended completes
+    closing along crossCopies crossLetters crossFrom crossSet insertedAll met blockAt letters letterOf arcsOf setOf blocks
+    letterSets blockOf macondoNodes byteOf runs child lxdNode lxdNodes
 starred = (refl, (refl, (refl, (refl, (refl, (refl, (refl, (refl, (refl, (refl, (refl, tt)))))))))))

@@ -1,11 +1,11 @@
 -- Each entry of a list once, at its first appearance, and the place of a number in a list.
-use mathlib.Core.Path.{_≡_, sym, subst}
+use mathlib.Core.Path.{_≡_, refl, sym, ap, _∙_, subst}
 use mathlib.Core.Bool.{true, false}
 use mathlib.Core.Logic.{⊎-elim}
-use mathlib.Core.List.{List, [], _∷_, _++_, List·Memᴰ, List·Memᴰ·head, List·Memᴰ·tail, List·Memᴰ·not-nil, List·Memᴰ·cases-cons, List·Memᴰ·append-cases, List·Memᴰ·eq-of-singleton, Memᴰ·append-left, Memᴰ·append-right, Memᴰ·cast}
+use mathlib.Core.List.{List, [], _∷_, _++_, List·Memᴰ}
+use mathlib.Core.List.{List·Memᴰ·head, List·Memᴰ·tail, List·Memᴰ·not-nil, List·Memᴰ·cases-cons, List·Memᴰ·append-cases, List·Memᴰ·eq-of-singleton, Memᴰ·append-left, Memᴰ·append-right, Memᴰ·cast}
 use Prim.Native.Nat.{ℕ, suc, zero-le, _+_, _≤_, _<_}
 use native.Mathlib.Omega.{arith}
-use mathlib.Core.Path.{refl}
 use lib.Dec.{eqb}
 use borrow.Author.Tests.{eqb-true, eqb-false}
 use lib.ListN.{length, getD, length-append}
@@ -81,3 +81,21 @@ firsts-from P (a ∷ l) seen h k x m =
     (λ i. subst P (sym (List·Memᴰ·eq-of-singleton i)) (k a (List·Memᴰ·head refl)))
     (List·Memᴰ·append-cases seen n))
     (λ y n. k y (List·Memᴰ·tail n)) x (rw (t, firsts) at m))
+
+-- ---- one after the other: what is seen keeps its place, whatever comes after it
+pub firsts-step : (seen xs : List ℕ) (x : ℕ) → firsts seen (x ∷ xs) ≡ firsts (firsts seen (x ∷ [])) xs
+firsts-step seen xs x = split (member x seen) (λ m. rw (m, firsts)) (λ m. rw (m, firsts))
+
+place-append : (l more : List ℕ) (x : ℕ) → List·Memᴰ x l → placeIn (l ++ more) x ≡ placeIn l x
+place-append [] more x m = absurd (List·Memᴰ·not-nil m)
+place-append (y ∷ l) more x m =
+    split (eqb x y)
+    (λ t. rw (t, placeIn))
+    (λ t. rw (t, placeIn) (ap suc (place-append l more x (⊎-elim (λ i. absurd (eqb-false x y t i)) (λ k. k) (List·Memᴰ·cases-cons m)))))
+
+pub place-stays : (xs seen : List ℕ) (x : ℕ) → List·Memᴰ x seen → placeIn (firsts seen xs) x ≡ placeIn seen x
+place-stays [] seen x m = refl
+place-stays (a ∷ xs) seen x m =
+    split (member a seen)
+    (λ t. rw (t, firsts) (place-stays xs seen x m))
+    (λ t. rw (t, firsts) (place-stays xs (seen ++ a ∷ []) x (Memᴰ·append-left (a ∷ []) m) ∙ place-append seen (a ∷ []) x m))

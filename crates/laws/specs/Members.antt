@@ -1,8 +1,9 @@
--- Who is in a list: in what is kept of it, in its image, in lists joined; and tests that ask for a member.
-use mathlib.Core.Path.{_≡_, refl, sym, ap, _∙_}
+-- Membership in a list: in what is kept of it, in its image, in lists joined; and tests that ask for a member.
+use mathlib.Core.Path.{_≡_, refl, sym, ap, ap₂, _∙_}
 use mathlib.Core.Bool.{Bool, true, false, true≢false}
 use mathlib.Core.Logic.{⊎-elim}
-use mathlib.Core.List.{List, [], _∷_, map, List·Memᴰ, List·Memᴰ·head, List·Memᴰ·tail, List·Memᴰ·not-nil, List·Memᴰ·cases-cons, List·Memᴰ·append-cases, Memᴰ·append-left, Memᴰ·append-right}
+use mathlib.Core.List.{List, [], _∷_, map, List·Memᴰ}
+use mathlib.Core.List.{List·Memᴰ·head, List·Memᴰ·tail, List·Memᴰ·not-nil, List·Memᴰ·cases-cons, List·Memᴰ·append-cases, Memᴰ·append-left, Memᴰ·append-right}
 use Prim.Native.Nat.{ℕ, zero, suc, zero-le, _+_, _≤_, _<_}
 use native.Mathlib.Numerals.{add-one}
 use native.Mathlib.Omega.{arith}
@@ -39,6 +40,10 @@ pub in-drop : {A : Type 0} (x : A) (n : ℕ) (l : List A) → List·Memᴰ x (dr
 in-drop x zero l m = m
 in-drop x (suc n) [] m = m
 in-drop x (suc n) (y ∷ l) m = List·Memᴰ·tail (in-drop x n l m)
+
+pub map-same : {A B : Type 0} (f h : A → B) (l : List A) → ((x : A) → List·Memᴰ x l → f x ≡ h x) → map f l ≡ map h l
+map-same f h [] e = refl
+map-same f h (x ∷ l) e = ap₂ _∷_ (e x (List·Memᴰ·head refl)) (map-same f h l (λ y m. e y (List·Memᴰ·tail m)))
 
 module _ {A B : Type 0} (f : A → B) where
   pub in-map : (l : List A) (y : B) → List·Memᴰ y (map f l) → (x : A) × List·Memᴰ x l × (y ≡ f x)
@@ -98,6 +103,9 @@ module _ {A : Type 0} (f : A → Bool) where
 
   pub none-of : (l : List A) → someOf f l ≡ false → (x : A) → List·Memᴰ x l → f x ≡ false
   none-of l e x m = split (f x) (λ t. absurd (true≢false (sym (of-some l x m t) ∙ e))) (λ t. t)
+
+  pub all-fail : (l : List A) → ((x : A) → List·Memᴰ x l → f x ≡ false) → someOf f l ≡ false
+  all-fail l h = split (someOf f l) (λ t. let r = some-of l t in absurd (true≢false (sym (r .2) ∙ h (r .0) (r .1)))) (λ t. t)
 
 module _ {A B : Type 0} (f : A → List B) where
   pub in-join : (l : List A) (y : B) → List·Memᴰ y (joinAll (map f l)) → (x : A) × List·Memᴰ x l × List·Memᴰ y (f x)

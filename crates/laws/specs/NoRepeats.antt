@@ -2,7 +2,8 @@
 use mathlib.Core.Path.{_≡_, refl, sym, ap, _∙_}
 use mathlib.Core.Bool.{Bool}
 use mathlib.Core.Logic.{_≢_, ⊎-elim, _↔_}
-use mathlib.Core.List.{List, [], _∷_, _++_, map, List·Memᴰ, List·Memᴰ·head, List·Memᴰ·tail, List·Memᴰ·not-nil, List·Memᴰ·cases-cons, List·Memᴰ·append-cases, Memᴰ·cast}
+use mathlib.Core.List.{List, [], _∷_, _++_, map, List·Memᴰ}
+use mathlib.Core.List.{List·Memᴰ·head, List·Memᴰ·tail, List·Memᴰ·not-nil, List·Memᴰ·cases-cons, List·Memᴰ·append-cases, Memᴰ·cast}
 use Prim.Native.Nat.{suc, zero-le, _≤_}
 use native.Mathlib.Omega.{arith}
 use lib.ListN.{length}
@@ -43,7 +44,7 @@ module _ {A B : Type 0} (f : A → B) where
     no-repeats-map l (λ y z m n. apart y z (List·Memᴰ·tail m) (List·Memᴰ·tail n)) (a .1),
   )
 
-  -- an image with no repeats tells the list's entries apart
+  -- where an image has no repeats, its entries come from different ones
   pub map-no-repeats : (l : List A) → NoRepeats (map f l) → NoRepeats l
   map-no-repeats [] a = tt
   map-no-repeats (x ∷ l) a = ((λ m. a .0 (map-in f l x m)), map-no-repeats l (a .1))

@@ -1,6 +1,3 @@
-pub mod GrowthLaws
 pub mod NumberLaws
+pub mod PartLaws
 pub mod RunLaws
-pub mod SearchLaws
-pub mod StoredLaws
-pub mod TableLaws

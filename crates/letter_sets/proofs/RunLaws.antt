@@ -1,5 +1,5 @@
 -- A run's letter set, a node at a time; and that a table of the labels' ranks gives the sets of the labels.
-use mathlib.Core.Path.{_≡_, refl, sym, ap, ap₂, _∙_}
+use mathlib.Core.Path.{_≡_, refl, sym, ap, _∙_}
 use mathlib.Core.Bool.{Bool, true, false, and-false}
 use mathlib.Core.Logic.{_≢_, ⊎-elim}
 use mathlib.Core.List.{List, [], _∷_, map, List·Memᴰ, List·Memᴰ·head, List·Memᴰ·tail, List·Memᴰ·not-nil, List·Memᴰ·cases-cons}
@@ -16,7 +16,7 @@ use lib.Seq.{drop-cons}
 use Rattle.laws.specs.BitSets.{marked, bitSet}
 use Rattle.laws.specs.Cases.{split}
 use Rattle.laws.specs.Lists.{kept}
-use Rattle.laws.specs.Members.{in-drop, in-kept, none-of}
+use Rattle.laws.specs.Members.{map-same, in-drop, in-kept, none-of}
 use Rattle.node.specs.Nodes.{KBWG, tile, accepts, isEnd}
 use Rattle.graph.specs.Runs.{Graph, node, run}
 use Rattle.export.specs.Starts.{unlabelled}
@@ -57,7 +57,8 @@ module _ (v : ℕ) where
   no-word e = rw e
 
   -- a shift by a rank is the power of two
-  pub letter-shifted : (s t : ℕ) → accepts KBWG v ≡ true → tile KBWG v ≢ 0 → t ≤ 50 → bitOr s (1 * 2 ^ t % 2 ^ 64) ≡ marked s t (endsInLetter v)
+  pub letter-shifted : (s t : ℕ) → accepts KBWG v ≡ true → tile KBWG v ≢ 0 → t ≤ 50
+      → bitOr s (1 * 2 ^ t % 2 ^ 64) ≡ marked s t (endsInLetter v)
   letter-shifted s t a z h =
       let e : endsInLetter v ≡ true = rw (a, ne-eqb (tile KBWG v) 0 z) in
       rw (e, marked) (ap (bitOr s) (shl-exact {a = 1} 1 t 64 (lit< tt) (omega arith) ∙ one-mul (2 ^ t)))
@@ -104,10 +105,6 @@ in-run (u ∷ vs) v m =
     ⊎-elim (λ e. List·Memᴰ·head e)
     (λ k. split (isEnd KBWG u) (λ x. absurd (List·Memᴰ·not-nil (rw x at k))) (λ x. List·Memᴰ·tail (in-run vs v (rw x at k))))
     (List·Memᴰ·cases-cons m)
-
-map-same : (f h : ℕ → ℕ) (l : List ℕ) → ((x : ℕ) → List·Memᴰ x l → f x ≡ h x) → map f l ≡ map h l
-map-same f h [] e = refl
-map-same f h (x ∷ l) e = ap₂ _∷_ (e x (List·Memᴰ·head refl)) (map-same f h l (λ y m. e y (List·Memᴰ·tail m)))
 
 module _ (labels ranks : List ℕ) (g : Graph) (labelled : unlabelled g labels ≡ false) (ranked : Ranks labels ranks) where
   set-at : (p : ℕ) → setBy ranks g p ≡ setOf g labels p

@@ -1,3 +1,3 @@
+pub mod HalvesLaws
 pub mod Letters
-pub mod Sets
-pub mod Tree
+pub mod SetNumbers

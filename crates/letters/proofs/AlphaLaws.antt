@@ -10,13 +10,13 @@ use native.Mathlib.Numerals.{add-one}
 use borrow.Author.Tests.{eq-eqb, ne-eqb, lt-ltb, le-ltb}
 use lib.ListN.{length, getD, drop, drop-of-length-le}
 use lib.Seq.{drop-cons}
-use Rattle.node.specs.Answers.{Answer, gives, nothing, refused, firstOf}
-use Rattle.node.specs.RowLaws.{row-refuses, row-passes, row-ends}
+use Rattle.answers.specs.Answers.{Answer, gives, nothing, refused, firstOf}
+use Rattle.answers.specs.RowLaws.{row-refuses, row-passes, row-ends}
 use Rattle.node.specs.Nodes.{KBWG, tile, arc, accepts, isEnd}
 use Rattle.graph.specs.Runs.{Graph, node}
 use Rattle.lookup.specs.Steps.{Try, on, stop, _>>=_, answer}
 use Rattle.lookup.specs.Walks.{stepTo}
-use Rattle.lookup.specs.WalkLaws.{lent-on, lent-out}
+use Rattle.lookup.specs.StepsLaws.{lent-on, lent-out}
 use Rattle.laws.specs.BitSets.{marked}
 use Rattle.letters.specs.AlphaSets.{tallyRow, copies, spent, ended, completes, closing, along, crossCopies, crossLetters, crossFrom}
 
@@ -34,15 +34,15 @@ module _ (g : Graph) (p s : ℕ) where
   unfolding closing
   closing-out h = rw (drop-of-length-le g h)
 
-  module _ (h : p < length g) where
-    pub closing-end : isEnd KBWG (node g p) ≡ true → closing (drop p g) s ≡ gives (marked s (tile KBWG (node g p)) (accepts KBWG (node g p)) ∷ [])
+  -- x: the set with the node's tile, where it accepts
+  module _ (h : p < length g) (x : ℕ) (with-it : x ≡ marked s (tile KBWG (node g p)) (accepts KBWG (node g p))) where
+    pub closing-end : isEnd KBWG (node g p) ≡ true → closing (drop p g) s ≡ gives (x ∷ [])
     unfolding closing
-    closing-end e = rw (drop-cons g p 0 h) (rw (e, closing))
+    closing-end e = rw with-it (rw (drop-cons g p 0 h) (rw (e, closing)))
 
-    pub closing-next : isEnd KBWG (node g p) ≡ false
-        → closing (drop p g) s ≡ closing (drop (p + 1) g) (marked s (tile KBWG (node g p)) (accepts KBWG (node g p)))
+    pub closing-next : isEnd KBWG (node g p) ≡ false → closing (drop p g) s ≡ closing (drop (p + 1) g) x
     unfolding closing
-    closing-next e = rw add-one (rw (drop-cons g p 0 h) (rw (e, closing)))
+    closing-next e = rw (with-it, add-one) (rw (drop-cons g p 0 h) (rw (e, closing)))
 
 -- ---- along the letters left
 module _ (g : Graph) (tally : List ℕ) where
@@ -135,11 +135,11 @@ module _ (g : Graph) (tally : List ℕ) where
           rw (drop-cons g p 0 h) (rw (le-ltb t (tile KBWG (node g p)) (omega arith), along)
           (rw (eq-eqb (tile KBWG (node g p)) t k) (rw (eq-eqb (arc KBWG (node g p)) 0 z))))
 
-      pub node-arc : tile KBWG (node g p) ≡ t → arc KBWG (node g p) ≢ 0 → atNode n t p s ≡ atCopy n t (arc KBWG (node g p)) s
+      pub node-arc : (q : ℕ) → q ≡ arc KBWG (node g p) → tile KBWG (node g p) ≡ t → q ≢ 0 → atNode n t p s ≡ atCopy n t q s
       unfolding along
-      node-arc k z =
-          rw (drop-cons g p 0 h) (rw (le-ltb t (tile KBWG (node g p)) (omega arith), along)
-          (rw (eq-eqb (tile KBWG (node g p)) t k) (rw (ne-eqb (arc KBWG (node g p)) 0 z))))
+      node-arc q e k z =
+          rw e (rw (drop-cons g p 0 h) (rw (le-ltb t (tile KBWG (node g p)) (omega arith), along)
+          (rw (eq-eqb (tile KBWG (node g p)) t k) (rw (ne-eqb (arc KBWG (node g p)) 0 (λ y. z (e ∙ y)))))))
 
       module _ (k : tile KBWG (node g p) ≤ t) (m : tile KBWG (node g p) ≢ t) where
         pub node-stop : {r : Answer} → completes g tally t p ≡ stop r → atNode n t p s ≡ r
@@ -147,18 +147,19 @@ module _ (g : Graph) (tally : List ℕ) where
         node-stop e =
             rw (drop-cons g p 0 h) (rw (le-ltb t (tile KBWG (node g p)) k, along) (rw (ne-eqb (tile KBWG (node g p)) t m) (rw e)))
 
-        module _ (b : Bool) (e : completes g tally t p ≡ on b) where
-          pub node-end : isEnd KBWG (node g p) ≡ true → atNode n t p s ≡ gives (marked s (tile KBWG (node g p)) b ∷ [])
+        -- x: the set with the node's tile, where that completes the letters
+        module _ (b : Bool) (e : completes g tally t p ≡ on b) (x : ℕ) (with-it : x ≡ marked s (tile KBWG (node g p)) b) where
+          pub node-end : isEnd KBWG (node g p) ≡ true → atNode n t p s ≡ gives (x ∷ [])
           unfolding along
           node-end z =
-              rw (drop-cons g p 0 h) (rw (le-ltb t (tile KBWG (node g p)) k, along) (rw (ne-eqb (tile KBWG (node g p)) t m) (rw e
-              (rw z))))
+              rw with-it (rw (drop-cons g p 0 h) (rw (le-ltb t (tile KBWG (node g p)) k, along)
+              (rw (ne-eqb (tile KBWG (node g p)) t m) (rw e (rw z)))))
 
-          pub node-next : isEnd KBWG (node g p) ≡ false → atNode n t p s ≡ atNode n t (p + 1) (marked s (tile KBWG (node g p)) b)
+          pub node-next : isEnd KBWG (node g p) ≡ false → atNode n t p s ≡ atNode n t (p + 1) x
           unfolding along
           node-next z =
-              rw (add-one p) (rw (drop-cons g p 0 h) (rw (le-ltb t (tile KBWG (node g p)) k, along) (rw (ne-eqb (tile KBWG (node g p)) t m) (rw e
-              (rw z)))))
+              rw (with-it, add-one p) (rw (drop-cons g p 0 h) (rw (le-ltb t (tile KBWG (node g p)) k, along)
+              (rw (ne-eqb (tile KBWG (node g p)) t m) (rw e (rw z)))))
 
   -- ---- the walk from the start
   pub cross-out : length g ≡ 0 → crossFrom g tally ≡ refused 14 []

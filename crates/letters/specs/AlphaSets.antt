@@ -5,12 +5,13 @@ use mathlib.Core.List.{List, [], _∷_}
 use Prim.Native.Nat.{ℕ, zero, suc}
 use lib.Dec.{eqb, ltb}
 use lib.ListN.{length, drop}
-use Rattle.node.specs.Answers.{Answer, gives, nothing, refused, refusing, Row, firstOf, orElse}
-use Rattle.node.specs.Nodes.{tile, arc, accepts, KBWG, isEnd, flag}
+use Rattle.answers.specs.Answers.{Answer, gives, nothing, refused, refusing, Row, firstOf, orElse}
+use Rattle.node.specs.Nodes.{tile, arc, accepts, KBWG, isEnd}
 use Rattle.graph.specs.Runs.{Graph}
 use Rattle.lookup.specs.Steps.{Try, on, stop, _>>=_, answer, lentPart, lent}
 use Rattle.lookup.specs.Walks.{stepTo}
 use Rattle.laws.specs.BitSets.{marked}
+use Rattle.base.specs.Numbers.{flag}
 
 -- "17+ tally over 64"
 abbrev pub tallyRow : List ℕ → Row

@@ -6,7 +6,7 @@ use Prim.Native.Nat.{ℕ}
 use lib.Dec.{ltb}
 use lib.ListN.{length, drop}
 use Rattle.laws.specs.Lists.{kept}
-use Rattle.node.specs.Answers.{Answer, gives, refusing, Row, firstOf}
+use Rattle.answers.specs.Answers.{Answer, gives, refusing, Row, firstOf}
 use Rattle.node.specs.Nodes.{tile, accepts, KBWG, isEnd}
 use Rattle.graph.specs.Runs.{Graph, run}
 use Rattle.graph.specs.Counting.{table}

@@ -2,8 +2,8 @@
 use mathlib.Core.Bool.{Bool}
 use mathlib.Core.List.{List, [], _∷_}
 use Prim.Native.Nat.{ℕ}
-use Rattle.node.specs.Answers.{Answer, gives, refused}
-use Rattle.node.specs.Nodes.{flag}
+use Rattle.base.specs.Numbers.{flag}
+use Rattle.answers.specs.Answers.{Answer, gives, refused}
 use Rattle.lookup.specs.Steps.{Try, on, stop}
 use Rattle.letters.specs.LetterBits.{Lettered}
 use Rattle.letters.specs.declared.letter_bits.LetterBits.{LetterBits}

@@ -5,7 +5,7 @@ ghost use lib.ListN.{length, drop};
 ghost use Rattle.letters.specs.AlphaSets.{completes, acceptsAlpha, closing as closed, crossFrom, crossSet};
 ghost use Rattle.letters.specs.Said.{decided, saidAlpha, saidCross};
 use crate::tiles::marked;
-use lookup::Found;
+use lookup::RunSearch;
 use lookup::lent_part;
 use lookup::seek_from;
 use node::Node24;
@@ -37,11 +37,11 @@ fn completes_alpha_cross_set(nodes: &[u32], p: usize, tally: &[u8], next_letter:
     'letters: while letter < tally.len() {
         let mut left = tally[letter];
         'copies: while 0 < left {
-            let found = seek_from(nodes, p, letter as u32);
+            let found = seek_from(nodes, p, letter as u8);
             match found {
-                Found::At(q) => p = q,
-                Found::Absent => return Completes::Known(false),
-                Found::NotLent => return Completes::NotLent,
+                RunSearch::At(q) => p = q,
+                RunSearch::Absent => return Completes::Known(false),
+                RunSearch::NotLent => return Completes::NotLent,
             }
             left -= 1;
         }

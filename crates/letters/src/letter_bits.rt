@@ -23,7 +23,8 @@ pub fn compute_letter_bits(
     letter_bits: &mut [u64],
     accepting_bits: &mut [u64],
 ) -> LetterBits
-    ensures { λ r. ⌜ letteredAs r (now («letter_bits» .exit)) (now («accepting_bits» .exit)) ≡ letterBits (now (nodes .entry)) (now («letter_bits» .entry)) (now («accepting_bits» .entry)) ⌝ }
+    ensures { λ r. ⌜ letteredAs r (now («letter_bits» .exit)) (now («accepting_bits» .exit))
+        ≡ letterBits (now (nodes .entry)) (now («letter_bits» .entry)) (now («accepting_bits» .entry)) ⌝ }
 {
     if letter_bits.len() < nodes.len() {
         return LetterBits::ListTooShort;

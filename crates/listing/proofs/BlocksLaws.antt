@@ -10,19 +10,19 @@ use borrow.Author.Tests.{lt-ltb, le-ltb}
 use lib.ListN.{length}
 use Rattle.laws.specs.Cases.{split}
 use Rattle.endian.specs.Putting.{Putting, put-start}
-use Rattle.listing.specs.Blocks.{Walk, lineFor, goesOn, longest, linesOf, allWords, numbersIn, block}
+use Rattle.listing.specs.Blocks.{NumberWalk, lineFor, goesOn, longest, linesOf, allWords, numbersIn, block}
 use Rattle.listing.specs.NextLaws.{block-more, block-over, some-number}
 use Rattle.listing.proofs.PutLaws.{next-put, all-put, put-front}
-use Rattle.listing.specs.Lines.{refusal}
+use Rattle.listing.specs.Lines.{refusalLine}
 use Rattle.listing.specs.Printing.{room, walkFrom, nextBlock}
-use Rattle.listing.specs.Said.{Puts, PutWord, Fills, Makes}
+use Rattle.listing.specs.Said.{Puts, PutWord, FillsBlock, Makes}
 use Rattle.listing.specs.declared.opening.Unprinted.{Unprinted}
 use Rattle.listing.specs.declared.opening.Unprinted.the-variants.{Refusal, Words}
-use Rattle.listing.specs.declared.blocks.Put.{Put}
-use Rattle.listing.specs.declared.blocks.Filled.{Filled}
-use Rattle.listing.specs.declared.blocks.Made.the-variants.{Bytes, Done}
+use Rattle.listing.specs.declared.blocks.LinePut.{LinePut}
+use Rattle.listing.specs.declared.blocks.BlockFilled.{BlockFilled}
+use Rattle.listing.specs.declared.blocks.BlockMade.the-variants.{Bytes, Done}
 
-module _ (walk : Walk) where
+module _ (walk : NumberWalk) where
   -- ---- one number, of those before e
   module _ (i e : ℕ) (h : i < e) where
     one-more : e - i ≡ suc (e - suc i)
@@ -46,24 +46,24 @@ module _ (walk : Walk) where
     words-last g = rw (one-more, allWords) (rw g)
 
   -- ---- a block on the way: of the numbers from next to e, those from i on are left, and go to `at`
-  pub record Filling (next e : ℕ) (before out : List ℕ) (i at : ℕ) : Type 0 where
+  pub record BlockFilling (next e : ℕ) (before out : List ℕ) (i at : ℕ) : Type 0 where
     pub from : next ≤ i
     pub to : i ≤ e
     pub room : at ≤ longest * (i - next)
     pub left : Putting (linesOf walk next (e - next)) before 0 (linesOf walk i (e - i)) out at
     pub words : allWords walk i (e - i) ≡ allWords walk next (e - next)
 
-  pub fill-start : (next e : ℕ) (before : List ℕ) → next ≤ e → Filling next e before before next 0
+  pub fill-start : (next e : ℕ) (before : List ℕ) → next ≤ e → BlockFilling next e before before next 0
   fill-start next e before h =
       record { from = omega arith; to = h; room = omega arith; left = put-start (linesOf walk next (e - next)) before 0; words = refl }
 
-  module _ {next e : ℕ} {before out : List ℕ} {i at : ℕ} (f : Filling next e before out i at) where
+  module _ {next e : ℕ} {before out : List ℕ} {i at : ℕ} (f : BlockFilling next e before out i at) where
     pub fill-size : length out ≡ length before
     fill-size = f .left .size
 
     module _ (h : i < e) where
-      pub fill-next : {out′ : List ℕ} {r : Put} → PutWord i (walk i) out at out′ r → r .more ≡ true
-          → Filling next e before out′ (i + 1) (r .end)
+      pub fill-next : {out′ : List ℕ} {r : LinePut} → PutWord i (walk i) out at out′ r → r .more ≡ true
+          → BlockFilling next e before out′ (i + 1) (r .end)
       fill-next p m =
           let g = sym (p .more) ∙ m in
           record {
@@ -75,7 +75,7 @@ module _ (walk : Walk) where
           }
 
       -- the end of the block after what is not a word
-      fill-end : {out′ : List ℕ} {r : Put} → PutWord i (walk i) out at out′ r → r .more ≡ false
+      fill-end : {out′ : List ℕ} {r : LinePut} → PutWord i (walk i) out at out′ r → r .more ≡ false
           → Puts (linesOf walk next (e - next)) before 0 out′ (r .end)
       fill-end p m = all-put (next-put [] (f .left) (lines-last i e h (sym (p .more) ∙ m)) (p .puts)) refl
 
@@ -86,8 +86,8 @@ module _ (walk : Walk) where
       pub fill-room : i < e → at + longest ≤ length out
       fill-room h = omega (arith, f .from, f .room, fill-size, b)
 
-      pub fill-last : (h : i < e) {out′ : List ℕ} {r : Put} → PutWord i (walk i) out at out′ r → r .more ≡ false
-          → Fills (block walk count next (length before)) before out′ (record { next = count; written = r .end })
+      pub fill-last : (h : i < e) {out′ : List ℕ} {r : LinePut} → PutWord i (walk i) out at out′ r → r .more ≡ false
+          → FillsBlock (block walk count next (length before)) before out′ (record { next = count; written = r .end })
       unfolding block
       fill-last h {out′} {r} p m =
           let w = sym (f .words) ∙ words-last i e h (sym (p .more) ∙ m) in
@@ -97,7 +97,7 @@ module _ (walk : Walk) where
             front = put-front q (omega (arith, q .place, p .within, fill-room h, fill-size));
           }
 
-      pub fill-done : e ≤ i → Fills (block walk count next (length before)) before out (record { next = i; written = at })
+      pub fill-done : e ≤ i → FillsBlock (block walk count next (length before)) before out (record { next = i; written = at })
       unfolding block linesOf allWords
       fill-done h =
           let z : e - i ≡ 0 = omega (arith, f .to) in
@@ -148,14 +148,14 @@ module _ (walk : Walk) where
 
 -- ---- the next block
 module _ (nodes counts : List ℕ) (u : Unprinted) (before after : List ℕ) where
-  pub made-refusal : (n written : ℕ) → u ≡ Refusal n → length (refusal n) ≤ length before → Puts (refusal n) before 0 after written
+  pub made-refusal : (n written : ℕ) → u ≡ Refusal n → length (refusalLine n) ≤ length before → Puts (refusalLine n) before 0 after written
       → Makes (nextBlock nodes counts u) before after (Bytes written (Words 0 0 0))
   unfolding nextBlock
   made-refusal n written e h p = rw e (put-front p h, refl)
 
   module _ (start count next : ℕ) (e : u ≡ Words start count next) where
-    pub made-words : (f : Filled) (onward : ℕ) → next < count → length before ≡ room
-        → Fills (block (walkFrom nodes counts start) count next (length before)) before after f → onward ≡ f .next
+    pub made-words : (f : BlockFilled) (onward : ℕ) → next < count → length before ≡ room
+        → FillsBlock (block (walkFrom nodes counts start) count next (length before)) before after f → onward ≡ f .next
         → Makes (nextBlock nodes counts u) before after (Bytes (f .written) (Words start count onward))
     unfolding nextBlock
     made-words f onward h l p i =

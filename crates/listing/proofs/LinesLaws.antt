@@ -12,7 +12,7 @@ use lib.Seq.{drop-cons}
 use Rattle.laws.specs.Cases.{split}
 use Rattle.laws.specs.Lists.{All}
 use Rattle.graph.specs.Words.{Word}
-use Rattle.listing.specs.Lines.{decimalWithin, decimal, spaced, parted, line, refusal}
+use Rattle.listing.specs.Lines.{decimalWithin, decimal, spaced, parted, line, refusalLine}
 
 -- ---- decimal digits
 -- more digits than enough change nothing
@@ -87,8 +87,8 @@ pub line-parts : (n : ℕ) (w : Word) → length (line n w) ≡ length (decimal 
 unfolding line
 line-parts n w = simp length-append (omega arith)
 
-pub refusal-parts : (n : ℕ) → length (refusal n) ≡ 8 + length (decimal n) + 1
-unfolding refusal
+pub refusal-parts : (n : ℕ) → length (refusalLine n) ≡ 8 + length (decimal n) + 1
+unfolding refusalLine
 refusal-parts n = simp length-append (omega arith)
 
 -- ---- how long it can get
@@ -118,5 +118,5 @@ number-length n h = decimal-length 9 n (omega arith)
 pub line-length : (n : ℕ) (w : Word) → n < 4_294_967_296 → length w ≤ 256 → Tiles w → length (line n w) ≤ 779
 line-length n w h l a = omega (arith, line-parts n w, number-length n h, parted-length w a)
 
-pub refusal-length : (n : ℕ) → n < 4_294_967_296 → length (refusal n) ≤ 19
+pub refusal-length : (n : ℕ) → n < 4_294_967_296 → length (refusalLine n) ≤ 19
 refusal-length n h = omega (arith, refusal-parts n, number-length n h)

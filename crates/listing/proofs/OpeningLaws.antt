@@ -1,4 +1,4 @@
--- Opening an input: what each call's answer tells, and how the whole ends.
+-- Opening an input: what follows from each call's answer, and how the whole ends.
 use mathlib.Core.Path.{_≡_, refl, sym, ap, _∙_, subst}
 use mathlib.Core.Bool.{true, false}
 use mathlib.Core.List.{List, [], _∷_}
@@ -9,13 +9,13 @@ use borrow.Author.Tests.{eq-eqb, ne-eqb}
 use lib.ListN.{length, getD, take, length-take}
 use lib.Seq.{getD-take, take-all}
 use Rattle.laws.specs.Cases.{split}
-use Rattle.node.specs.Answers.{Answer, gives, nothing, refused}
+use Rattle.answers.specs.Answers.{Answer, gives, nothing, refused}
 use Rattle.node.specs.Nodes.{KBWG}
 use Rattle.node.specs.declared.Layout.the-variants.{Kwg}
-use Rattle.graph.specs.Runs.{Graph}
+use Rattle.graph.specs.Runs.{Graph, startNode}
 use Rattle.graph.specs.Words.{words, count}
 use Rattle.graph.specs.ChecksLaws.{Fit, fit}
-use Rattle.graph.specs.Counting.{counts, Counted, Counts}
+use Rattle.graph.specs.Counting.{counts, IsCounted, Counts, countLimit}
 use Rattle.load.specs.FinishLaws.{finished-within}
 use Rattle.load.specs.Loading.{Feeds, begin, feed, finish}
 use Rattle.load.specs.Said.{saidBegin, saidFinish, begunAs, fedAs, finishedAs}
@@ -23,16 +23,15 @@ use Rattle.load.specs.declared.loader.BeginAnswer.{BeginAnswer}
 use Rattle.load.specs.declared.loader.Finished.{Finished}
 use Rattle.load.specs.declared.loader.Begun.{Begun}
 use Rattle.load.specs.declared.loader.Fed.{Fed}
-use Rattle.count.specs.Said.{limit}
-use Rattle.pieces.specs.Pieces.{Loads, feedAll, fedPieces, loadPieces, oneFeed}
+use Rattle.pieces.specs.Pieces.{LoadOutcome, feedAll, fedPieces, loadPieces, oneFeed}
 use Rattle.graph.specs.TableLaws.{table-length, table-at}
-use Rattle.numbers.specs.NumberedLaws.{counted-lent}
-use Rattle.listing.specs.Wordlist.{start, startWords, mostBytes, load, lastAnswer, loadAnswer, RefusesBy, CountWork, LongEnough, ReadInto, longer, unloaded, uncounted, counted, refuses, lists}
+use Rattle.numbers.specs.WordNumbersLaws.{counted-lent}
+use Rattle.listing.specs.Wordlist.{startWords, mostBytes, load, lastAnswer, loadAnswer, RefusesBy, CountWork, LongEnough, ReadInto, longer, unloaded, uncounted, counted, refuses, lists}
 use Rattle.listing.specs.Said.{saidLoad, LoadsAs, atStart, saidCount, CountsAs, Opening, OpensRead}
 use Rattle.listing.specs.declared.opening.Unprinted.{Unprinted}
 use Rattle.listing.specs.declared.opening.Unprinted.the-variants.{Refusal, Words}
-use Rattle.listing.specs.declared.opening.Loaded.{Loaded}
-use Rattle.listing.specs.declared.opening.Loaded.the-variants.{Nodes, Refused}
+use Rattle.listing.specs.declared.opening.FileLoaded.{FileLoaded}
+use Rattle.listing.specs.declared.opening.FileLoaded.the-variants.{Nodes, Refused}
 
 -- an answer of this number refuses by it
 pub refuses-by : (m : ℕ) {n : ℕ} {a : Answer} {vs : List ℕ} → a ≡ refused m vs → m ≡ n → RefusesBy a n
@@ -40,7 +39,7 @@ refuses-by m {n} e i = subst (λ x. RefusesBy x n) (sym e) i
 
 -- ---- the load
 -- what begin and finish answered, and the nodes then, are those of a load
-pub record Answered (l : Loads) (begun : BeginAnswer) (finished : Finished) (nodes : List ℕ) : Type 0 where
+pub record Answered (l : LoadOutcome) (begun : BeginAnswer) (finished : Finished) (nodes : List ℕ) : Type 0 where
   pub begins : saidBegin begun ≡ l .begun
   pub finishes : saidFinish finished ≡ l .finished
   pub table : nodes ≡ l .nodes
@@ -57,13 +56,13 @@ whole-load input lentNodes b f finished {fedNodes} {nodes} e d g =
     g ∙ ap (λ (x : Feeds). finish (x .state) (x .nodes)) fed in
     record { begins = ap (λ x. x .answer) e; finishes = ap (λ x. x .answer) last; table = ap (λ x. x .nodes) last }
 
-module _ {l : Loads} {begun : BeginAnswer} {finished : Finished} {nodes : List ℕ} (h : Answered l begun finished nodes) where
+module _ {l : LoadOutcome} {begun : BeginAnswer} {finished : Finished} {nodes : List ℕ} (h : Answered l begun finished nodes) where
   pub begin-refused : (n : ℕ) {vs : List ℕ} → saidBegin begun ≡ refused n vs → LoadsAs l (Refused n) nodes
   begin-refused n {vs} e =
       let b : l .begun ≡ refused n vs = sym (h .begins) ∙ e in
       record { said = subst (λ a. RefusesBy (lastAnswer a (l .finished)) n) (sym b) refl; table = h .table }
 
-  pub begin-ready : (x : Loaded) → saidBegin begun ≡ gives [] → saidLoad x (saidFinish finished) → LoadsAs l x nodes
+  pub begin-ready : (x : FileLoaded) → saidBegin begun ≡ gives [] → saidLoad x (saidFinish finished) → LoadsAs l x nodes
   begin-ready x e f =
       let b : l .begun ≡ gives [] = sym (h .begins) ∙ e in
       let a : loadAnswer l ≡ saidFinish finished = ap (λ y. lastAnswer y (l .finished)) b ∙ sym (h .finishes) in
@@ -87,26 +86,26 @@ pub nodes-within : (input lentNodes : List ℕ) {nodes : List ℕ} {n : ℕ} →
 nodes-within input lentNodes {nodes} {n} a = subst (λ l. n ≤ length l) (sym (a .table)) (loaded-within input lentNodes (a .said))
 
 -- what holds of the answer of a load holds where a match finds it
-pub loads-as : {l : Loads} {x y : Loaded} {nodes : List ℕ} → x ≡ y → LoadsAs l x nodes → LoadsAs l y nodes
+pub loads-as : {l : LoadOutcome} {x y : FileLoaded} {nodes : List ℕ} → x ≡ y → LoadsAs l x nodes → LoadsAs l y nodes
 loads-as {l} {nodes = nodes} e a = subst (λ r. LoadsAs l r nodes) e a
 
 -- ---- the start
-module _ (nodes counts : List ℕ) {s : ℕ} (e : s ≡ start nodes) where
+module _ (nodes counts : List ℕ) {s : ℕ} (e : s ≡ startNode nodes 0) where
   pub no-words : s ≡ 0 → Words s 0 0 ≡ atStart nodes counts
-  no-words z = rw (e, eq-eqb (start nodes) 0 (sym e ∙ z))
+  no-words z = rw (e, eq-eqb (startNode nodes 0) 0 (sym e ∙ z))
 
   pub some-words : (s ≡ 0 → ⊥) → Words s (getD counts s 0) 0 ≡ atStart nodes counts
-  some-words n = rw (e, ne-eqb (start nodes) 0 (λ z. n (e ∙ z)))
+  some-words n = rw (e, ne-eqb (startNode nodes 0) 0 (λ z. n (e ∙ z)))
 
 -- ---- the count
 module _ {g : Graph} {lentCounts lentWork after work : List ℕ} where
-  pub counts-refused : (n : ℕ) {vs : List ℕ} {a : Answer} → a ≡ refused n vs → Counted limit g lentCounts (length lentWork) a after
+  pub counts-refused : (n : ℕ) {vs : List ℕ} {a : Answer} → a ≡ refused n vs → IsCounted countLimit g lentCounts (length lentWork) a after
       → CountWork g lentCounts lentWork work → CountsAs g lentCounts lentWork (Refusal n) after work
   counts-refused n {vs} {a} e c w = record { answer = a; said = subst (λ x. RefusesBy x n) (sym e) refl; counted = c; free = w }
 
-module _ (g : Graph) (lentCounts lentWork after : List ℕ) (c : Counted limit g lentCounts (length lentWork) (gives []) after) where
-  ok : Counts limit g × (take (length g) after ≡ counts g)
-  ok = counted-lent limit g lentCounts after (length lentWork) c
+module _ (g : Graph) (lentCounts lentWork after : List ℕ) (c : IsCounted countLimit g lentCounts (length lentWork) (gives []) after) where
+  ok : Counts countLimit g × (take (length g) after ≡ counts g)
+  ok = counted-lent countLimit g lentCounts after (length lentWork) c
 
   fits : Fit g
   fits = fit g (ok .0 .fit)
@@ -117,18 +116,18 @@ module _ (g : Graph) (lentCounts lentWork after : List ℕ) (c : Counted limit g
       let n = sym (length-take (length g) after) ∙ ap length (ok .1) ∙ table-length (length g) (count KBWG g) in
       (omega arith, sym (getD-take (length g) after p 0 h) ∙ ap (λ l. getD l p 0) (ok .1) ∙ table-at (length g) (count KBWG g) p h)
 
-  pub start-stands : (0 < length g) × (start g < length after)
+  pub start-stands : (0 < length g) × (startNode g 0 < length after)
   start-stands =
       let z : 0 < length g = omega (arith, fits .two) in
-      (z, count-stands (start g) (fits .steps .arcs 0 z) .0)
+      (z, count-stands (startNode g 0) (fits .steps .arcs 0 z) .0)
 
   -- the number of words from the start, as it is read off the counts
-  start-count : elim (eqb (start g) 0) [ true ↦ 0 | false ↦ getD after (start g) 0 ] ≡ length (startWords g)
+  start-count : elim (eqb (startNode g 0) 0) [ true ↦ 0 | false ↦ getD after (startNode g 0) 0 ] ≡ length (startWords g)
   unfolding startWords
   start-count =
-      split (eqb (start g) 0)
+      split (eqb (startNode g 0) 0)
       (λ t. rw (t, startWords))
-      (λ t. rw (t, startWords) (count-stands (start g) (fits .steps .arcs 0 (start-stands .0)) .1))
+      (λ t. rw (t, startWords) (count-stands (startNode g 0) (fits .steps .arcs 0 (start-stands .0)) .1))
 
   pub counts-done : {r : Unprinted} {work : List ℕ} → r ≡ atStart g after → CountWork g lentCounts lentWork work
       → CountsAs g lentCounts lentWork r after work
@@ -172,7 +171,7 @@ module _ {input lentNodes lentCounts lentWork : List ℕ} (n : LongEnough lentNo
         let t = c .said .0 in
         let k = rw (a .table, t) at (c .counted) in
         let w = rw (a .table) at (c .free) in
-        let all : (s ≡ start (take size nodes)) × (m ≡ length (startWords (take size nodes))) × (i ≡ 0) = (c .said .1, c .said .2, c .said .3) in
+        let all : (s ≡ startNode (take size nodes) 0) × (m ≡ length (startWords (take size nodes))) × (i ≡ 0) = (c .said .1, c .said .2, c .said .3) in
         record {
           enough = n;
           ends = lists (take size (load input lentNodes .nodes));

@@ -10,16 +10,16 @@ use lib.ListN.{length, take}
 use lib.Seq.{length-take-le}
 use Rattle.laws.specs.Cases.{split, split-option, some≢none}
 use Rattle.laws.specs.Lists.{joinAll}
-use Rattle.node.specs.Answers.{Answer, gives, nothing, refused}
+use Rattle.answers.specs.Answers.{Answer, gives, nothing, refused}
 use Rattle.graph.specs.Runs.{Graph}
-use Rattle.graph.specs.Counting.{Counted, unfit, loop, many, all, Counts}
-use Rattle.count.specs.Said.{limit}
-use Rattle.numbers.specs.Numbered.{Lent}
-use Rattle.numbers.specs.NumberedLaws.{counted-lent}
-use Rattle.listing.specs.Lines.{refusal}
-use Rattle.listing.specs.Wordlist.{startWords, load, loadAnswer, RefusesBy, Ends, refuses, lists, Opens, longer, unloaded, uncounted, counted, printed, Prints}
+use Rattle.graph.specs.Counting.{IsCounted, unfit, loop, many, all, Counts, countLimit}
+use Rattle.numbers.specs.WordNumbers.{Lent}
+use Rattle.numbers.specs.WordNumbersLaws.{counted-lent}
+use Rattle.listing.specs.Lines.{refusalLine}
+use Rattle.listing.specs.Wordlist.{startWords, load, loadAnswer, RefusesBy, Ends, refuses, lists}
+use Rattle.listing.specs.Wordlist.{Opens, longer, unloaded, uncounted, counted, printed, Prints}
 use Rattle.listing.specs.Blocks.{linesOf, block}
-use Rattle.listing.specs.Printing.{room, walkFrom, linesLeft, Next, nextBlock, blocksWithin, blocks}
+use Rattle.listing.specs.Printing.{room, walkFrom, linesLeft, Next, nextBlock, blocksWithin, outputBlocks}
 use Rattle.listing.specs.Said.{saidOpen, Opening, WholeOutput}
 use Rattle.listing.specs.NextLaws.{next-less}
 use Rattle.listing.specs.declared.opening.Unprinted.{Unprinted}
@@ -31,16 +31,16 @@ use Rattle.listing.proofs.OpeningLaws.{loaded-within}
 -- ---- the blocks, joined
 -- a graph that loads and counts stands in the lists that are left
 lists-left : {input lentNodes lentCounts lentWork nodes counts work : List ℕ} {g : Graph}
-    → Opens input lentNodes lentCounts lentWork (lists g) nodes counts work → Counts limit g × Lent g nodes counts
+    → Opens input lentNodes lentCounts lentWork (lists g) nodes counts work → Counts countLimit g × Lent g nodes counts
 lists-left {input} {lentNodes} {lentCounts} {lentWork} {counts = after} (counted {size} h a c w) =
     let nodes = load input lentNodes .nodes in
-    let k = counted-lent limit (take size nodes) lentCounts after (length lentWork) c in
+    let k = counted-lent countLimit (take size nodes) lentCounts after (length lentWork) c in
     (k .0, record { nodes-are = ap (λ n. take n nodes) (length-take-le size nodes (loaded-within input lentNodes a)); counts-are = k .1 })
 
 module _ (nodes counts : List ℕ) where
   -- what is still to be printed
   abbrev bytesLeft : Unprinted → List ℕ
-  bytesLeft (Refusal n) = refusal n
+  bytesLeft (Refusal n) = refusalLine n
   bytesLeft (Words start count next) = linesOf (walkFrom nodes counts start) next (count - next)
 
   none-left : (u : Unprinted) → nextBlock nodes counts u ≡ none → bytesLeft u ≡ []
@@ -53,7 +53,7 @@ module _ (nodes counts : List ℕ) where
 
   one-block : (u : Unprinted) {b : Next} → nextBlock nodes counts u ≡ some b → bytesLeft u ≡ b .bytes ++ bytesLeft (b .unprinted)
   unfolding nextBlock linesOf
-  one-block (Refusal n) e = subst (λ o. bytesLeft (Refusal n) ≡ after o) e (sym (append-nil (refusal n)))
+  one-block (Refusal n) e = subst (λ o. bytesLeft (Refusal n) ≡ after o) e (sym (append-nil (refusalLine n)))
     where
       after : Option Next → List ℕ
       after (some b) = b .bytes ++ bytesLeft (b .unprinted)
@@ -80,16 +80,16 @@ module _ (nodes counts : List ℕ) where
 module _ {input lentNodes lentCounts lentWork nodes counts work : List ℕ} where
   joined : (u : Unprinted) (e : Ends) → saidOpen u e → Opens input lentNodes lentCounts lentWork e nodes counts work
       → bytesLeft nodes counts u ≡ printed e
-  joined (Refusal n) (refuses m) s o = ap refusal s
+  joined (Refusal n) (refuses m) s o = ap refusalLine s
   joined (Refusal n) (lists g) s o = absurd s
   joined (Words p c i) (refuses m) s o = absurd s
   joined (Words p c i) (lists g) s o =
       let k = lists-left o in
       let z : c - 0 ≡ length (startWords g) = omega (arith, s .1) in
-      rw (s .2, s .0, z) (start-listed limit g (k .0) nodes counts (k .1))
+      rw (s .2, s .0, z) (start-listed countLimit g (k .0) nodes counts (k .1))
 
   calls-print : (u : Unprinted) → Opening input lentNodes lentCounts lentWork u nodes counts work
-      → Prints input lentNodes lentCounts lentWork (joinAll (blocks nodes counts u))
+      → Prints input lentNodes lentCounts lentWork (joinAll (outputBlocks nodes counts u))
   calls-print u o =
       record {
         enough = o .enough;
@@ -114,8 +114,8 @@ alike-itself (refused m vs) b e = subst (λ x. RefusesBy x m) e refl
 alike-itself nothing b e = sym e
 alike-itself (gives vs) b e = sym e
 
-counted-once : {most lentWork : ℕ} {g : Graph} {lent after after′ : List ℕ} {a b : Answer} → Counted most g lent lentWork a after
-    → Counted most g lent lentWork b after′ → Alike a b
+counted-once : {most lentWork : ℕ} {g : Graph} {lent after after′ : List ℕ} {a b : Answer} → IsCounted most g lent lentWork a after
+    → IsCounted most g lent lentWork b after′ → Alike a b
 unfolding Alike
 counted-once {a = a} {b = b} (unfit e) (unfit f) = let i : some a ≡ some b = sym e ∙ f in alike-itself a b cc
 counted-once (unfit e) (loop f l) = some≢none (sym e ∙ f)
@@ -158,10 +158,10 @@ module _ (input lentNodes lentCounts lentWork : List ℕ) where
 
   -- two counts of the loaded nodes
   both-counted : {s t : ℕ} {a b : Answer} {after after′ : List ℕ} → loadAnswer (load input lentNodes) ≡ gives (s ∷ [])
-      → loadAnswer (load input lentNodes) ≡ gives (t ∷ []) → Counted limit (graphOf s) lentCounts (length lentWork) a after
-      → Counted limit (graphOf t) lentCounts (length lentWork) b after′ → Alike a b
+      → loadAnswer (load input lentNodes) ≡ gives (t ∷ []) → IsCounted countLimit (graphOf s) lentCounts (length lentWork) a after
+      → IsCounted countLimit (graphOf t) lentCounts (length lentWork) b after′ → Alike a b
   both-counted {s} {t} {a} {after = after} e f c d =
-      counted-once (subst (λ k. Counted limit (graphOf k) lentCounts (length lentWork) a after) (same-size e f) c) d
+      counted-once (subst (λ k. IsCounted countLimit (graphOf k) lentCounts (length lentWork) a after) (same-size e f) c) d
 
   ends-once : {e f : Ends} {nodes counts work nodes′ counts′ work′ : List ℕ} → Opens input lentNodes lentCounts lentWork e nodes counts work
       → Opens input lentNodes lentCounts lentWork f nodes′ counts′ work′ → e ≡ f

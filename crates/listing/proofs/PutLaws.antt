@@ -6,7 +6,7 @@ use native.Mathlib.Nat.{add-zero}
 use native.Mathlib.Omega.{arith}
 use lib.ListN.{length, getD, drop, length-append}
 use lib.Seq.{length-sets}
-use Rattle.laws.specs.Sets.{sets-append, sets-front}
+use Rattle.laws.specs.ListWrites.{sets-append, sets-front}
 use Rattle.endian.specs.Putting.{Putting, put-next, put-done, put-end}
 use Rattle.graph.specs.Words.{Word}
 use Rattle.listing.specs.Lines.{decimal, spaced, parted, line}

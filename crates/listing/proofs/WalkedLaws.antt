@@ -7,7 +7,7 @@ use native.Mathlib.Omega.{arith}
 use lib.Dec.{eqb, ltb, leb}
 use lib.ListN.{length, drop}
 use Rattle.laws.specs.Cases.{split}
-use Rattle.node.specs.Answers.{Answer, gives, nothing, refused}
+use Rattle.answers.specs.Answers.{Answer, gives, nothing, refused}
 use Rattle.node.specs.Nodes.{KBWG, arc, accepts, isEnd}
 use Rattle.graph.specs.Runs.{Graph}
 use Rattle.graph.specs.Words.{Word}
@@ -60,27 +60,27 @@ module _ (counts : List ℕ) where
       (λ e. rw e (turn-none g (suc p) (idx - here))))))))
 
 -- ---- what a walk leaves
-pub record Walked (room n : ℕ) (x : Word × Answer) : Type 0 where
+pub record WalkLeaves (room n : ℕ) (x : Word × Answer) : Type 0 where
   pub fits : length (x .0) ≤ room
   pub tiles : Tiles (x .0)
   pub told : (m : ℕ) → x .1 ≡ gives (m ∷ []) → m ≡ n + length (x .0)
 
 -- a walk that puts nothing
-stopped : (room n : ℕ) (r : Answer) → NoValue {A = Turn} (stop r) → Walked room n ([], r)
+stopped : (room n : ℕ) (r : Answer) → NoValue {A = Turn} (stop r) → WalkLeaves room n ([], r)
 unfolding NoValue
 stopped room n (gives vs) h = absurd h
 stopped room n nothing h = record { fits = zero-le; tiles = tt; told = λ m e. let z : _≡_ {A = ℕ} 0 1 = cc in absurd (omega arith) }
 stopped room n (refused k vs) h = record { fits = zero-le; tiles = tt; told = λ m e. let z : _≡_ {A = ℕ} 0 1 = cc in absurd (omega arith) }
 
 module _ (counts : List ℕ) (g : Graph) where
-  full : (n p idx : ℕ) (t : Try Turn) → turnIn counts (drop p g) p idx ≡ t → NoValue t → Walked 0 n (wordFrom counts g 0 n p idx)
+  full : (n p idx : ℕ) (t : Try Turn) → turnIn counts (drop p g) p idx ≡ t → NoValue t → WalkLeaves 0 n (wordFrom counts g 0 n p idx)
   unfolding wordFrom NoValue
   full n p idx (on t) e h = rw (e, wordFrom) (stopped 0 n (refused 16 []) tt)
   full n p idx (stop r) e h = rw (e, wordFrom) (stopped 0 n r h)
 
-  onward : (room n p idx : ℕ) → ((m q j : ℕ) → Walked room m (wordFrom counts g room m q j)) → (t : Try Turn)
+  onward : (room n p idx : ℕ) → ((m q j : ℕ) → WalkLeaves room m (wordFrom counts g room m q j)) → (t : Try Turn)
       → turnIn counts (drop p g) p idx ≡ t
-      → NoValue t → Walked (suc room) n (wordFrom counts g (suc room) n p idx)
+      → NoValue t → WalkLeaves (suc room) n (wordFrom counts g (suc room) n p idx)
   unfolding wordFrom
   onward room n p idx ih (stop r) e h = rw (e, wordFrom) (stopped (suc room) n r h)
   onward room n p idx ih (on (last v)) e h =
@@ -91,7 +91,7 @@ module _ (counts : List ℕ) (g : Graph) where
       rw (e, wordFrom)
       (record { fits = omega (arith, r .fits); tiles = (omega arith, r .tiles); told = λ m i. omega (arith, r .told m i) })
 
-  walked : (room n p idx : ℕ) → Walked room n (wordFrom counts g room n p idx)
+  walked : (room n p idx : ℕ) → WalkLeaves room n (wordFrom counts g room n p idx)
   walked zero n p idx = full n p idx (turnIn counts (drop p g) p idx) refl (turn-none counts (drop p g) p idx)
   walked (suc room) n p idx =
       onward room n p idx (walked room) (turnIn counts (drop p g) p idx) refl (turn-none counts (drop p g) p idx)
@@ -121,7 +121,7 @@ module _ (counts : List ℕ) (g : Graph) where
 
 -- ---- the call
 module _ (counts : List ℕ) (nodes : Graph) (room p idx : ℕ) where
-  pub by-index-walked : Walked room 0 (wordByIndex counts nodes room p idx)
+  pub by-index-walked : WalkLeaves room 0 (wordByIndex counts nodes room p idx)
   unfolding wordByIndex
   by-index-walked = walked (lentPart counts) (lentPart nodes) room 0 p idx
 

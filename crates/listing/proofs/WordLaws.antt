@@ -6,32 +6,32 @@ use Prim.Native.Nat.{ℕ, _≤_, _<_}
 use native.Mathlib.Omega.{arith}
 use lib.ListN.{length, take, drop}
 use lib.Seq.{take-at}
-use Rattle.node.specs.Answers.{Answer, gives, nothing, refused}
+use Rattle.answers.specs.Answers.{Answer, gives, nothing, refused}
 use Rattle.graph.specs.Words.{Word}
-use Rattle.lookup.specs.Said.{saidWord, Put as PutTiles}
+use Rattle.lookup.specs.Said.{saidWord, WordPut}
 use Rattle.lookup.specs.Walks.{wordByIndex}
 use Rattle.lookup.specs.declared.by_number.WordByIndex.{WordByIndex}
 use Rattle.lookup.specs.declared.by_number.WordByIndex.the-variants.{Tiles}
-use Rattle.listing.specs.Lines.{line, refusal}
+use Rattle.listing.specs.Lines.{line, refusalLine}
 use Rattle.listing.proofs.LinesLaws.{line-length, refusal-length}
 use Rattle.listing.specs.Wordlist.{mostTiles}
 use Rattle.listing.specs.Blocks.{longest, goesOn}
 use Rattle.listing.specs.Printing.{walkFrom}
-use Rattle.listing.proofs.WalkedLaws.{Walked}
+use Rattle.listing.proofs.WalkedLaws.{WalkLeaves}
 use Rattle.listing.proofs.PutLaws.{put-none}
 use Rattle.listing.specs.Said.{Puts, PutWord}
 
 -- the walk of a number left this answer and these tiles
 pub record Tiled (walked : Word × Answer) (r : WordByIndex) (after : List ℕ) : Type 0 where
   pub before : List ℕ
-  pub put : PutTiles walked before after r
+  pub put : WordPut walked before after r
 
 -- a buffer with room for the longest word takes the walk's tiles
 pub tiled : (nodes counts : List ℕ) (start number lent : ℕ) {before after : List ℕ} {r : WordByIndex}
-    → PutTiles (wordByIndex counts nodes lent start number) before after r
+    → WordPut (wordByIndex counts nodes lent start number) before after r
     → lent ≡ mostTiles → Tiled (walkFrom nodes counts start number) r after
 tiled nodes counts start number lent {before} {after} {r} p e =
-    record { before = before; put = subst (λ l. PutTiles (wordByIndex counts nodes l start number) before after r) e p }
+    record { before = before; put = subst (λ l. WordPut (wordByIndex counts nodes l start number) before after r) e p }
 
 -- the first so many of the buffer are the walk's word
 pub record WordIn (walked : Word × Answer) (n : ℕ) (buffer : List ℕ) : Type 0 where
@@ -40,7 +40,7 @@ pub record WordIn (walked : Word × Answer) (n : ℕ) (buffer : List ℕ) : Type
   pub size : n ≡ length (walked .0)
   pub few : n ≤ mostTiles
 
-pub word-in : {walked : Word × Answer} {after : List ℕ} {r : WordByIndex} {n : ℕ} → Walked mostTiles 0 walked → Tiled walked r after
+pub word-in : {walked : Word × Answer} {after : List ℕ} {r : WordByIndex} {n : ℕ} → WalkLeaves mostTiles 0 walked → Tiled walked r after
     → r ≡ Tiles n → WordIn walked n after
 word-in {walked} {after} {r} {n} w t e =
     let a : walked .1 ≡ gives (n ∷ []) = sym (t .put .said) ∙ ap saidWord e in
@@ -52,12 +52,12 @@ word-in {walked} {after} {r} {n} w t e =
       few = omega (arith, w .fits);
     }
 
-pub line-room : (number : ℕ) (walked : Word × Answer) {n : ℕ} {buffer : List ℕ} → number < 4_294_967_296 → Walked mostTiles 0 walked
+pub line-room : (number : ℕ) (walked : Word × Answer) {n : ℕ} {buffer : List ℕ} → number < 4_294_967_296 → WalkLeaves mostTiles 0 walked
     → WordIn walked n buffer → length (line number (take n buffer)) ≤ longest
 line-room number walked h w i = rw (i .word) (line-length number (walked .0) h (w .fits) (w .tiles))
 
 module _ (number : ℕ) (walked : Word × Answer) {out out′ : List ℕ} {at end : ℕ} where
-  pub word-line : {n : ℕ} {buffer : List ℕ} → number < 4_294_967_296 → Walked mostTiles 0 walked → WordIn walked n buffer
+  pub word-line : {n : ℕ} {buffer : List ℕ} → number < 4_294_967_296 → WalkLeaves mostTiles 0 walked → WordIn walked n buffer
       → Puts (line number (take n buffer)) out at out′ end → PutWord number walked out at out′ (record { end = end; more = true })
   word-line h w i p =
       record {
@@ -67,7 +67,7 @@ module _ (number : ℕ) (walked : Word × Answer) {out out′ : List ℕ} {at en
       }
 
   pub word-refused : (n : ℕ) {after vs : List ℕ} {r : WordByIndex} → n < 4_294_967_296 → Tiled walked r after
-      → saidWord r ≡ refused n vs → Puts (refusal n) out at out′ end → PutWord number walked out at out′ (record { end = end; more = false })
+      → saidWord r ≡ refused n vs → Puts (refusalLine n) out at out′ end → PutWord number walked out at out′ (record { end = end; more = false })
   word-refused n h t e p =
       let a = sym (t .put .said) ∙ e in
       record { more = sym (ap goesOn a); puts = rw a p; within = omega (arith, p .place, refusal-length n h) }

@@ -2,19 +2,19 @@
 use mathlib.Core.Bool.{Bool, true, false, _&&_}
 use mathlib.Core.List.{List, [], _++_}
 use Prim.Native.Nat.{ℕ, zero, suc, _+_, _-_, _/_, min}
-use Rattle.node.specs.Answers.{Answer, gives, nothing, refused}
+use Rattle.answers.specs.Answers.{Answer, gives, nothing, refused}
 use Rattle.graph.specs.Words.{Word}
-use Rattle.listing.specs.Lines.{line, refusal}
+use Rattle.listing.specs.Lines.{line, refusalLine}
 
 -- the tiles put for a number, and the answer
-abbrev pub Walk : Type 0
-Walk = ℕ → Word × Answer
+abbrev pub NumberWalk : Type 0
+NumberWalk = ℕ → Word × Answer
 
 -- what is printed of number i: the line of its word, or of the refusal met
 abbrev pub lineFor : ℕ → Word → Answer → List ℕ
 lineFor i w (gives vs) = line i w
 lineFor i w nothing = []
-lineFor i w (refused n vs) = refusal n
+lineFor i w (refused n vs) = refusalLine n
 
 -- "A refusal .. ends the output"
 abbrev pub goesOn : Answer → Bool
@@ -35,7 +35,7 @@ pub record Block : Type 0 where
 abbrev pub numbersIn : ℕ → ℕ → ℕ → ℕ
 numbersIn count next room = min (count - next) (room / longest)
 
-module _ (walk : Walk) where
+module _ (walk : NumberWalk) where
   -- the lines of k numbers from i on
   unfoldable pub linesOf : ℕ → ℕ → List ℕ
   linesOf i zero = []

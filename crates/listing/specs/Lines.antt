@@ -33,5 +33,5 @@ abbrev pub refusedTab : List ℕ
 refusedTab = 0x72 ∷ 0x65 ∷ 0x66 ∷ 0x75 ∷ 0x73 ∷ 0x65 ∷ 0x64 ∷ 0x09 ∷ []
 
 -- "A refusal prints `refused`, tab, number"
-unfoldable pub refusal : ℕ → List ℕ
-refusal number = refusedTab ++ decimal number ++ 0x0A ∷ []
+unfoldable pub refusalLine : ℕ → List ℕ
+refusalLine number = refusedTab ++ decimal number ++ 0x0A ∷ []

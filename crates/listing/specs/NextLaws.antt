@@ -9,16 +9,16 @@ use lib.Dec.{ltb}
 use borrow.Author.Tests.{ltb-true}
 use lib.ListN.{length, drop, length-append}
 use Rattle.laws.specs.Cases.{split, split-option, some≢none}
-use Rattle.listing.specs.Blocks.{Walk, longest, allWords, numbersIn, block}
+use Rattle.listing.specs.Blocks.{NumberWalk, longest, allWords, numbersIn, block}
 use Rattle.listing.specs.Printing.{walkFrom, room, linesLeft, Next, nextBlock}
 use Rattle.listing.specs.Said.{AtFront, Makes}
 use Rattle.listing.specs.declared.opening.Unprinted.{Unprinted}
 use Rattle.listing.specs.declared.opening.Unprinted.the-variants.{Refusal, Words}
-use Rattle.listing.specs.declared.blocks.Made.{Made}
-use Rattle.listing.specs.declared.blocks.Made.the-variants.{Bytes}
+use Rattle.listing.specs.declared.blocks.BlockMade.{BlockMade}
+use Rattle.listing.specs.declared.blocks.BlockMade.the-variants.{Bytes}
 
 -- ---- the number to go on from
-module _ (walk : Walk) (count next lent : ℕ) where
+module _ (walk : NumberWalk) (count next lent : ℕ) where
   pub block-more : allWords walk next (numbersIn count next lent) ≡ true
       → block walk count next lent .next ≡ next + numbersIn count next lent
   unfolding block
@@ -59,7 +59,7 @@ module _ (nodes counts : List ℕ) where
       (λ t. let e′ = rw (t, nextBlock) at e in some≢none (sym e′))
 
   -- what a caller that is handed a block knows of it
-  pub made-block : (u : Unprinted) (before after : List ℕ) (r : Made) {written : ℕ} {v : Unprinted} → r ≡ Bytes written v
+  pub made-block : (u : Unprinted) (before after : List ℕ) (r : BlockMade) {written : ℕ} {v : Unprinted} → r ≡ Bytes written v
       → Makes (nextBlock nodes counts u) before after r → (written ≤ length after) × (linesLeft v < linesLeft u)
   made-block u before after r {written} {v} e m =
       let m′ = subst (Makes (nextBlock nodes counts u) before after) e m in

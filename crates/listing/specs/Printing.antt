@@ -4,10 +4,10 @@ use mathlib.Core.List.{List, [], _∷_}
 use mathlib.Core.Option.{Option, none, some}
 use Prim.Native.Nat.{ℕ, zero, suc, _-_}
 use lib.Dec.{ltb}
-use Rattle.node.specs.Answers.{Answer}
+use Rattle.answers.specs.Answers.{Answer}
 use Rattle.graph.specs.Words.{Word}
 use Rattle.lookup.specs.Walks.{wordByIndex}
-use Rattle.listing.specs.Lines.{refusal}
+use Rattle.listing.specs.Lines.{refusalLine}
 use Rattle.listing.specs.Wordlist.{mostTiles}
 use Rattle.listing.specs.Blocks.{block}
 use Rattle.listing.specs.declared.opening.Unprinted.{Unprinted}
@@ -34,7 +34,7 @@ pub record Next : Type 0 where
 module _ (nodes counts : List ℕ) where
   -- none where nothing is left; after a refusal nothing is
   unfoldable pub nextBlock : Unprinted → Option Next
-  nextBlock (Refusal n) = some (record { bytes = refusal n; unprinted = Words 0 0 0 })
+  nextBlock (Refusal n) = some (record { bytes = refusalLine n; unprinted = Words 0 0 0 })
   nextBlock (Words start count next) =
       let b = block (walkFrom nodes counts start) count next room in
       elim (ltb next count) [ true ↦ some (record { bytes = b .bytes; unprinted = Words start count (b .next) }) | false ↦ none ]
@@ -44,5 +44,5 @@ module _ (nodes counts : List ℕ) where
   blocksWithin zero u = []
   blocksWithin (suc t) u = elim (nextBlock u) [ none ↦ [] | some b ↦ b .bytes ∷ blocksWithin t (b .unprinted) ]
 
-  abbrev pub blocks : Unprinted → List (List ℕ)
-  blocks u = blocksWithin (linesLeft u) u
+  abbrev pub outputBlocks : Unprinted → List (List ℕ)
+  outputBlocks u = blocksWithin (linesLeft u) u

@@ -5,25 +5,20 @@ use mathlib.Core.List.{List, [], _∷_, _++_}
 use Prim.Native.Nat.{ℕ, suc, _*_, _≤_, _<_}
 use lib.Dec.{eqb, ltb}
 use lib.ListN.{length, take}
-use Rattle.node.specs.Answers.{Answer, gives, nothing, refused}
+use Rattle.answers.specs.Answers.{Answer, gives, nothing, refused}
 use Rattle.node.specs.Nodes.{KBWG, arc}
 use Rattle.node.specs.declared.Layout.the-variants.{Kwg}
-use Rattle.graph.specs.Runs.{Graph, node}
+use Rattle.graph.specs.Runs.{Graph, node, startNode}
 use Rattle.graph.specs.Words.{Word, words}
-use Rattle.graph.specs.Counting.{Counted, countRow}
+use Rattle.graph.specs.Counting.{IsCounted, countRow, countLimit}
 use Rattle.graph.specs.Lent.{WorkKept}
-use Rattle.count.specs.Said.{limit}
-use Rattle.pieces.specs.Pieces.{Loads, loadWhole}
-use Rattle.listing.specs.Lines.{line, refusal}
+use Rattle.pieces.specs.Pieces.{LoadOutcome, loadWhole}
+use Rattle.listing.specs.Lines.{line, refusalLine}
 
 -- ---- the words
--- "The start node s is node 0's arc"
-abbrev pub start : Graph → ℕ
-start g = arc KBWG (node g 0)
-
 -- "each word from the start (none if its arc is 0)"
 unfoldable pub startWords : Graph → List Word
-startWords g = elim (eqb (start g) 0) [ true ↦ [] | false ↦ words KBWG g (start g) ]
+startWords g = elim (eqb (startNode g 0) 0) [ true ↦ [] | false ↦ words KBWG g (startNode g 0) ]
 
 -- "a word of over 256 tiles is 16"
 abbrev pub mostTiles : ℕ
@@ -32,7 +27,7 @@ mostTiles = 256
 -- the words with their numbers, from number i on; "A refusal .. ends the output"
 unfoldable pub listed : ℕ → List Word → List ℕ
 listed i [] = []
-listed i (w ∷ ws) = elim (ltb mostTiles (length w)) [ true ↦ refusal 16 | false ↦ line i w ++ listed (suc i) ws ]
+listed i (w ∷ ws) = elim (ltb mostTiles (length w)) [ true ↦ refusalLine 16 | false ↦ line i w ++ listed (suc i) ws ]
 
 -- ---- loading and counting
 -- "reads a KWG of up to 4,096 nodes"
@@ -54,7 +49,7 @@ abbrev pub ReadInto : List ℕ → ℕ → List ℕ → Type 0
 ReadInto buffer read input = take (length buffer) input ≡ take read buffer
 
 -- the load of a whole input, over lent nodes
-abbrev pub load : List ℕ → List ℕ → Loads
+abbrev pub load : List ℕ → List ℕ → LoadOutcome
 load input lentNodes = loadWhole (length input) Kwg lentNodes input
 
 -- its answer: begin's refusal, or else what finish answers
@@ -63,7 +58,7 @@ lastAnswer (refused n vs) finished = refused n vs
 lastAnswer (gives vs) finished = finished
 lastAnswer nothing finished = finished
 
-abbrev pub loadAnswer : Loads → Answer
+abbrev pub loadAnswer : LoadOutcome → Answer
 loadAnswer l = lastAnswer (l .begun) (l .finished)
 
 -- an answer that refuses by this number, whatever it carries
@@ -90,18 +85,18 @@ module _ (input lentNodes lentCounts lentWork : List ℕ) where
         → Opens (refuses n) (load input lentNodes .nodes) lentCounts lentWork
     uncounted : {n size : ℕ} {r : Answer} {counts work : List ℕ} → length input ≤ mostBytes
         → loadAnswer (load input lentNodes) ≡ gives (size ∷ [])
-        → Counted limit (take size (load input lentNodes .nodes)) lentCounts (length lentWork) r counts → RefusesBy r n
+        → IsCounted countLimit (take size (load input lentNodes .nodes)) lentCounts (length lentWork) r counts → RefusesBy r n
         → CountWork (take size (load input lentNodes .nodes)) lentCounts lentWork work
         → Opens (refuses n) (load input lentNodes .nodes) counts work
     counted : {size : ℕ} {counts work : List ℕ} → length input ≤ mostBytes → loadAnswer (load input lentNodes) ≡ gives (size ∷ [])
-        → Counted limit (take size (load input lentNodes .nodes)) lentCounts (length lentWork) (gives []) counts
+        → IsCounted countLimit (take size (load input lentNodes .nodes)) lentCounts (length lentWork) (gives []) counts
         → CountWork (take size (load input lentNodes .nodes)) lentCounts lentWork work
         → Opens (lists (take size (load input lentNodes .nodes))) (load input lentNodes .nodes) counts work
 
 -- ---- what is printed
 -- "A refusal prints `refused`, tab, number"; else the words from the start, numbered from 0
 abbrev pub printed : Ends → List ℕ
-printed (refuses n) = refusal n
+printed (refuses n) = refusalLine n
 printed (lists g) = listed 0 (startWords g)
 
 -- The whole output for an input. It is determined, though the node in refusal 12 is the program's choice (`WholeOutput`).

@@ -4,7 +4,7 @@ ghost use Prim.Native.Nat.{_+_, _≤_};
 ghost use lib.ListN.{length};
 ghost use Rattle.listing.specs.Blocks.{longest, numbersIn, block};
 ghost use Rattle.listing.specs.Printing.{walkFrom, nextBlock};
-ghost use Rattle.listing.specs.Said.{PutWord, Fills, Makes};
+ghost use Rattle.listing.specs.Said.{PutWord, FillsBlock, Makes};
 use crate::lines::put_line;
 use crate::lines::put_refusal;
 use crate::opening::NODES;
@@ -21,7 +21,7 @@ const LONGEST: usize = 779;
 pub const BLOCK: usize = 65536;
 
 // A block of the output, of so many bytes, and what is left to print after it; or nothing was left.
-pub enum Made {
+pub enum BlockMade {
     Bytes {
         written: usize,
         unprinted: Unprinted,
@@ -30,13 +30,13 @@ pub enum Made {
 }
 
 // How many bytes a block has, and the number to go on from; none is left where that is the count.
-pub struct Filled {
+pub struct BlockFilled {
     pub next: u32,
     pub written: usize,
 }
 
 // The place after what was put, and whether the list goes on.
-pub struct Put {
+pub struct LinePut {
     pub end: usize,
     pub more: bool,
 }
@@ -49,29 +49,29 @@ fn put_word(
     number: u32,
     out: &mut [u8],
     at: usize,
-) -> Put
+) -> LinePut
     requires { ⌜ at + longest ≤ length (now out) ⌝ }
     ensures { λ r. ⌜ PutWord number (walkFrom (now (nodes .entry)) (now (counts .entry)) start number) (now (out .entry)) at (now (out .exit)) r ⌝ }
 {
     let mut word = [0u8; TILES];
     match lookup::get_word_by_index(nodes, counts, start, number, &mut word) {
-        WordByIndex::Tiles(tiles) => Put {
+        WordByIndex::Tiles(tiles) => LinePut {
             end: put_line(number, &word[..tiles], out, at),
             more: true,
         },
-        WordByIndex::Absent => Put {
+        WordByIndex::Absent => LinePut {
             end: at,
             more: false,
         },
-        WordByIndex::NotLent => Put {
+        WordByIndex::NotLent => LinePut {
             end: put_refusal(14, out, at),
             more: false,
         },
-        WordByIndex::OutOfRange => Put {
+        WordByIndex::OutOfRange => LinePut {
             end: put_refusal(15, out, at),
             more: false,
         },
-        WordByIndex::BufferFull => Put {
+        WordByIndex::BufferFull => LinePut {
             end: put_refusal(16, out, at),
             more: false,
         },
@@ -94,8 +94,16 @@ fn block_end(count: u32, next: u32, room: usize) -> u32
 }
 
 // Makes the lines of the words from number next on, of so many from the start, as far as there is room for them.
-fn fill(nodes: &[u32], counts: &[u32], start: u32, count: u32, next: u32, out: &mut [u8]) -> Filled
-    ensures { λ r. ⌜ Fills (block (walkFrom (now (nodes .entry)) (now (counts .entry)) start) count next (length (now (out .entry)))) (now (out .entry)) (now (out .exit)) r ⌝ }
+fn fill(
+    nodes: &[u32],
+    counts: &[u32],
+    start: u32,
+    count: u32,
+    next: u32,
+    out: &mut [u8],
+) -> BlockFilled
+    ensures { λ r. ⌜ FillsBlock (block (walkFrom (now (nodes .entry)) (now (counts .entry)) start) count next (length (now (out .entry))))
+        (now (out .entry)) (now (out .exit)) r ⌝ }
 {
     let end = block_end(count, next, out.len());
     let mut number = next;
@@ -104,14 +112,14 @@ fn fill(nodes: &[u32], counts: &[u32], start: u32, count: u32, next: u32, out: &
         let put = put_word(nodes, counts, start, number, out, at);
         at = put.end;
         if !put.more {
-            return Filled {
+            return BlockFilled {
                 next: count,
                 written: at,
             };
         }
         number += 1;
     }
-    Filled {
+    BlockFilled {
         next: number,
         written: at,
     }
@@ -123,11 +131,11 @@ pub fn next_block(
     counts: &[u32; NODES],
     unprinted: Unprinted,
     out: &mut [u8; BLOCK],
-) -> Made
+) -> BlockMade
     ensures { λ r. ⌜ Makes (nextBlock (now (nodes .entry)) (now (counts .entry)) unprinted) (now (out .entry)) (now (out .exit)) r ⌝ }
 {
     match unprinted {
-        Unprinted::Refusal(number) => Made::Bytes {
+        Unprinted::Refusal(number) => BlockMade::Bytes {
             written: put_refusal(number, out, 0),
             unprinted: Unprinted::Words {
                 start: 0,
@@ -137,10 +145,10 @@ pub fn next_block(
         },
         Unprinted::Words { start, count, next } => {
             if count <= next {
-                return Made::Done;
+                return BlockMade::Done;
             }
             let filled = fill(nodes, counts, start, count, next, out);
-            Made::Bytes {
+            BlockMade::Bytes {
                 written: filled.written,
                 unprinted: Unprinted::Words {
                     start,

@@ -4,7 +4,7 @@ mod lines;
 mod opening;
 
 pub use blocks::BLOCK;
-pub use blocks::Made;
+pub use blocks::BlockMade;
 pub use blocks::next_block;
 pub use opening::INPUT;
 pub use opening::NODES;

@@ -1,16 +1,10 @@
 // The bytes of a line.
-ghost use mathlib.Core.Path.{_≡_};
 ghost use mathlib.Core.List.{[], _∷_};
 ghost use Prim.Native.Nat.{_+_, _≤_};
 ghost use lib.ListN.{length};
-ghost use Rattle.listing.specs.Lines.{decimal, parted, line, refusal};
+ghost use Rattle.listing.specs.Lines.{decimal, parted, line, refusalLine};
 ghost use Rattle.listing.specs.Said.{Puts};
-
-fn wide(tile: u8) -> u32
-    ensures { λ r. ⌜ r ≡ tile ⌝ }
-{
-    tile as u32
-}
+use base::widened;
 
 // Each of these puts its bytes from a place on, where they must have room, and answers the place after them.
 fn put_byte(byte: u8, out: &mut [u8], at: usize) -> usize
@@ -39,11 +33,11 @@ fn put_tiles(word: &[u8], out: &mut [u8], at: usize) -> usize
     if word.len() == 0 {
         return at;
     }
-    let mut end = put_number(wide(word[0]), out, at);
+    let mut end = put_number(widened(word[0]), out, at);
     let mut i = 1;
     while i < word.len() {
         let after = put_byte(b' ', out, end);
-        end = put_number(wide(word[i]), out, after);
+        end = put_number(widened(word[i]), out, after);
         i += 1;
     }
     end
@@ -60,8 +54,8 @@ pub(crate) fn put_line(number: u32, word: &[u8], out: &mut [u8], at: usize) -> u
 }
 
 pub(crate) fn put_refusal(number: u32, out: &mut [u8], at: usize) -> usize
-    requires { ⌜ at + length (refusal number) ≤ length (now out) ⌝ }
-    ensures { λ r. ⌜ Puts (refusal number) (now (out .entry)) at (now (out .exit)) r ⌝ }
+    requires { ⌜ at + length (refusalLine number) ≤ length (now out) ⌝ }
+    ensures { λ r. ⌜ Puts (refusalLine number) (now (out .entry)) at (now (out .exit)) r ⌝ }
 {
     endian::write_bytes(out, at, b"refused\t");
     let end = put_number(number, out, at + 8);

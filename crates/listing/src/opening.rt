@@ -2,7 +2,8 @@
 ghost use mathlib.Core.Path.{_≡_};
 ghost use Prim.Native.Nat.{_<_};
 ghost use lib.ListN.{length};
-ghost use Rattle.listing.specs.Wordlist.{start, mostBytes, LongEnough, load as loading};
+ghost use Rattle.graph.specs.Runs.{startNode};
+ghost use Rattle.listing.specs.Wordlist.{mostBytes, LongEnough, load as loading};
 ghost use Rattle.listing.specs.Said.{saidLoad, LoadsAs, atStart, CountsAs, OpensRead};
 ghost use Rattle.load.specs.Said.{saidFinish};
 use count::Counted;
@@ -29,13 +30,13 @@ pub enum Unprinted {
     Words { start: u32, count: u32, next: u32 },
 }
 
-pub enum Loaded {
+pub enum FileLoaded {
     Nodes(usize),
     Refused(u32),
 }
 
 // Loads the input in one piece.
-fn load(input: &[u8], nodes: &mut [u32]) -> Loaded
+fn load(input: &[u8], nodes: &mut [u32]) -> FileLoaded
     ensures { λ r. ⌜ LoadsAs (loading (now (input .entry)) (now (nodes .entry))) r (now (nodes .exit)) ⌝ }
 {
     let begun = Loader::begin(input.len(), Layout::Kwg, nodes);
@@ -46,32 +47,28 @@ fn load(input: &[u8], nodes: &mut [u32]) -> Loaded
     let finished = last.finish(nodes);
     match answer {
         BeginAnswer::Ready => after_begin(finished),
-        BeginAnswer::NotWholeNodes => Loaded::Refused(1),
-        BeginAnswer::OverLimit => Loaded::Refused(2),
-        BeginAnswer::NodesTooShort => Loaded::Refused(3),
+        BeginAnswer::NotWholeNodes => FileLoaded::Refused(1),
+        BeginAnswer::OverLimit => FileLoaded::Refused(2),
+        BeginAnswer::NodesTooShort => FileLoaded::Refused(3),
     }
 }
 
-fn after_begin(finished: Finished) -> Loaded
+fn after_begin(finished: Finished) -> FileLoaded
     ensures { λ r. ⌜ saidLoad r (saidFinish finished) ⌝ }
 {
     match finished {
-        Finished::Nodes(count) => Loaded::Nodes(count),
-        Finished::BadState => Loaded::Refused(4),
-        Finished::DoesNotFit {
-            node: _,
-            tile: _,
-            arc_index: _,
-        } => Loaded::Refused(6),
-        Finished::Missing => Loaded::Refused(7),
-        Finished::ArcPastEnd(_) => Loaded::Refused(8),
-        Finished::NoEnd => Loaded::Refused(9),
+        Finished::Nodes(count) => FileLoaded::Nodes(count),
+        Finished::BadState => FileLoaded::Refused(4),
+        Finished::DoesNotFit(_) => FileLoaded::Refused(6),
+        Finished::Missing => FileLoaded::Refused(7),
+        Finished::ArcPastEnd(_) => FileLoaded::Refused(8),
+        Finished::NoEnd => FileLoaded::Refused(9),
     }
 }
 
 // Where the words begin and how many there are; the start must be among the counts.
 fn at_start(nodes: &[u32], counts: &[u32]) -> Unprinted
-    requires { ⌜ (0 < length (now nodes)) × (start (now nodes) < length (now counts)) ⌝ }
+    requires { ⌜ (0 < length (now nodes)) × (startNode (now nodes) 0 < length (now counts)) ⌝ }
     ensures { λ r. ⌜ r ≡ atStart (now (nodes .entry)) (now (counts .entry)) ⌝ }
 {
     let start = Node24(nodes[0]).arc_index();
@@ -112,14 +109,15 @@ fn open_read(
     work: &mut [u32],
 ) -> Unprinted
     requires { ⌜ (mostBytes < length (now input)) × LongEnough (now nodes) (now counts) (now work) ⌝ }
-    ensures { λ r. ⌜ OpensRead (now (input .entry)) read (now (nodes .entry)) (now (counts .entry)) (now (work .entry)) r (now (nodes .exit)) (now (counts .exit)) (now (work .exit)) ⌝ }
+    ensures { λ r. ⌜ OpensRead (now (input .entry)) read (now (nodes .entry)) (now (counts .entry)) (now (work .entry)) r (now (nodes .exit))
+        (now (counts .exit)) (now (work .exit)) ⌝ }
 {
     if MOST_BYTES < read {
         return Unprinted::Refusal(2);
     }
     match load(&input[..read], nodes) {
-        Loaded::Nodes(count) => count_loaded(&nodes[..count], counts, work),
-        Loaded::Refused(number) => Unprinted::Refusal(number),
+        FileLoaded::Nodes(count) => count_loaded(&nodes[..count], counts, work),
+        FileLoaded::Refused(number) => Unprinted::Refusal(number),
     }
 }
 
@@ -131,7 +129,8 @@ pub fn open(
     counts: &mut [u32; NODES],
     work: &mut [u32; WORK],
 ) -> Unprinted
-    ensures { λ r. ⌜ OpensRead (now (input .entry)) read (now (nodes .entry)) (now (counts .entry)) (now (work .entry)) r (now (nodes .exit)) (now (counts .exit)) (now (work .exit)) ⌝ }
+    ensures { λ r. ⌜ OpensRead (now (input .entry)) read (now (nodes .entry)) (now (counts .entry)) (now (work .entry)) r (now (nodes .exit))
+        (now (counts .exit)) (now (work .exit)) ⌝ }
 {
     open_read(input, read, nodes, counts, work)
 }

@@ -6,15 +6,14 @@ use native.Mathlib.Omega.{arith}
 use native.Mathlib.Numerals.{add-four}
 use lib.ListN.{length, drop}
 use lib.Seq.{sets, drop-set-lt}
-use Rattle.node.specs.Answers.{Answer, gives, refused}
-use Rattle.node.specs.Nodes.{Places}
+use Rattle.answers.specs.Answers.{Answer, gives, refused}
+use Rattle.node.specs.Nodes.{BitLayout}
 use Rattle.node.specs.Said.{repackNodeAnswer}
-use Rattle.endian.specs.Bytes.{toBytes, wholeNodes, nodeBytes}
-use Rattle.endian.specs.BytesLaws.{nodeAt}
+use Rattle.endian.specs.Bytes.{toBytes, nodeAt, wholeNodes, nodeBytes}
 use Rattle.load.specs.Repacking.{firstMisfit, fitting, misfitAnswer}
-use Rattle.load.specs.RepackingLaws.{next-fits, next-stops, none-left}
+use Rattle.load.proofs.NextNode.{next-fits, next-stops, none-left}
 
-module _ (old new : Places) where
+module _ (old new : BitLayout) where
   -- the answer and the bytes that come of the bytes from place i on, where node i / 4 begins
   abbrev pub answerFrom : List ℕ → ℕ → Answer
   answerFrom s i = misfitAnswer (firstMisfit old new (i / 4) (wholeNodes (drop i s)))

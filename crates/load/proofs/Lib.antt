@@ -1,2 +1,9 @@
-pub mod InPlace
-pub mod Ready
+-- What the proofs of several functions use.
+mod NextNode
+mod InPlace
+mod BeginRow
+mod Ready
+mod SoundRow
+mod HeldLaws
+mod PieceLaws
+mod CallLaws

@@ -1,14 +1,14 @@
--- The row of begin, by the facts that decide it, and what passing it tells.
-use mathlib.Core.Path.{_≡_, _∙_}
-use mathlib.Core.Bool.{false, _||_, not, or-true}
+-- A length of 0 is refused by the row of begin, and what holds of a length that passes it.
+use mathlib.Core.Path.{_≡_}
+use mathlib.Core.Bool.{not}
 use mathlib.Core.List.{[]}
 use mathlib.Core.Option.{none, some}
-use Prim.Native.Nat.{ℕ, _/_, _%_, _≤_, _<_, max}
-use borrow.Author.Tests.{eq-eqb, ne-eqb, lt-ltb, le-ltb, eqb-true, eqb-false, ltb-false, not-false}
+use Prim.Native.Nat.{ℕ, _/_, _%_, _≤_, max}
+use borrow.Author.Tests.{eq-eqb, eqb-true, eqb-false, ltb-false, not-false}
 use lib.Dec.{eqb}
 use Rattle.laws.specs.Cases.{or-false-left, or-false-right}
-use Rattle.node.specs.Answers.{refused, firstOf}
-use Rattle.node.specs.RowLaws.{row-refuses, row-passes, row-ends, row-passed}
+use Rattle.answers.specs.Answers.{refused, firstOf}
+use Rattle.answers.specs.RowLaws.{row-refuses, row-passed}
 use Rattle.load.specs.Loading.{beginRow}
 
 -- a length that begin takes for a buffer of so many nodes
@@ -21,23 +21,6 @@ pub record Takes (n lentNodes : ℕ) : Type 0 where
 module _ (n lentNodes : ℕ) where
   pub begin-empty : n ≡ 0 → firstOf (beginRow n lentNodes) ≡ some (refused 1 [])
   begin-empty h = row-refuses _ _ _ (rw (eq-eqb n 0 h))
-
-  pub begin-ragged : (n % 4 ≡ 0 → ⊥) → firstOf (beginRow n lentNodes) ≡ some (refused 1 [])
-  begin-ragged h = row-refuses _ _ _ (rw (ne-eqb (n % 4) 0 h) (or-true (eqb n 0)))
-
-  module _ (h : n ≡ 0 → ⊥) (w : n % 4 ≡ 0) where
-    past-1 : eqb n 0 || not (eqb (n % 4) 0) ≡ false
-    past-1 = rw (ne-eqb n 0 h, eq-eqb (n % 4) 0 w)
-
-    pub begin-over : 67_108_864 < n → firstOf (beginRow n lentNodes) ≡ some (refused 2 [])
-    begin-over o = row-passes _ _ _ past-1 ∙ row-refuses _ _ _ (lt-ltb 67_108_864 n o)
-
-    module _ (i : n ≤ 67_108_864) where
-      pub begin-short : lentNodes < max (n / 4) 2 → firstOf (beginRow n lentNodes) ≡ some (refused 3 [])
-      begin-short s = row-passes _ _ _ past-1 ∙ row-passes _ _ _ (le-ltb 67_108_864 n i) ∙ row-refuses _ _ _ (lt-ltb lentNodes (max (n / 4) 2) s)
-
-      pub begin-ready : max (n / 4) 2 ≤ lentNodes → firstOf (beginRow n lentNodes) ≡ none
-      begin-ready r = row-passes _ _ _ past-1 ∙ row-passes _ _ _ (le-ltb 67_108_864 n i) ∙ row-passes _ _ _ (le-ltb lentNodes (max (n / 4) 2) r) ∙ row-ends
 
   pub takes : firstOf (beginRow n lentNodes) ≡ none → Takes n lentNodes
   takes e =

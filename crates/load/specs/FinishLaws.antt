@@ -7,8 +7,8 @@ use Prim.Native.Nat.{ℕ, _/_, _≤_, max}
 use native.Mathlib.Omega.{arith}
 use lib.Dec.{eqb}
 use lib.ListN.{length, length-set}
-use Rattle.node.specs.Answers.{Answer, gives, firstOf}
-use Rattle.node.specs.RowLaws.{row-never-gives, rows-passed}
+use Rattle.answers.specs.Answers.{Answer, gives, firstOf}
+use Rattle.answers.specs.RowLaws.{row-never-gives, rows-passed}
 use Rattle.graph.specs.Runs.{Graph}
 use Rattle.load.specs.Loading.{soundRow, finishRow, finishes, finish}
 use Rattle.load.specs.StateLaws.{sound}

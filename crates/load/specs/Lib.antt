@@ -2,10 +2,8 @@ pub mod Repacking
 pub mod RepackingLaws
 pub mod SameLayoutLaws
 pub mod Loading
-pub mod HeldLaws
 pub mod BeginLaws
 pub mod StateLaws
+pub mod FeedLaws
 pub mod FinishLaws
-pub mod PieceLaws
-pub mod CallLaws
 pub mod Said

@@ -7,15 +7,17 @@ use lib.Dec.{eqb, ltb}
 use lib.ListN.{length, getD, take, drop, set}
 use lib.Seq.{sets}
 use Rattle.laws.specs.Cases.{isSome}
-use Rattle.node.specs.Answers.{Answer, gives, refusing, Row, firstOf}
+use Rattle.answers.specs.Answers.{Answer, gives, refusing, Row, firstOf}
 use Rattle.node.specs.Nodes.{KBWG}
-use Rattle.node.specs.Said.{placesOf}
+use Rattle.node.specs.Said.{bitLayout}
 use Rattle.node.specs.declared.Layout.{Layout}
 use Rattle.graph.specs.Runs.{Graph}
 use Rattle.graph.specs.Checks.{nodesRow}
 use Rattle.endian.specs.Bytes.{wholeNodes, partNode}
-use Rattle.load.specs.Repacking.{Misfit, firstMisfit, fitting, misfitRefusal, misfitAnswer, misfitOf}
-use Rattle.load.specs.declared.repack.Repacked.the-variants.{Whole, DoesNotFit}
+use Rattle.load.specs.Repacking.{firstMisfit, fitting, misfitRefusal, misfitAnswer}
+use Rattle.load.specs.declared.repack.Misfit.{Misfit}
+use Rattle.load.specs.declared.loader.KeptRefusal.{KeptRefusal}
+use Rattle.load.specs.declared.loader.KeptRefusal.the-variants.{Nothing, DoesNotFit}
 use Rattle.load.specs.declared.loader.Loader.{Loader}
 
 -- ---- the state
@@ -32,7 +34,7 @@ holding announced layout taken part =
       taken = taken;
       held = places part;
       «held_count» = length part;
-      kept = Whole;
+      kept = Nothing;
     }
 
 -- "After refusal 6 on node i, the bytes taken are 4 × i, none are held"
@@ -44,12 +46,12 @@ stopped announced layout m =
       taken = 4 * m .node;
       held = places [];
       «held_count» = 0;
-      kept = DoesNotFit (m .node) (m .tile) (m .arc);
+      kept = DoesNotFit m;
     }
 
 -- "nothing taken, held or kept"
-abbrev pub start : ℕ → Layout → Loader
-start announced layout = holding announced layout 0 []
+abbrev pub freshLoader : ℕ → Layout → Loader
+freshLoader announced layout = holding announced layout 0 []
 
 -- ---- the rows of checks
 -- "1 length 0 or no multiple of 4; 2+ over 67,108,864; 3+ node buffer under max(length / 4, 2)"
@@ -73,13 +75,17 @@ soundRow s lentNodes =
     ∷ (not (zeros (drop (s .«held_count») (s .held))), refusing 4 [])
     ∷ []
 
+abbrev pub keptMisfit : KeptRefusal → Option Misfit
+keptMisfit Nothing = none
+keptMisfit (DoesNotFit m) = some m
+
 -- "then a kept 6": one more check where a misfit is kept
 abbrev pub keptRow : Option Misfit → Row
 keptRow none = []
 keptRow (some m) = (true, misfitRefusal m) ∷ []
 
 abbrev pub stateRow : Loader → ℕ → Row
-stateRow s lentNodes = soundRow s lentNodes ++ keptRow (misfitOf (s .kept))
+stateRow s lentNodes = soundRow s lentNodes ++ keptRow (keptMisfit (s .kept))
 
 -- "5+ piece longer than what is missing"
 abbrev pub feedRow : Loader → ℕ → List ℕ → Row
@@ -98,8 +104,8 @@ pub record Begins : Type 0 where
 
 -- "A refused begin gives a state of length 0 with the layout asked for and nothing taken, held or kept."
 abbrev pub begins : Option Answer → ℕ → Layout → Begins
-begins none announced layout = record { answer = gives []; state = start announced layout }
-begins (some r) announced layout = record { answer = r; state = start 0 layout }
+begins none announced layout = record { answer = gives []; state = freshLoader announced layout }
+begins (some r) announced layout = record { answer = r; state = freshLoader 0 layout }
 
 unfoldable pub begin : ℕ → Layout → ℕ → Begins
 begin announced layout lentNodes = begins (firstOf (beginRow announced lentNodes)) announced layout
@@ -116,14 +122,14 @@ stateAt none announced layout i bytes = holding announced layout (4 * i + length
 stateAt (some m) announced layout i bytes = stopped announced layout m
 
 abbrev pub misfitIn : Layout → ℕ → List ℕ → Option Misfit
-misfitIn layout i bytes = firstMisfit (placesOf layout) KBWG i (wholeNodes bytes)
+misfitIn layout i bytes = firstMisfit (bitLayout layout) KBWG i (wholeNodes bytes)
 
 unfoldable pub stateAfter : ℕ → Layout → ℕ → List ℕ → Loader
 stateAfter announced layout i bytes = stateAt (misfitIn layout i bytes) announced layout i bytes
 
 -- "A feed writes each node that it completes and no other."
 unfoldable pub nodesAfter : Layout → ℕ → List ℕ → Graph → Graph
-nodesAfter layout i bytes nodes = sets nodes i (fitting (placesOf layout) KBWG (wholeNodes bytes))
+nodesAfter layout i bytes nodes = sets nodes i (fitting (bitLayout layout) KBWG (wholeNodes bytes))
 
 -- the held bytes, then the piece
 abbrev pub fresh : Loader → List ℕ → List ℕ

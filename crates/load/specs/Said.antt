@@ -1,8 +1,9 @@
 -- What the answers of begin, feed and finish say.
 use mathlib.Core.List.{[], _∷_}
 use mathlib.Core.Option.{Option, none, some}
-use Rattle.node.specs.Answers.{Answer, gives, refused, orElse}
+use Rattle.answers.specs.Answers.{Answer, gives, refused, orElse}
 use Rattle.graph.specs.Runs.{Graph}
+use Rattle.load.specs.Repacking.{misfitAnswer}
 use Rattle.load.specs.Loading.{Begins, Feeds, Finishes}
 use Rattle.load.specs.declared.loader.BeginAnswer.{BeginAnswer}
 use Rattle.load.specs.declared.loader.BeginAnswer.the-variants.{Ready, NotWholeNodes, OverLimit, NodesTooShort}
@@ -14,25 +15,25 @@ use Rattle.load.specs.declared.loader.Begun.{Begun}
 use Rattle.load.specs.declared.loader.Fed.{Fed}
 
 -- what begin refuses by
-abbrev pub refusal : BeginAnswer → Option Answer
-refusal Ready = none
-refusal NotWholeNodes = some (refused 1 [])
-refusal OverLimit = some (refused 2 [])
-refusal NodesTooShort = some (refused 3 [])
+abbrev pub beginRefusal : BeginAnswer → Option Answer
+beginRefusal Ready = none
+beginRefusal NotWholeNodes = some (refused 1 [])
+beginRefusal OverLimit = some (refused 2 [])
+beginRefusal NodesTooShort = some (refused 3 [])
 
 abbrev pub saidBegin : BeginAnswer → Answer
-saidBegin r = orElse (refusal r) (gives [])
+saidBegin r = orElse (beginRefusal r) (gives [])
 
 abbrev pub saidFeed : FeedAnswer → Answer
 saidFeed Taken = gives []
 saidFeed FedBadState = refused 4 []
 saidFeed TooLong = refused 5 []
-saidFeed (FedMisfit i t r) = refused 6 (i ∷ t ∷ r ∷ [])
+saidFeed (FedMisfit m) = misfitAnswer (some m)
 
 abbrev pub saidFinish : Finished → Answer
 saidFinish (Nodes n) = gives (n ∷ [])
 saidFinish BadState = refused 4 []
-saidFinish (DoesNotFit i t r) = refused 6 (i ∷ t ∷ r ∷ [])
+saidFinish (DoesNotFit m) = misfitAnswer (some m)
 saidFinish Missing = refused 7 []
 saidFinish (ArcPastEnd r) = refused 8 (r ∷ [])
 saidFinish NoEnd = refused 9 []

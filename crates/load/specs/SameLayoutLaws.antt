@@ -9,11 +9,11 @@ use native.Mathlib.Omega.{arith}
 use lib.ListN.{length-append}
 use lib.Seq.{sets, drop-append-seam}
 use Rattle.laws.specs.Lists.{All}
-use Rattle.laws.specs.Sets.{sets-front}
-use Rattle.node.specs.Answers.{gives}
-use Rattle.node.specs.Nodes.{Places}
-use Rattle.node.specs.PackingLaws.{Whole, whole-KWG, whole-KBWG, pack-unpack, fields-fit}
-use Rattle.node.specs.Said.{placesOf}
+use Rattle.laws.specs.ListWrites.{sets-front}
+use Rattle.answers.specs.Answers.{gives}
+use Rattle.node.specs.Nodes.{BitLayout}
+use Rattle.node.specs.PackingLaws.{FillsNode, whole-KWG, whole-KBWG, pack-unpack, fields-fit}
+use Rattle.node.specs.Said.{bitLayout}
 use Rattle.node.specs.declared.Layout.{Layout}
 use Rattle.node.specs.declared.Layout.the-variants.{Kwg, Kbwg}
 use Rattle.endian.specs.Bytes.{fromBytes, toBytes, wholeNodes, partNode, nodeBytes}
@@ -29,13 +29,13 @@ abbrev EachNode : List ℕ → Type 0
 EachNode = All (λ (v : ℕ). v < 2 ^ 32)
 
 -- ---- nodes
-module _ (y : Places) where
+module _ (y : BitLayout) where
   none-misfits : (i : ℕ) (vs : List ℕ) → firstMisfit y y i vs ≡ none
   unfolding firstMisfit
   none-misfits i [] = refl
   none-misfits i (v ∷ vs) = misfit-later y y v vs i (fields-fit y v) ∙ none-misfits (suc i) vs
 
-  all-packed-back : Whole y → (vs : List ℕ) → EachNode vs → fitting y y vs ≡ vs
+  all-packed-back : FillsNode y → (vs : List ℕ) → EachNode vs → fitting y y vs ≡ vs
   unfolding fitting
   all-packed-back w [] h = refl
   all-packed-back w (v ∷ vs) h =
@@ -78,15 +78,15 @@ bytes-back (a ∷ b ∷ c ∷ d ∷ r) h =
 rewritten-same : (xs ys : List ℕ) → sets (xs ++ ys) 0 xs ≡ xs ++ ys
 rewritten-same xs ys = sets-front (xs ++ ys) xs (simp length-append (omega arith)) ∙ ap (xs ++_) (drop-append-seam xs ys)
 
-whole : (layout : Layout) → Whole (placesOf layout)
+whole : (layout : Layout) → FillsNode (bitLayout layout)
 whole Kwg = whole-KWG
 whole Kbwg = whole-KBWG
 
 module _ (layout : Layout) (bytes : List ℕ) where
-  pub same-layout-answer : repackAnswer (placesOf layout) (placesOf layout) bytes ≡ gives []
-  same-layout-answer = ap misfitAnswer (none-misfits (placesOf layout) 0 (wholeNodes bytes))
+  pub same-layout-answer : repackAnswer (bitLayout layout) (bitLayout layout) bytes ≡ gives []
+  same-layout-answer = ap misfitAnswer (none-misfits (bitLayout layout) 0 (wholeNodes bytes))
 
-  pub same-layout-bytes : EachByte bytes → repackedBytes (placesOf layout) (placesOf layout) bytes ≡ bytes
+  pub same-layout-bytes : EachByte bytes → repackedBytes (bitLayout layout) (bitLayout layout) bytes ≡ bytes
   same-layout-bytes h =
-      ap (λ vs. sets bytes 0 (nodeBytes vs)) (all-packed-back (placesOf layout) (whole layout) (wholeNodes bytes) (nodes-read bytes h))
+      ap (λ vs. sets bytes 0 (nodeBytes vs)) (all-packed-back (bitLayout layout) (whole layout) (wholeNodes bytes) (nodes-read bytes h))
       ∙ subst (λ l. sets l 0 (nodeBytes (wholeNodes bytes)) ≡ l) (bytes-back bytes h) (rewritten-same (nodeBytes (wholeNodes bytes)) (partNode bytes))

@@ -4,7 +4,7 @@ ghost use mathlib.Core.List.{_++_};
 ghost use Prim.Native.Nat.{_+_, _<_, _≤_};
 ghost use lib.ListN.{length, getD, take, drop};
 ghost use lib.Seq.{sets};
-ghost use Rattle.endian.specs.BytesLaws.{nodeAt};
+ghost use Rattle.endian.specs.Bytes.{nodeAt};
 ghost use Rattle.load.specs.Loading.{zeros};
 
 // Whether the places from at on are 0.

@@ -8,6 +8,8 @@ pub use loader::Begun;
 pub use loader::Fed;
 pub use loader::FeedAnswer;
 pub use loader::Finished;
+pub use loader::KeptRefusal;
 pub use loader::Loader;
+pub use repack::Misfit;
 pub use repack::Repacked;
 pub use repack::repack_in_place;

@@ -5,10 +5,10 @@ ghost use mathlib.Core.Option.{none};
 ghost use Prim.Native.Nat.{_+_, _*_, _/_, _<_, _≤_};
 ghost use lib.ListN.{length};
 ghost use Rattle.laws.specs.Cases.{isSome};
-ghost use Rattle.node.specs.Answers.{firstOf};
-ghost use Rattle.load.specs.Repacking.{misfit};
-ghost use Rattle.load.specs.Loading.{beginRow, soundRow, begin, start, stopped, stateAfter, nodesAfter, fresh, feed, finish};
-ghost use Rattle.load.specs.Said.{refusal, begunAs, fedAs, finishedAs};
+ghost use Rattle.answers.specs.Answers.{firstOf};
+ghost use Rattle.load.specs.Loading.{beginRow, soundRow, begin, freshLoader, stopped, stateAfter, nodesAfter, fresh, feed, finish};
+ghost use Rattle.load.specs.Said.{beginRefusal, begunAs, fedAs, finishedAs};
+use crate::repack::Misfit;
 use crate::repack::Repacked;
 use graph::NodesCheck;
 use node::Layout;
@@ -25,34 +25,32 @@ pub enum FeedAnswer {
     Taken,
     BadState,
     TooLong,
-    DoesNotFit {
-        node: usize,
-        tile: u8,
-        arc_index: u32,
-    },
+    DoesNotFit(Misfit),
 }
 
 pub enum Finished {
     Nodes(usize),
     BadState,
-    DoesNotFit {
-        node: usize,
-        tile: u8,
-        arc_index: u32,
-    },
+    DoesNotFit(Misfit),
     Missing,
     ArcPastEnd(u32),
     NoEnd,
 }
 
-// The state of a load. The first held_count places of held are the bytes after the last whole node; kept is the node that stopped it.
+// The refusal that a load keeps once a node does not fit.
+pub enum KeptRefusal {
+    Nothing,
+    DoesNotFit(Misfit),
+}
+
+// The state of a load. The first held_count places of held are the bytes after the last whole node.
 pub struct Loader {
     pub announced: usize,
     pub layout: Layout,
     pub taken: usize,
     pub held: [u8; 3],
     pub held_count: usize,
-    pub kept: Repacked,
+    pub kept: KeptRefusal,
 }
 
 pub struct Begun {
@@ -66,7 +64,7 @@ pub struct Fed {
 }
 
 fn check_length(announced: usize, room: usize) -> BeginAnswer
-    ensures { λ r. ⌜ refusal r ≡ firstOf (beginRow announced room) ⌝ }
+    ensures { λ r. ⌜ beginRefusal r ≡ firstOf (beginRow announced room) ⌝ }
 {
     if announced == 0 {
         return BeginAnswer::NotWholeNodes;
@@ -138,17 +136,9 @@ impl Loader {
             };
         }
         let kept = self.kept;
-        if let Repacked::DoesNotFit {
-            node,
-            tile,
-            arc_index,
-        } = kept {
+        if let KeptRefusal::DoesNotFit(misfit) = kept {
             return Fed {
-                answer: FeedAnswer::DoesNotFit {
-                    node,
-                    tile,
-                    arc_index,
-                },
+                answer: FeedAnswer::DoesNotFit(misfit),
                 loader: self,
             };
         }
@@ -163,20 +153,12 @@ impl Loader {
         self = read_piece(self, piece, nodes);
         let stopped = self.kept;
         match stopped {
-            Repacked::Whole => Fed {
+            KeptRefusal::Nothing => Fed {
                 answer: FeedAnswer::Taken,
                 loader: self,
             },
-            Repacked::DoesNotFit {
-                node,
-                tile,
-                arc_index,
-            } => Fed {
-                answer: FeedAnswer::DoesNotFit {
-                    node,
-                    tile,
-                    arc_index,
-                },
+            KeptRefusal::DoesNotFit(misfit) => Fed {
+                answer: FeedAnswer::DoesNotFit(misfit),
                 loader: self,
             },
         }
@@ -189,17 +171,9 @@ impl Loader {
         if !self.is_sound(nodes.len()) {
             return Finished::BadState;
         }
-        let refusal = self.kept;
-        if let Repacked::DoesNotFit {
-            node,
-            tile,
-            arc_index,
-        } = refusal {
-            return Finished::DoesNotFit {
-                node,
-                tile,
-                arc_index,
-            };
+        let kept = self.kept;
+        if let KeptRefusal::DoesNotFit(misfit) = kept {
+            return Finished::DoesNotFit(misfit);
         }
         let announced = self.announced;
         let taken = self.taken;
@@ -222,7 +196,7 @@ impl Loader {
 }
 
 fn started(announced: usize, layout: Layout) -> Loader
-    ensures { λ r. ⌜ r ≡ start announced layout ⌝ }
+    ensures { λ r. ⌜ r ≡ freshLoader announced layout ⌝ }
 {
     Loader {
         announced,
@@ -230,26 +204,23 @@ fn started(announced: usize, layout: Layout) -> Loader
         taken: 0,
         held: [0; 3],
         held_count: 0,
-        kept: Repacked::Whole,
+        kept: KeptRefusal::Nothing,
     }
 }
 
 // The state that keeps a node that does not fit; later bytes are ignored.
-fn stopped_at(announced: usize, layout: Layout, node: usize, tile: u8, arc_index: u32) -> Loader
-    requires { ⌜ node < 4_294_967_296 ⌝ }
-    ensures { λ r. ⌜ r ≡ stopped announced layout (misfit node tile «arc_index») ⌝ }
+fn stopped_at(announced: usize, layout: Layout, misfit: Misfit) -> Loader
+    requires { ⌜ misfit .node < 4_294_967_296 ⌝ }
+    ensures { λ r. ⌜ r ≡ stopped announced layout misfit ⌝ }
 {
+    let taken = 4 * misfit.node;
     Loader {
         announced,
         layout,
-        taken: 4 * node,
+        taken,
         held: [0; 3],
         held_count: 0,
-        kept: Repacked::DoesNotFit {
-            node,
-            tile,
-            arc_index,
-        },
+        kept: KeptRefusal::DoesNotFit(misfit),
     }
 }
 
@@ -260,22 +231,19 @@ fn read_whole(announced: usize, layout: Layout, bytes: &[u8], nodes: &mut [u32],
     ensures written { λ r. ⌜ now (nodes .exit) ≡ nodesAfter layout k (now (bytes .entry)) (now (nodes .entry)) ⌝ }
 {
     match crate::repack::repack_into(nodes, k, bytes, layout) {
-        Repacked::DoesNotFit {
-            node,
-            tile,
-            arc_index,
-        } => { stopped_at(announced, layout, node, tile, arc_index) }
+        Repacked::DoesNotFit(misfit) => stopped_at(announced, layout, misfit),
         Repacked::Whole => {
             let held_count = bytes.len() % 4;
             let cut = bytes.len() - held_count;
             let held = crate::held::hold([0; 3], 0, &bytes[cut..]);
+            let taken = 4 * k + bytes.len();
             Loader {
                 announced,
                 layout,
-                taken: 4 * k + bytes.len(),
+                taken,
                 held,
                 held_count,
-                kept: Repacked::Whole,
+                kept: KeptRefusal::Nothing,
             }
         }
     }
@@ -296,14 +264,16 @@ fn read_piece(state: Loader, piece: &[u8], nodes: &mut [u32]) -> Loader
     if held_count == 0 {
         return read_whole(announced, layout, piece, nodes, k);
     }
-    if held_count + piece.len() < 4 {
+    let joined_count = held_count + piece.len();
+    if joined_count < 4 {
+        let taken = taken + piece.len();
         return Loader {
             announced,
             layout,
-            taken: taken + piece.len(),
+            taken,
             held: crate::held::hold(held, held_count, piece),
-            held_count: held_count + piece.len(),
-            kept: Repacked::Whole,
+            held_count: joined_count,
+            kept: KeptRefusal::Nothing,
         };
     }
     let first = crate::held::joined_node(held, held_count, piece);
@@ -313,6 +283,13 @@ fn read_piece(state: Loader, piece: &[u8], nodes: &mut [u32]) -> Loader
             let rest = 4 - held_count;
             read_whole(announced, layout, &piece[rest..], nodes, k + 1)
         }
-        Packed::DoesNotFit { tile, arc_index } => stopped_at(announced, layout, k, tile, arc_index),
+        Packed::DoesNotFit { tile, arc_index } => {
+            let misfit = Misfit {
+                node: k,
+                tile,
+                arc_index,
+            };
+            stopped_at(announced, layout, misfit)
+        }
     }
 }

@@ -2,25 +2,28 @@
 ghost use mathlib.Core.Path.{_≡_};
 ghost use Prim.Native.Nat.{_+_, _/_, _≤_};
 ghost use lib.ListN.{length};
-ghost use Rattle.node.specs.Said.{placesOf};
-ghost use Rattle.load.specs.Repacking.{said, repackAnswer, repackedBytes, misfitOf};
+ghost use Rattle.node.specs.Said.{bitLayout};
+ghost use Rattle.load.specs.Repacking.{saidRepack, repackAnswer, repackedBytes, misfitOf};
 ghost use Rattle.load.specs.Loading.{misfitIn, nodesAfter};
 use node::Layout;
 use node::Packed;
 
+// A node whose fields do not fit the other layout.
+pub struct Misfit {
+    pub node: usize,
+    pub tile: u8,
+    pub arc_index: u32,
+}
+
 pub enum Repacked {
     Whole,
-    DoesNotFit {
-        node: usize,
-        tile: u8,
-        arc_index: u32,
-    },
+    DoesNotFit(Misfit),
 }
 
 // Stops at a node that the new layout cannot hold; a part node at the end stays as it is.
 pub fn repack_in_place(bytes: &mut [u8], from: Layout, to: Layout) -> Repacked
-    ensures answer { λ r. ⌜ said r ≡ repackAnswer (placesOf from) (placesOf to) (now (bytes .entry)) ⌝ }
-    ensures rewritten { λ r. ⌜ now (bytes .exit) ≡ repackedBytes (placesOf from) (placesOf to) (now (bytes .entry)) ⌝ }
+    ensures answer { λ r. ⌜ saidRepack r ≡ repackAnswer (bitLayout from) (bitLayout to) (now (bytes .entry)) ⌝ }
+    ensures rewritten { λ r. ⌜ now (bytes .exit) ≡ repackedBytes (bitLayout from) (bitLayout to) (now (bytes .entry)) ⌝ }
 {
     let mut i: usize = 0;
     while 4 <= bytes.len() - i {
@@ -30,11 +33,11 @@ pub fn repack_in_place(bytes: &mut [u8], from: Layout, to: Layout) -> Repacked
                 endian::write_le_u32(bytes, i, new);
             }
             Packed::DoesNotFit { tile, arc_index } => {
-                return Repacked::DoesNotFit {
+                return Repacked::DoesNotFit(Misfit {
                     node: i / 4,
                     tile,
                     arc_index,
-                };
+                });
             }
         }
         i += 4;
@@ -57,11 +60,11 @@ pub(crate) fn repack_into(nodes: &mut [u32], at: usize, bytes: &[u8], from: Layo
                 nodes[k] = new;
             }
             Packed::DoesNotFit { tile, arc_index } => {
-                return Repacked::DoesNotFit {
+                return Repacked::DoesNotFit(Misfit {
                     node: k,
                     tile,
                     arc_index,
-                };
+                });
             }
         }
         i += 4;

@@ -1,4 +1,4 @@
 pub mod Steps
+pub mod StepsLaws
 pub mod Walks
-pub mod WalkLaws
 pub mod Said

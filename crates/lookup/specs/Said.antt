@@ -3,10 +3,10 @@ use mathlib.Core.Path.{_≡_}
 use mathlib.Core.List.{List, [], _∷_, _++_}
 use Prim.Native.Nat.{ℕ}
 use lib.ListN.{length, drop}
-use Rattle.node.specs.Answers.{Answer, gives, nothing, refused}
+use Rattle.answers.specs.Answers.{Answer, gives, nothing, refused}
 use Rattle.lookup.specs.Steps.{Try, on, stop}
-use Rattle.lookup.specs.declared.run.Found.{Found}
-use Rattle.lookup.specs.declared.run.Found.the-variants as F
+use Rattle.lookup.specs.declared.run.RunSearch.{RunSearch}
+use Rattle.lookup.specs.declared.run.RunSearch.the-variants as F
 use Rattle.lookup.specs.declared.by_tile.Sought.{Sought}
 use Rattle.lookup.specs.declared.by_tile.Sought.the-variants as S
 use Rattle.lookup.specs.declared.by_word.WordIndex.{WordIndex}
@@ -37,12 +37,12 @@ saidWord T.OutOfRange = refused 15 []
 saidWord T.BufferFull = refused 16 []
 
 -- "After a refusal or none the tiles already put stay, the rest of the buffer as before."
-pub record Put (walk : List ℕ × Answer) (before after : List ℕ) (r : WordByIndex) : Type 0 where
+pub record WordPut (walk : List ℕ × Answer) (before after : List ℕ) (r : WordByIndex) : Type 0 where
   pub said : saidWord r ≡ walk .1
   pub tiles : after ≡ walk .0 ++ drop (length (walk .0)) before
 
 -- ---- parts of a walk
-abbrev pub tried : Found → Try ℕ
+abbrev pub tried : RunSearch → Try ℕ
 tried (F.At i) = on i
 tried F.Absent = stop nothing
 tried F.NotLent = stop (refused 14 [])

@@ -5,7 +5,7 @@ use mathlib.Core.List.{List, []}
 use Prim.Native.Nat.{ℕ, _+_, _-_}
 use lib.Dec.{ltb, leb}
 use lib.ListN.{length, getD, take}
-use Rattle.node.specs.Answers.{Answer, refused}
+use Rattle.answers.specs.Answers.{Answer, refused}
 
 pub data Try (A : Type 0) : Type 0 where
   on : A → Try A

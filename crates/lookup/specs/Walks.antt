@@ -4,7 +4,7 @@ use mathlib.Core.List.{List, [], _∷_}
 use Prim.Native.Nat.{ℕ, zero, suc, _-_}
 use lib.Dec.{eqb, ltb}
 use lib.ListN.{drop}
-use Rattle.node.specs.Answers.{Answer, gives, nothing, refused}
+use Rattle.answers.specs.Answers.{Answer, gives, nothing, refused}
 use Rattle.lookup.specs.Steps.{Try, on, stop, _>>=_, answer, require, lentPart, lent, difference, sum}
 use Rattle.node.specs.Nodes.{tile, arc, accepts, acceptsBit, KBWG, isEnd}
 use Rattle.graph.specs.Runs.{Graph, node}

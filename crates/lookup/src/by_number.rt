@@ -5,7 +5,8 @@ ghost use lib.Dec.{ltb};
 ghost use lib.ListN.{length};
 ghost use Rattle.node.specs.Nodes.{KBWG, acceptsBit};
 ghost use Rattle.lookup.specs.Walks.{wordsHere, wordFrom, wordByIndex};
-ghost use Rattle.lookup.specs.Said.{here, Put};
+ghost use Rattle.lookup.specs.Said.{here, WordPut};
+use node::Node24;
 
 pub enum WordByIndex {
     Tiles(usize),
@@ -26,7 +27,7 @@ fn words_here(counts: &[u32], v: u32, p: usize) -> Here
     requires { ⌜ p + 1 < 2 ^ 64 ⌝ }
     ensures { λ r. ⌜ here r ≡ wordsHere (now (counts .entry)) v p ⌝ }
 {
-    if v / 64 % 2 == 1 {
+    if Node24(v).is_end() {
         if counts.len() <= p {
             return Here::NotLent;
         }
@@ -50,23 +51,23 @@ fn ends_at(v: u32, idx: u32) -> bool
     if idx != 0 {
         return false;
     }
-    v / 128 % 2 == 1
+    Node24(v).accepts()
 }
 
 fn word_from(nodes: &[u32], counts: &[u32], p: usize, idx: u32, word: &mut [u8]) -> WordByIndex
-    ensures { λ r. ⌜ Put (wordFrom (now (counts .entry)) (now (nodes .entry)) (length (now (word .entry))) 0 p idx) (now (word .entry)) (now (word .exit)) r ⌝ }
+    ensures { λ r. ⌜ WordPut (wordFrom (now (counts .entry)) (now (nodes .entry)) (length (now (word .entry))) 0 p idx) (now (word .entry))
+        (now (word .exit)) r ⌝ }
 {
     let mut p = p;
     let mut idx = idx;
     let mut n = 0;
     while p < nodes.len() {
         let v = nodes[p];
-        let accepts = v / 128 % 2;
         if ends_at(v, idx) {
             if word.len() <= n {
                 return WordByIndex::BufferFull;
             }
-            word[n] = (v % 64) as u8;
+            word[n] = Node24(v).tile();
             return WordByIndex::Tiles(n + 1);
         }
         let here = words_here(counts, v, p);
@@ -76,12 +77,12 @@ fn word_from(nodes: &[u32], counts: &[u32], p: usize, idx: u32, word: &mut [u8])
                     if n >= word.len() {
                         return WordByIndex::BufferFull;
                     }
-                    word[n] = (v % 64) as u8;
+                    word[n] = Node24(v).tile();
                     n += 1;
-                    idx -= accepts;
-                    p = (v / 256) as usize;
+                    idx -= Node24(v).accepts_bit();
+                    p = Node24(v).arc_index() as usize;
                 } else {
-                    if v / 64 % 2 == 1 {
+                    if Node24(v).is_end() {
                         return WordByIndex::Absent;
                     }
                     idx -= words;
@@ -103,7 +104,8 @@ pub fn get_word_by_index(
     idx: u32,
     word: &mut [u8],
 ) -> WordByIndex
-    ensures { λ r. ⌜ Put (wordByIndex (now (counts .entry)) (now (nodes .entry)) (length (now (word .entry))) p idx) (now (word .entry)) (now (word .exit)) r ⌝ }
+    ensures { λ r. ⌜ WordPut (wordByIndex (now (counts .entry)) (now (nodes .entry)) (length (now (word .entry))) p idx) (now (word .entry))
+        (now (word .exit)) r ⌝ }
 {
     word_from(
         crate::run::lent_part(nodes),

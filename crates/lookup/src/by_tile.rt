@@ -2,9 +2,10 @@
 ghost use mathlib.Core.Path.{_≡_};
 ghost use Rattle.lookup.specs.Walks.{stepTo, seek as sought};
 ghost use Rattle.lookup.specs.Said.{tried, saidSeek};
-use crate::run::Found;
+use crate::run::RunSearch;
 use crate::run::find_in;
 use crate::run::lent_part;
+use node::Node24;
 
 pub enum Sought {
     At(u32),
@@ -14,15 +15,15 @@ pub enum Sought {
 
 // One step of a walk, shared by `seek` and the alpha sets: from node p by its arc to the node with the tile.
 // It goes through all the nodes given: a call that walks takes the lent part first.
-pub fn seek_from(nodes: &[u32], p: usize, tile: u32) -> Found
+pub fn seek_from(nodes: &[u32], p: usize, tile: u8) -> RunSearch
     ensures { λ r. ⌜ tried r ≡ stepTo (now (nodes .entry)) p tile ⌝ }
 {
     if nodes.len() <= p {
-        return Found::NotLent;
+        return RunSearch::NotLent;
     }
-    let arc = (nodes[p] / 256) as usize;
+    let arc = Node24(nodes[p]).arc_index() as usize;
     if arc == 0 {
-        return Found::Absent;
+        return RunSearch::Absent;
     }
     find_in(nodes, arc, tile)
 }
@@ -31,10 +32,10 @@ pub fn seek_from(nodes: &[u32], p: usize, tile: u32) -> Found
 pub fn seek(nodes: &[u32], p: u32, tile: u8) -> Sought
     ensures { λ r. ⌜ saidSeek r ≡ sought (now (nodes .entry)) p tile ⌝ }
 {
-    let found = seek_from(lent_part(nodes), p as usize, tile as u32);
+    let found = seek_from(lent_part(nodes), p as usize, tile);
     match found {
-        Found::At(q) => Sought::At(q as u32),
-        Found::Absent => Sought::Absent,
-        Found::NotLent => Sought::NotLent,
+        RunSearch::At(q) => Sought::At(q as u32),
+        RunSearch::Absent => Sought::Absent,
+        RunSearch::NotLent => Sought::NotLent,
     }
 }

@@ -11,5 +11,5 @@ pub use by_tile::seek;
 pub use by_tile::seek_from;
 pub use by_word::WordIndex;
 pub use by_word::get_word_index;
-pub use run::Found;
+pub use run::RunSearch;
 pub use run::lent_part;

@@ -4,8 +4,9 @@ ghost use lib.ListN.{drop};
 ghost use Rattle.lookup.specs.Steps.{lentPart};
 ghost use Rattle.lookup.specs.Walks.{findIn};
 ghost use Rattle.lookup.specs.Said.{tried};
+use node::Node24;
 
-pub enum Found {
+pub enum RunSearch {
     At(usize),
     Absent,
     NotLent,
@@ -20,19 +21,19 @@ pub fn lent_part(list: &[u32]) -> &[u32]
 }
 
 // The first node with the tile in the run from p.
-pub(crate) fn find_in(nodes: &[u32], p: usize, tile: u32) -> Found
+pub(crate) fn find_in(nodes: &[u32], p: usize, tile: u8) -> RunSearch
     ensures { λ r. ⌜ tried r ≡ findIn (drop p (now (nodes .entry))) p tile ⌝ }
 {
     let mut i = p;
     while i < nodes.len() {
         let v = nodes[i];
-        if v % 64 == tile {
-            return Found::At(i);
+        if Node24(v).tile() == tile {
+            return RunSearch::At(i);
         }
-        if v / 64 % 2 == 1 {
-            return Found::Absent;
+        if Node24(v).is_end() {
+            return RunSearch::Absent;
         }
         i += 1;
     }
-    Found::NotLent
+    RunSearch::NotLent
 }

@@ -1,5 +1,5 @@
--- The whole call by its checks before the walk, what these tell the walk, and the work list after it.
-use mathlib.Core.Path.{_≡_, sym, ap}
+-- The whole call by its checks before the walk, what is known past them, and the work list after it.
+use mathlib.Core.Path.{_≡_, sym, ap, _∙_}
 use mathlib.Core.Bool.{false}
 use mathlib.Core.List.{List, _++_}
 use mathlib.Core.Option.{none, some}
@@ -8,34 +8,34 @@ use native.Mathlib.Omega.{arith}
 use lib.ListN.{length, drop, length-append, length-drop}
 use lib.Seq.{drop-at}
 use borrow.Author.Tests.{ltb-false}
-use Rattle.node.specs.Answers.{Answer, Row, firstOf}
-use Rattle.node.specs.RowLaws.{rows-refuse, rows-pass, rows-passed}
+use Rattle.answers.specs.Answers.{Answer, Row, firstOf}
+use Rattle.answers.specs.RowLaws.{rows-refuse, rows-pass, rows-passed}
 use Rattle.graph.specs.Runs.{Graph}
 use Rattle.graph.specs.Checks.{graphRow}
 use Rattle.graph.specs.ChecksLaws.{Fit, fit}
 use Rattle.graph.specs.Lent.{Kept}
 use Rattle.export.specs.Starts.{unlabelled}
-use Rattle.export.specs.Written.{written}
+use Rattle.export.specs.Written.{Written, written}
 use Rattle.lxd_file.specs.File.{lxdFile}
-use Rattle.lxd_file.specs.Row.{checkRow, walkRow, lxdRow, toLxd}
+use Rattle.lxd_file.specs.Row.{lxdChecks, lxdWalkRow, lxdRow, toLxd}
 use Rattle.lxd.specs.Said.{afterChecks}
 use Rattle.lxd.proofs.RowLaws.{passed-all, listsRow}
 
 module _ (g : Graph) (labels title date : List ℕ) (lentWork : ℕ) where
   abbrev checks : Row
-  checks = checkRow g labels title date lentWork
+  checks = lxdChecks g labels title date lentWork
 
   module _ (lent : List ℕ) where
     abbrev walk : Row
-    walk = walkRow g labels title date (length lent)
+    walk = lxdWalkRow g labels title date (length lent)
 
     pub call-refuses : {r : Answer} → firstOf checks ≡ some r → record { answer = r; bytes = lent } ≡ toLxd g labels title date lentWork lent
     unfolding lxdRow toLxd
     call-refuses e = ap (λ o. written o (lxdFile g labels title date) lent) (sym (rows-refuse checks walk e))
 
-    pub call-walks : firstOf checks ≡ none → afterChecks g labels title date lent ≡ toLxd g labels title date lentWork lent
+    pub call-walks : {x : Written} → firstOf checks ≡ none → x ≡ afterChecks g labels title date lent → x ≡ toLxd g labels title date lentWork lent
     unfolding lxdRow toLxd
-    call-walks e = ap (λ o. written o (lxdFile g labels title date) lent) (sym (rows-pass checks walk e))
+    call-walks e i = i ∙ ap (λ o. written o (lxdFile g labels title date) lent) (sym (rows-pass checks walk e))
 
   module _ (passed : firstOf checks ≡ none) where
     pub passed-graph : Fit g

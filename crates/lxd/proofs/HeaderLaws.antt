@@ -5,9 +5,9 @@ use Prim.Native.Nat.{ℕ, zero, suc, _+_, _≤_, _<_}
 use native.Mathlib.Omega.{arith}
 use lib.ListN.{length, getD, replicate, length-append, length-map, List·getD-map, List·getD-eq-default}
 use lib.Seq.{sets, getD-take}
-use Rattle.laws.specs.Sets.{sets-append}
+use Rattle.laws.specs.ListWrites.{sets-append}
 use Rattle.endian.specs.Bytes.{toBytes}
-use Rattle.export.specs.Latin1.{byteOf, byteWritten}
+use Rattle.latin1.specs.Latin1.{byteOf, byteWritten}
 use Rattle.lxd_file.specs.File.{field}
 use Rattle.lxd_file.specs.FileLaws.{length-field}
 use Rattle.lxd.specs.Header.{header}

@@ -1,7 +1,7 @@
--- The record of runs tells the definition's nodes: each arc's entry is the place of its run, and the order is that in which runs are met.
-use mathlib.Core.Path.{_≡_, refl, sym, ap, ap₂, _∙_, subst}
+-- The record of runs gives the definition's nodes: each arc's entry is the place of its run, and the order is that in which runs are met.
+use mathlib.Core.Path.{_≡_, refl, sym, ap, _∙_, subst}
 use mathlib.Core.Logic.{_≢_}
-use mathlib.Core.List.{List, [], _∷_, map, List·Memᴰ, List·Memᴰ·head, List·Memᴰ·tail}
+use mathlib.Core.List.{List, map, List·Memᴰ}
 use Prim.Native.Nat.{ℕ, _+_, _-_, _*_, _^_, _≤_, _<_}
 use native.Mathlib.Omega.{arith}
 use lib.Dec.{eqb}
@@ -10,34 +10,33 @@ use lib.Seq.{sets}
 use borrow.Author.Tests.{eqb-true, eqb-false, eq-eqb, ne-eqb}
 use Rattle.laws.specs.Cases.{split}
 use Rattle.laws.specs.Lists.{member}
-use Rattle.laws.specs.Members.{member-mem, mem-member}
+use Rattle.laws.specs.Members.{map-same, member-mem, mem-member}
 use Rattle.endian.specs.Bytes.{toBytes, nodeBytes}
 use Rattle.node.specs.Nodes.{KBWG, arc}
-use Rattle.graph.specs.Runs.{Graph}
+use Rattle.graph.specs.Runs.{Graph, startNode}
 use Rattle.graph.specs.Words.{count}
-use Rattle.export.specs.Starts.{start}
-use Rattle.export.specs.PlacesLaws.{used-le}
-use Rattle.export.specs.declared.places.Tally.{Tally}
+use Rattle.block_record.specs.RecordLaws.{used-le}
+use Rattle.block_record.specs.declared.BlockTally.{BlockTally}
 use Rattle.lxd_file.specs.File.{runs, child, lxdNode, lxdNodes}
 use Rattle.lxd_file.specs.Row.{reached}
 use Rattle.lxd_file.specs.RunsLaws.{place, no-child, child-place, reached-size, runs-inside, arc-in-runs, place-within}
 use Rattle.lxd_file.specs.NodesLaws.{nodes-none, nodes-some, length-none, length-some, words-or-none}
 use Rattle.lxd_file.specs.NumbersLaws.{length-numbers}
-use Rattle.lxd_blocks.specs.Placed.{childIn, nodeIn, orderBytes, Ready}
-use Rattle.lxd.specs.Planned.{Planned, nodeCount}
+use Rattle.lxd_blocks.specs.Placed.{childIn, nodeIn, orderBytes, LxdReady}
+use Rattle.lxd.specs.Planned.{Planned, nodesWritten}
 
-module _ (g : Graph) (labels w : List ℕ) (words : ℕ) (t : Tally) (h : Planned g labels w words t) where
+module _ {g : Graph} {labels w : List ℕ} {words : ℕ} {t : BlockTally} (h : Planned g labels w words t) where
   -- ---- how many nodes
   pub total-nodes : t .nodes ≡ 2 + length (reached g)
   total-nodes = h .held .runs .sum ∙ ap (2 +_) (sym (reached-size g))
 
-  pub count-nodes : nodeCount words (t .nodes) ≡ length (lxdNodes g labels)
-  unfolding nodeCount
+  pub count-nodes : nodesWritten words (t .nodes) ≡ length (lxdNodes g labels)
+  unfolding nodesWritten
   count-nodes =
       let e = h .found .counted in
       words-or-none g
-      (λ z. rw (eq-eqb words 0 (e ∙ z), nodeCount) (sym (length-none g labels z)))
-      (λ n. rw (ne-eqb words 0 (λ z. n (sym e ∙ z)), nodeCount) (total-nodes ∙ sym (length-some g labels n)))
+      (λ z. rw (eq-eqb words 0 (e ∙ z), nodesWritten) (sym (length-none g labels z)))
+      (λ n. rw (ne-eqb words 0 (λ z. n (sym e ∙ z)), nodesWritten) (total-nodes ∙ sym (length-some g labels n)))
 
   -- ---- where an arc leads
   recorded : (p : ℕ) → List·Memᴰ p (runs g) → getD w p 0 ≡ place g p + 1
@@ -63,8 +62,8 @@ module _ (g : Graph) (labels w : List ℕ) (words : ℕ) (t : Tally) (h : Planne
       omega arith)
 
   -- ---- what writing reads
-  places : (p : ℕ) → p < length g → childIn w p < 2 ^ 22
-  places p l =
+  child-fits : (p : ℕ) → p < length g → childIn w p < 2 ^ 22
+  child-fits p l =
       split (eqb p 0)
       (λ e. let z = ap (childIn w) (eqb-true p 0 e) ∙ no-child-by-record in omega arith)
       (λ e.
@@ -79,8 +78,8 @@ module _ (g : Graph) (labels w : List ℕ) (words : ℕ) (t : Tally) (h : Planne
       omega arith)
       (λ m. let b = h .held .runs .new p l m in omega arith))
 
-  pub ready : Ready g labels w
-  ready = record { fit = h .found .sound; labelled = h .found .labelled; room = let r = h .room in omega arith; places = places }
+  pub ready : LxdReady g labels w
+  ready = record { fit = h .found .sound; labelled = h .found .labelled; room = let r = h .room in omega arith; child-fits = child-fits }
 
   -- ---- the record's order
   pub blocks-room : length g + t .blocks < length w
@@ -88,10 +87,6 @@ module _ (g : Graph) (labels w : List ℕ) (words : ℕ) (t : Tally) (h : Planne
 
   pub order-inside : (p : ℕ) → List·Memᴰ p (take (t .blocks) (drop (length g) w)) → p < length g
   order-inside p m = runs-inside g (h .found .sound) p (subst (List·Memᴰ p) (h .held .runs .order) m)
-
-  map-same : (f k : ℕ → ℕ) (l : List ℕ) → ((v : ℕ) → List·Memᴰ v l → f v ≡ k v) → map f l ≡ map k l
-  map-same f k [] e = refl
-  map-same f k (v ∷ l) e = ap₂ _∷_ (e v (List·Memᴰ·head refl)) (map-same f k l (λ u m. e u (List·Memᴰ·tail m)))
 
   node-is : (v : ℕ) → List·Memᴰ v (reached g) → nodeIn labels w v ≡ lxdNode g labels v
   unfolding nodeIn lxdNode
@@ -108,7 +103,7 @@ module _ (g : Graph) (labels w : List ℕ) (words : ℕ) (t : Tally) (h : Planne
       (λ n. let e = length-some g labels n in omega arith)
 
   module _ (none : words ≡ 0) where
-    no-words : count KBWG g (start g 0) ≡ 0
+    no-words : count KBWG g (startNode g 0) ≡ 0
     no-words = sym (h .found .counted) ∙ none
 
     pub three-nodes : length (lxdNodes g labels) ≡ 3
@@ -122,7 +117,7 @@ module _ (g : Graph) (labels w : List ℕ) (words : ℕ) (t : Tally) (h : Planne
         ∙ ap (λ x. sets l 64 (nodeBytes x)) (sym (nodes-none g labels no-words))
 
   module _ (some : words ≢ 0) where
-    some-words : count KBWG g (start g 0) ≢ 0
+    some-words : count KBWG g (startNode g 0) ≢ 0
     some-words z = some (h .found .counted ∙ z)
 
     abbrev order : List ℕ

@@ -6,11 +6,11 @@ use mathlib.Core.Option.{none, some}
 use Prim.Native.Nat.{ℕ, zero, suc}
 use lib.ListN.{drop}
 use Rattle.laws.specs.Lists.{All}
-use Rattle.node.specs.Answers.{Answer, nothing, Refusal, asAnswer, Row, firstOf}
-use Rattle.node.specs.RowLaws.{row-refuses, row-passes, row-passed, row-ends, rows-pass}
+use Rattle.answers.specs.Answers.{Answer, nothing, Refusal, asAnswer, Row, firstOf}
+use Rattle.answers.specs.RowLaws.{row-refuses, row-passes, row-passed, row-ends, rows-pass}
 use Rattle.graph.specs.Runs.{Graph}
 use Rattle.graph.specs.Checks.{graphRow}
-use Rattle.lxd_file.specs.Row.{checkRow}
+use Rattle.lxd_file.specs.Row.{lxdChecks}
 
 -- the k-th test holds, and none before it
 abbrev pub StopsAt : ℕ → Row → Type 0
@@ -39,10 +39,10 @@ passed-all (c ∷ cs) e = let p = row-passed (c .0) (c .1) cs e in (p .0, passed
 -- ---- the checks after them
 module _ (g : Graph) (labels title date : List ℕ) (lent : ℕ) where
   abbrev pub row : Row
-  row = checkRow g labels title date lent
+  row = lxdChecks g labels title date lent
 
   abbrev pub listsRow : Row
-  listsRow = drop 3 (checkRow g labels title date lent)
+  listsRow = drop 3 (lxdChecks g labels title date lent)
 
   module _ (sound : firstOf (graphRow g) ≡ none) where
     pub lists-refuse : (k : ℕ) → StopsAt k listsRow → some (answerAt k listsRow) ≡ firstOf row

@@ -1,5 +1,5 @@
--- The checks of the walk by what the labels, the survey, the numbering and the file's length tell, and what is left by the first of them that
--- refuses, or by none.
+-- The checks of the walk, decided by the labels, the survey, the numbering and the file's length; and what is left by the first of them
+-- that refuses, or by none.
 use mathlib.Core.Path.{_≡_, refl, sym, ap, ap₂, _∙_}
 use mathlib.Core.Bool.{true, false}
 use mathlib.Core.Logic.{_≢_}
@@ -11,34 +11,36 @@ use lib.Dec.{eqb, ltb, leb}
 use lib.ListN.{length, getD, drop}
 use lib.Seq.{sets}
 use borrow.Author.Tests.{lt-ltb, le-ltb, lt-leb}
+use Rattle.laws.specs.Members.{all-fail}
 use Rattle.laws.specs.Cases.{or-false-left, or-false-right}
 use Rattle.laws.specs.Lists.{someOf}
-use Rattle.laws.specs.Sets.{sets-front}
+use Rattle.laws.specs.ListWrites.{sets-front}
+use Rattle.base.specs.Numbers.{most}
 use Rattle.endian.specs.Bytes.{nodeBytes}
-use Rattle.node.specs.Answers.{gives, Row, firstOf}
+use Rattle.answers.specs.Answers.{gives, Row, firstOf}
 use Rattle.node.specs.Nodes.{KBWG, tile}
-use Rattle.graph.specs.Runs.{Graph}
+use Rattle.graph.specs.Runs.{Graph, startNode}
 use Rattle.graph.specs.Words.{count}
 use Rattle.graph.specs.ChecksLaws.{Fit}
-use Rattle.export.specs.Starts.{start, unlabelled}
+use Rattle.export.specs.Starts.{unlabelled}
 use Rattle.export.specs.Blocks.{met, total}
 use Rattle.export.specs.ChainLaws.{arcsFrom}
 use Rattle.export.specs.Written.{written}
-use Rattle.export.specs.Latin1.{byteOf, noByte}
-use Rattle.export.specs.Survey.{most, wide, wideWithin, Surveys, SurveyIs}
-use Rattle.export.specs.ReachLaws.{all-fail, survey-wide, survey-many, survey-count}
-use Rattle.export.specs.declared.survey.Findings.{Findings}
-use Rattle.export.specs.declared.survey.Surveyed.{Surveyed}
-use Rattle.export.specs.declared.places.Tally.{Tally}
+use Rattle.latin1.specs.Latin1.{byteOf, noByte}
+use Rattle.survey.specs.Survey.{byteless, bytelessWithin, Surveys, SurveyIs}
+use Rattle.survey.specs.ReachLaws.{survey-byteless, survey-many, survey-count}
+use Rattle.survey.specs.declared.Findings.{Findings}
+use Rattle.survey.specs.declared.Surveyed.{Surveyed}
+use Rattle.block_record.specs.declared.BlockTally.{BlockTally}
 use Rattle.lxd_file.specs.File.{field, runs, lxdNodes, lxdFile}
 use Rattle.lxd_file.specs.FileLaws.{length-file}
-use Rattle.lxd_file.specs.Row.{reached, walkRow}
+use Rattle.lxd_file.specs.Row.{reached, lxdWalkRow}
 use Rattle.lxd_file.specs.RunsLaws.{size, reached-size, start-inside}
-use Rattle.lxd_blocks.specs.Numbered.{Held, Numbered}
+use Rattle.lxd_blocks.specs.RunsNumbered.{RunsHeld, RunsNumbered}
 use Rattle.lxd_blocks.specs.declared.numbering.Walked.{Walked}
 use Rattle.lxd.specs.Header.{header}
 use Rattle.lxd.specs.Said.{afterChecks}
-use Rattle.lxd.specs.Planned.{Found, Planned, nodeCount}
+use Rattle.lxd.specs.Planned.{ChecksPassed, Planned, nodesWritten}
 use Rattle.lxd.proofs.HeaderLaws.{written-after, length-header, header-before}
 use Rattle.lxd.proofs.PlannedLaws.{total-nodes, count-nodes}
 use Rattle.lxd.proofs.RowLaws.{StopsAt, answerAt, stops-at, all-pass}
@@ -51,59 +53,59 @@ has-byte (c ∷ labels) zero e = or-false-left (noByte c) (someOf noByte labels)
 has-byte (c ∷ labels) (suc t) e = has-byte labels t (or-false-right (noByte c) (someOf noByte labels) e)
 
 module _ (g : Graph) (labels : List ℕ) where
-  pub all-have-bytes : someOf noByte labels ≡ false → someOf (wide labels) (reached g) ≡ false
-  all-have-bytes e = all-fail (wide labels) (reached g) (λ v m. has-byte labels (tile KBWG v) e)
+  pub all-have-bytes : someOf noByte labels ≡ false → someOf (byteless labels) (reached g) ≡ false
+  all-have-bytes e = all-fail (byteless labels) (reached g) (λ v m. has-byte labels (tile KBWG v) e)
 
   -- ---- by the survey: 23 and 13
   -- what it answers of the start, and finds
-  abbrev pub Answers : Surveyed → Type 0
-  Answers = SurveyIs g labels 64 (start g 0)
+  abbrev pub StartSurveyed : Surveyed → Type 0
+  StartSurveyed = SurveyIs g labels 64 (startNode g 0)
 
-  abbrev pub Finds : Findings → Type 0
-  Finds = Surveys g labels 64 (start g 0)
+  abbrev pub StartFindings : Findings → Type 0
+  StartFindings = Surveys g labels 64 (startNode g 0)
 
-  module _ (sound : Fit g) (f : Findings) (surveys : Surveys g labels 64 (start g 0) f) where
-    pub wide-label : someOf (wide labels) (reached g) ≡ f .wide
+  module _ (sound : Fit g) (f : Findings) (surveys : Surveys g labels 64 (startNode g 0) f) where
+    pub byteless-label : someOf (byteless labels) (reached g) ≡ f .byteless
     unfolding runs
-    wide-label = survey-wide g labels 64 (start g 0) f surveys
+    byteless-label = survey-byteless g labels 64 (startNode g 0) f surveys
 
-    pub many-words : leb most (count KBWG g (start g 0)) ≡ eqb (f .words) most
-    many-words = survey-many g labels 64 (start g 0) f surveys (sound .steps) (start-inside g sound)
+    pub many-words : leb most (count KBWG g (startNode g 0)) ≡ eqb (f .words) most
+    many-words = survey-many g labels 64 (startNode g 0) f surveys (sound .steps) (start-inside g sound)
 
-    pub found : unlabelled g labels ≡ false → f .wide ≡ false → f .words ≢ most → Found g labels (f .words)
-    found labelled narrow n =
+    pub found : unlabelled g labels ≡ false → f .byteless ≡ false → f .words ≢ most → ChecksPassed g labels (f .words)
+    found labelled bytes n =
         let e = surveys .words in
         record {
           sound = sound;
           labelled = labelled;
           ended = surveys .deep;
-          narrow = wide-label ∙ narrow;
-          counted = survey-count g labels 64 (start g 0) f surveys (sound .steps) (start-inside g sound) n;
+          bytes = byteless-label ∙ bytes;
+          counted = survey-count g labels 64 (startNode g 0) f surveys (sound .steps) (start-inside g sound) n;
           few = omega arith;
         }
 
   -- ---- by the numbering: 22, 13 and 25
   -- what a survey would find, but for labels without a byte
-  pub surveys-too : {w₀ w o : List ℕ} {f : Walked} → Numbered g w₀ w o true (start g 0) 64 f
-      → Surveys g labels 64 (start g 0) (record { runs = f .runs; words = f .words; wide = wideWithin g labels 64 (start g 0) })
+  pub surveys-too : {w₀ w o : List ℕ} {f : Walked} → RunsNumbered g w₀ w o true (startNode g 0) 64 f
+      → Surveys g labels 64 (startNode g 0) (record { runs = f .runs; words = f .words; byteless = bytelessWithin g labels 64 (startNode g 0) })
   surveys-too {f = f} n =
       record {
         deep = n .counted .depth 64 ∙ le-ltb 64 (f .runs) (n .ends);
         runs = n .counted .depth;
-        words = n .counted .spelt 64 (n .ends);
-        wide = refl;
+        words = n .counted .words-are 64 (n .ends);
+        byteless = refl;
       }
 
-  module _ (words : ℕ) (h : Found g labels words) where
-    pub few-words : leb most (count KBWG g (start g 0)) ≡ false
-    few-words = let l : count KBWG g (start g 0) < most = let e = h .counted in let f = h .few in omega arith in lt-leb _ _ l
+  module _ (words : ℕ) (h : ChecksPassed g labels words) where
+    pub few-words : leb most (count KBWG g (startNode g 0)) ≡ false
+    few-words = let l : count KBWG g (startNode g 0) < most = let e = h .counted in let f = h .few in omega arith in lt-leb _ _ l
 
-    pub plan : {w : List ℕ} {t : Tally} → length g + length g < length w → Held g w t (met (arcsFrom g) 64 [] (start g 0))
+    pub plan : {w : List ℕ} {t : BlockTally} → length g + length g < length w → RunsHeld g w t (met (arcsFrom g) 64 [] (startNode g 0))
         → Planned g labels w words t
     unfolding runs
     plan r k = record { found = h; room = r; held = k }
 
-  pub many-nodes : 2 ^ 22 < 2 + total (size g) (met (arcsFrom g) 64 [] (start g 0)) → 2 ^ 22 < 2 + length (reached g)
+  pub many-nodes : 2 ^ 22 < 2 + total (size g) (met (arcsFrom g) 64 [] (startNode g 0)) → 2 ^ 22 < 2 + length (reached g)
   unfolding runs
   many-nodes m = let e = reached-size g in omega arith
 
@@ -112,43 +114,43 @@ module _ (g : Graph) (labels title date lent : List ℕ) where
   file = lxdFile g labels title date
 
   abbrev pub walkOf : Row
-  walkOf = walkRow g labels title date (length lent)
+  walkOf = lxdWalkRow g labels title date (length lent)
 
   -- "A refusal writes no file byte."
   pub walk-refuses : (k : ℕ) → StopsAt k walkOf → record { answer = answerAt k walkOf; bytes = lent } ≡ afterChecks g labels title date lent
   walk-refuses k s = ap (λ o. written o file lent) (sym (stops-at k walkOf s))
 
   -- ---- by the file's length: 11, or the file
-  module _ (w : List ℕ) (words : ℕ) (t : Tally) (p : Planned g labels w words t) (n : ℕ) (told : n ≡ nodeCount words (t .nodes)) where
+  module _ {w : List ℕ} {words : ℕ} {t : BlockTally} (p : Planned g labels w words t) (n : ℕ) (counted : n ≡ nodesWritten words (t .nodes)) where
     few-nodes : ltb (2 ^ 22) (2 + length (reached g)) ≡ false
     few-nodes =
-        let l : 2 + length (reached g) ≤ 2 ^ 22 = let a = total-nodes g labels w words t p in let b = p .held .within in omega arith in
+        let l : 2 + length (reached g) ≤ 2 ^ 22 = let a = total-nodes p in let b = p .held .within in omega arith in
         le-ltb _ _ l
 
-    nodes-told : n ≡ length (lxdNodes g labels)
-    nodes-told = told ∙ count-nodes g labels w words t p
+    node-count-is : n ≡ length (lxdNodes g labels)
+    node-count-is = counted ∙ count-nodes p
 
     file-long : 64 + 4 * n ≡ length file
-    file-long = ap (λ k. 64 + 4 * k) nodes-told ∙ sym (length-file g labels title date)
+    file-long = ap (λ k. 64 + 4 * k) node-count-is ∙ sym (length-file g labels title date)
 
     pub file-short : length lent < 64 + 4 * n → StopsAt 4 walkOf
     file-short l =
         let f = p .found in
         let m : length lent < length file = let e = file-long in omega arith in
-        (f .ended, (f .narrow, (few-words g labels words f, (few-nodes, lt-ltb _ _ m))))
+        (f .ended, (f .bytes, (few-words g labels words f, (few-nodes, lt-ltb _ _ m))))
 
     module _ (fits : 64 + 4 * n ≤ length lent) where
       whole : length file ≤ length lent
       whole = let e = file-long in omega arith
 
       passes : firstOf walkOf ≡ none
-      passes = let f = p .found in all-pass walkOf (f .ended, (f .narrow, (few-words g labels words f, (few-nodes, (le-ltb _ _ whole, tt)))))
+      passes = let f = p .found in all-pass walkOf (f .ended, (f .bytes, (few-words g labels words f, (few-nodes, (le-ltb _ _ whole, tt)))))
 
       in-two-parts : header n title date words ++ nodeBytes (lxdNodes g labels) ≡ file
       unfolding lxdFile
       in-two-parts =
-          ap₂ (λ k c. header k title date c ++ nodeBytes (lxdNodes g labels)) nodes-told (p .found .counted)
-          ∙ header-before (field 32 title) (field 20 date) (nodeBytes (lxdNodes g labels)) (length (lxdNodes g labels)) (count KBWG g (start g 0))
+          ap₂ (λ k c. header k title date c ++ nodeBytes (lxdNodes g labels)) node-count-is (p .found .counted)
+          ∙ header-before (field 32 title) (field 20 date) (nodeBytes (lxdNodes g labels)) (length (lxdNodes g labels)) (count KBWG g (startNode g 0))
 
       bytes-after : {a b : List ℕ} → a ≡ sets lent 0 (header n title date words) → b ≡ sets a 64 (nodeBytes (lxdNodes g labels))
           → b ≡ file ++ drop (length file) lent

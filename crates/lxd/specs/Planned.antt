@@ -7,31 +7,32 @@ use lib.Dec.{eqb}
 use lib.ListN.{length, getD}
 use Rattle.laws.specs.Lists.{someOf}
 use Rattle.node.specs.Nodes.{KBWG, tile}
-use Rattle.graph.specs.Runs.{Graph}
+use Rattle.graph.specs.Runs.{Graph, startNode}
 use Rattle.graph.specs.Words.{count}
 use Rattle.graph.specs.ChecksLaws.{Fit}
-use Rattle.export.specs.Starts.{start, unlabelled, deeper}
-use Rattle.export.specs.Latin1.{noByte}
-use Rattle.export.specs.declared.places.Tally.{Tally}
+use Rattle.base.specs.Numbers.{most}
+use Rattle.export.specs.Starts.{unlabelled, deeper}
+use Rattle.latin1.specs.Latin1.{noByte}
+use Rattle.block_record.specs.declared.BlockTally.{BlockTally}
 use Rattle.lxd_file.specs.File.{runs}
 use Rattle.lxd_file.specs.Row.{reached}
-use Rattle.lxd_blocks.specs.Numbered.{Held}
+use Rattle.lxd_blocks.specs.RunsNumbered.{RunsHeld}
 
--- what the walk tells where its checks up to the words refuse nothing: so many words
-pub record Found (g : Graph) (labels : List ℕ) (words : ℕ) : Type 0 where
+-- what is known where the checks up to that of the words refuse nothing: so many words
+pub record ChecksPassed (g : Graph) (labels : List ℕ) (words : ℕ) : Type 0 where
   pub sound : Fit g
   pub labelled : unlabelled g labels ≡ false
-  pub ended : deeper g 64 (start g 0) ≡ false
-  pub narrow : someOf (λ v. noByte (getD labels (tile KBWG v) 0)) (reached g) ≡ false
-  pub counted : words ≡ count KBWG g (start g 0)
-  pub few : words < 4_294_967_295
+  pub ended : deeper g 64 (startNode g 0) ≡ false
+  pub bytes : someOf (λ v. noByte (getD labels (tile KBWG v) 0)) (reached g) ≡ false
+  pub counted : words ≡ count KBWG g (startNode g 0)
+  pub few : words < most
 
 -- the same with the runs in the record
-pub record Planned (g : Graph) (labels w : List ℕ) (words : ℕ) (t : Tally) : Type 0 where
-  pub found : Found g labels words
+pub record Planned (g : Graph) (labels w : List ℕ) (words : ℕ) (t : BlockTally) : Type 0 where
+  pub found : ChecksPassed g labels words
   pub room : length g + length g < length w
-  pub held : Held g w t (runs g)
+  pub held : RunsHeld g w t (runs g)
 
 -- "With no words, node 2 is .. the last"
-unfoldable pub nodeCount : ℕ → ℕ → ℕ
-nodeCount words nodes = elim (eqb words 0) [ true ↦ 3 | false ↦ nodes ]
+unfoldable pub nodesWritten : ℕ → ℕ → ℕ
+nodesWritten words nodes = elim (eqb words 0) [ true ↦ 3 | false ↦ nodes ]

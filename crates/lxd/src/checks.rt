@@ -2,17 +2,17 @@
 ghost use mathlib.Core.Path.{_≡_};
 ghost use mathlib.Core.Option.{none};
 ghost use Rattle.laws.specs.Lists.{someOf};
-ghost use Rattle.node.specs.Answers.{firstOf};
+ghost use Rattle.answers.specs.Answers.{firstOf};
 ghost use Rattle.graph.specs.Checks.{graphRow};
-ghost use Rattle.export.specs.Latin1.{noByte};
-ghost use Rattle.lxd_file.specs.Row.{checkRow};
-ghost use Rattle.lxd.specs.Said.{refusal};
+ghost use Rattle.latin1.specs.Latin1.{noByte};
+ghost use Rattle.lxd_file.specs.Row.{lxdChecks};
+ghost use Rattle.lxd.specs.Said.{checkedRefusal};
 use crate::Lxd;
 use export::lacks_label;
-use export::no_byte;
 use graph::GraphCheck;
+use latin1::no_byte;
 
-pub(crate) enum Checked {
+pub(crate) enum LxdChecked {
     Passed,
     Refused(Lxd),
 }
@@ -38,29 +38,30 @@ fn check_lists(
     title: &[u32],
     date: &[u32],
     lent_work: usize,
-) -> Checked
+) -> LxdChecked
     requires { ⌜ firstOf (graphRow (now nodes)) ≡ none ⌝ }
-    ensures { λ r. ⌜ refusal r ≡ firstOf (checkRow (now (nodes .entry)) (now (labels .entry)) (now (title .entry)) (now (date .entry)) «lent_work») ⌝ }
+    ensures { λ r. ⌜ checkedRefusal r
+        ≡ firstOf (lxdChecks (now (nodes .entry)) (now (labels .entry)) (now (title .entry)) (now (date .entry)) «lent_work») ⌝ }
 {
     if lacks_byte(title) {
-        return Checked::Refused(Lxd::TitleNotLatin1);
+        return LxdChecked::Refused(Lxd::TitleNotLatin1);
     }
     if 31 < title.len() {
-        return Checked::Refused(Lxd::TitleTooLong);
+        return LxdChecked::Refused(Lxd::TitleTooLong);
     }
     if lacks_byte(date) {
-        return Checked::Refused(Lxd::DateNotLatin1);
+        return LxdChecked::Refused(Lxd::DateNotLatin1);
     }
     if 19 < date.len() {
-        return Checked::Refused(Lxd::DateTooLong);
+        return LxdChecked::Refused(Lxd::DateTooLong);
     }
     if lacks_label(nodes, labels) {
-        return Checked::Refused(Lxd::NoLabel);
+        return LxdChecked::Refused(Lxd::NoLabel);
     }
     if lent_work < 8 * nodes.len() {
-        return Checked::Refused(Lxd::WorkTooShort);
+        return LxdChecked::Refused(Lxd::WorkTooShort);
     }
-    Checked::Passed
+    LxdChecked::Passed
 }
 
 // The checks of the graph, the texts, the labels and a work list of so many numbers.
@@ -70,13 +71,14 @@ pub(crate) fn check(
     title: &[u32],
     date: &[u32],
     lent_work: usize,
-) -> Checked
-    ensures { λ r. ⌜ refusal r ≡ firstOf (checkRow (now (nodes .entry)) (now (labels .entry)) (now (title .entry)) (now (date .entry)) «lent_work») ⌝ }
+) -> LxdChecked
+    ensures { λ r. ⌜ checkedRefusal r
+        ≡ firstOf (lxdChecks (now (nodes .entry)) (now (labels .entry)) (now (title .entry)) (now (date .entry)) «lent_work») ⌝ }
 {
     match graph::check_graph(nodes) {
         GraphCheck::Sound => check_lists(nodes, labels, title, date, lent_work),
-        GraphCheck::WrongSize => Checked::Refused(Lxd::WrongSize),
-        GraphCheck::ArcPastEnd(arc_index) => Checked::Refused(Lxd::ArcPastEnd(arc_index)),
-        GraphCheck::NoEnd => Checked::Refused(Lxd::NoEnd),
+        GraphCheck::WrongSize => LxdChecked::Refused(Lxd::WrongSize),
+        GraphCheck::ArcPastEnd(arc_index) => LxdChecked::Refused(Lxd::ArcPastEnd(arc_index)),
+        GraphCheck::NoEnd => LxdChecked::Refused(Lxd::NoEnd),
     }
 }

@@ -4,11 +4,11 @@ ghost use mathlib.Core.List.{map};
 ghost use Prim.Native.Nat.{_+_, _≤_};
 ghost use lib.ListN.{length, getD};
 ghost use lib.Seq.{sets};
-ghost use Rattle.export.specs.Latin1.{byteWritten};
+ghost use Rattle.latin1.specs.Latin1.{byteWritten};
 ghost use Rattle.lxd_file.specs.File.{field};
 ghost use Rattle.lxd.specs.Header.{header};
 use endian::write_le_u32;
-use export::byte_of;
+use latin1::byte_of;
 
 // The byte of a text at place i, 0 past its end.
 fn text_byte(text: &[u32], i: usize) -> u8

@@ -8,23 +8,25 @@ ghost use mathlib.Core.Bool.{false};
 ghost use Prim.Native.Nat.{_+_, _*_, _^_, _≤_, _<_};
 ghost use lib.ListN.{length};
 ghost use Rattle.laws.specs.Lists.{someOf};
+ghost use Rattle.graph.specs.Runs.{startNode};
 ghost use Rattle.graph.specs.ChecksLaws.{Fit};
 ghost use Rattle.graph.specs.Lent.{WorkKept};
-ghost use Rattle.export.specs.Starts.{start, unlabelled};
-ghost use Rattle.export.specs.Survey.{wide};
-ghost use Rattle.lxd_file.specs.Row.{reached, checkRow, toLxd};
-ghost use Rattle.lxd.specs.Said.{writtenAs, afterChecks, WalkRefuses};
-use checks::Checked;
+ghost use Rattle.export.specs.Starts.{unlabelled};
+ghost use Rattle.survey.specs.Survey.{byteless, SurveyIs};
+ghost use Rattle.lxd_file.specs.Row.{reached, lxdChecks, toLxd};
+ghost use Rattle.lxd.specs.Said.{lxdWrittenAs, afterChecks, WalkRefuses};
+use base::MOST;
+use base::clear;
+use block_record::BlockTally;
+use checks::LxdChecked;
 use checks::check;
 use checks::lacks_byte;
-use export::Tally;
-use export::survey::Surveyed;
-use export::survey::survey;
 use file::write_file;
-use lists::clear;
-use lxd_blocks::Numbering;
+use lxd_blocks::RunNumbering;
 use lxd_blocks::number_run;
 use node::Node24;
+use survey::Surveyed;
+use survey::survey;
 
 pub enum Lxd {
     Written(usize),
@@ -45,11 +47,21 @@ pub enum Lxd {
 }
 
 // The node where the words begin; node 0 must be lent.
-fn start(nodes: &[u32]) -> usize
+fn start_node(nodes: &[u32]) -> usize
     requires { ⌜ 0 < length (now nodes) ⌝ }
-    ensures { λ r. ⌜ r ≡ start (now (nodes .entry)) 0 ⌝ }
+    ensures { λ r. ⌜ r ≡ startNode (now (nodes .entry)) 0 ⌝ }
 {
     Node24(nodes[0]).arc_index() as usize
+}
+
+// The survey from the node where the words begin. The graph must have passed 10, 8, 9 and 21, and the work list must be 8 × N long.
+fn survey_start(nodes: &[u32], labels: &[u32], work: &mut [u32]) -> Surveyed
+    requires { ⌜ Fit (now nodes) ⌝ }
+    requires { ⌜ unlabelled (now nodes) (now labels) ≡ false ⌝ }
+    requires { ⌜ 8 * length (now nodes) ≤ length (now work) ⌝ }
+    ensures { λ r. ⌜ SurveyIs (now (nodes .entry)) (now (labels .entry)) 64 (startNode (now (nodes .entry)) 0) r ⌝ }
+{
+    survey(nodes, labels, work, start_node(nodes))
 }
 
 // Why no file is written that has too many nodes: chains and words are asked before them. The graph must have passed 10, 8, 9 and 21, no
@@ -58,15 +70,15 @@ fn refuse_too_many(nodes: &[u32], labels: &[u32], work: &mut [u32]) -> Lxd
     requires { ⌜ Fit (now nodes) ⌝ }
     requires { ⌜ unlabelled (now nodes) (now labels) ≡ false ⌝ }
     requires { ⌜ 8 * length (now nodes) ≤ length (now work) ⌝ }
-    requires { ⌜ someOf (wide (now labels)) (reached (now nodes)) ≡ false ⌝ }
+    requires { ⌜ someOf (byteless (now labels)) (reached (now nodes)) ≡ false ⌝ }
     requires { ⌜ 2 ^ 22 < 2 + length (reached (now nodes)) ⌝ }
     ensures { λ r. ⌜ WalkRefuses (now (nodes .entry)) (now (labels .entry)) r ⌝ }
 {
-    let surveyed = survey(nodes, labels, work, start(nodes));
-    let Surveyed::Within(found) = surveyed else {
+    let surveyed = survey_start(nodes, labels, work);
+    let Surveyed::Shallow(found) = surveyed else {
         return Lxd::ChainTooLong;
     };
-    if found.words == 4294967295 {
+    if found.words == MOST {
         return Lxd::TooManyWords;
     }
     Lxd::TooManyNodes
@@ -85,20 +97,21 @@ fn write_numbered(
     requires { ⌜ Fit (now nodes) ⌝ }
     requires { ⌜ unlabelled (now nodes) (now labels) ≡ false ⌝ }
     requires { ⌜ 8 * length (now nodes) ≤ length (now work) ⌝ }
-    requires { ⌜ someOf (wide (now labels)) (reached (now nodes)) ≡ false ⌝ }
-    ensures { λ r. ⌜ writtenAs r (now (file .exit)) ≡ afterChecks (now (nodes .entry)) (now (labels .entry)) (now (title .entry)) (now (date .entry)) (now (file .entry)) ⌝ }
+    requires { ⌜ someOf (byteless (now labels)) (reached (now nodes)) ≡ false ⌝ }
+    ensures { λ r. ⌜ lxdWrittenAs r (now (file .exit))
+        ≡ afterChecks (now (nodes .entry)) (now (labels .entry)) (now (title .entry)) (now (date .entry)) (now (file .entry)) ⌝ }
 {
     clear(work, nodes.len());
-    let none = Tally {
+    let none = BlockTally {
         blocks: 0,
         nodes: 2,
     };
-    let numbered = number_run(nodes, work, start(nodes), none, 64);
+    let numbered = number_run(nodes, work, start_node(nodes), none, 64);
     match numbered {
-        Numbering::TooDeep => Lxd::ChainTooLong,
-        Numbering::TooMany => refuse_too_many(nodes, labels, work),
-        Numbering::Done(walked) => {
-            if walked.words == 4294967295 {
+        RunNumbering::TooDeep => Lxd::ChainTooLong,
+        RunNumbering::TooMany => refuse_too_many(nodes, labels, work),
+        RunNumbering::Done(walked) => {
+            if walked.words == MOST {
                 return Lxd::TooManyWords;
             }
             write_file(
@@ -128,14 +141,15 @@ fn write_checked(
     requires { ⌜ Fit (now nodes) ⌝ }
     requires { ⌜ unlabelled (now nodes) (now labels) ≡ false ⌝ }
     requires { ⌜ 8 * length (now nodes) ≤ length (now work) ⌝ }
-    ensures { λ r. ⌜ writtenAs r (now (file .exit)) ≡ afterChecks (now (nodes .entry)) (now (labels .entry)) (now (title .entry)) (now (date .entry)) (now (file .entry)) ⌝ }
+    ensures { λ r. ⌜ lxdWrittenAs r (now (file .exit))
+        ≡ afterChecks (now (nodes .entry)) (now (labels .entry)) (now (title .entry)) (now (date .entry)) (now (file .entry)) ⌝ }
 {
     if lacks_byte(labels) {
-        let surveyed = survey(nodes, labels, work, start(nodes));
-        let Surveyed::Within(found) = surveyed else {
+        let surveyed = survey_start(nodes, labels, work);
+        let Surveyed::Shallow(found) = surveyed else {
             return Lxd::ChainTooLong;
         };
-        if found.wide {
+        if found.byteless {
             return Lxd::LetterNotLatin1;
         }
     }
@@ -151,13 +165,15 @@ pub fn to_lxd(
     work: &mut [u32],
     file: &mut [u8],
 ) -> Lxd
-    ensures written { λ r. ⌜ writtenAs r (now (file .exit)) ≡ toLxd (now (nodes .entry)) (now (labels .entry)) (now (title .entry)) (now (date .entry)) (length (now (work .entry))) (now (file .entry)) ⌝ }
-    ensures free { λ r. ⌜ WorkKept (checkRow (now (nodes .entry)) (now (labels .entry)) (now (title .entry)) (now (date .entry)) (length (now (work .entry)))) (8 * length (now (nodes .entry))) (now (work .entry)) (now (work .exit)) ⌝ }
+    ensures written { λ r. ⌜ lxdWrittenAs r (now (file .exit))
+        ≡ toLxd (now (nodes .entry)) (now (labels .entry)) (now (title .entry)) (now (date .entry)) (length (now (work .entry))) (now (file .entry)) ⌝ }
+    ensures free { λ r. ⌜ WorkKept (lxdChecks (now (nodes .entry)) (now (labels .entry)) (now (title .entry)) (now (date .entry)) (length (now (work .entry))))
+        (8 * length (now (nodes .entry))) (now (work .entry)) (now (work .exit)) ⌝ }
 {
     let checked = check(nodes, labels, title, date, work.len());
     match checked {
-        Checked::Refused(answer) => answer,
-        Checked::Passed => {
+        LxdChecked::Refused(answer) => answer,
+        LxdChecked::Passed => {
             let free = 8 * nodes.len();
             write_checked(nodes, labels, title, date, &mut work[..free], file)
         }

@@ -11,13 +11,13 @@ use lib.Seq.{getD-set-same, getD-set-other}
 use borrow.Author.Tests.{eqb-true, eqb-false, eq-eqb, ne-eqb, lt-ltb, le-ltb}
 use Rattle.laws.specs.Cases.{split}
 use Rattle.graph.specs.Runs.{Graph}
-use Rattle.export.specs.declared.places.Tally.{Tally}
-use Rattle.export.specs.Depths.{depthAt, NoneBut, NoneLeft}
-use Rattle.lxd_blocks.specs.Numbered.{wordsAt, lookedUp, Counted, Known}
-use Rattle.lxd_blocks.specs.declared.numbering.Numbering.the-variants.{Done, TooDeep}
+use Rattle.block_record.specs.declared.BlockTally.{BlockTally}
+use Rattle.block_record.specs.Depths.{depthAt, NoneBut, NoneLeft}
+use Rattle.lxd_blocks.specs.RunsNumbered.{wordsAt, lookedUp, RunCounted, Known}
+use Rattle.lxd_blocks.specs.declared.numbering.RunNumbering.the-variants.{Done, TooDeep}
 
 -- ---- the entries of a run, read with its chain first
-module _ (n : ℕ) (w : List ℕ) (p : ℕ) (t : Tally) (left : ℕ) {d : ℕ} (read : d ≡ getD w (depthAt n p) 0) where
+module _ (n : ℕ) (w : List ℕ) (p : ℕ) (t : BlockTally) (left : ℕ) {d : ℕ} (read : d ≡ getD w (depthAt n p) 0) where
   pub looked-followed : d ≡ 0 → TooDeep ≡ lookedUp n w p t left
   looked-followed z = rw (eq-eqb _ _ (sym read ∙ z), lookedUp)
 
@@ -54,7 +54,7 @@ module _ (g : Graph) where
 
   module _ {p : ℕ} {w w′ : List ℕ} (others : Others p w w′) where
     known-but : (getD w′ (depthAt (length g) p) 0 ≢ 0
-        → Counted g true p (getD w′ (depthAt (length g) p) 0) (getD w′ (wordsAt (length g) p) 0)) → Known g w → Known g w′
+        → RunCounted g true p (getD w′ (depthAt (length g) p) 0) (getD w′ (wordsAt (length g) p) 0)) → Known g w → Known g w′
     known-but own h q l a b =
         split (eqb q p)
         (λ t. let e = eqb-true q p t in rw e (own (rw e at b)))
@@ -105,7 +105,7 @@ module _ (g : Graph) where
       ended-words : getD ended (wordsAt (length g) p) 0 ≡ words
       ended-words = getD-set-same (set w (depthAt (length g) p) d) (wordsAt (length g) p) words 0 (simp length-set (omega arith))
 
-      pub ended-known : Counted g true p d words → Known g w → Known g ended
+      pub ended-known : RunCounted g true p d words → Known g w → Known g ended
       ended-known c = known-but ended-others (λ n. rw (ended-depth, ended-words) c)
 
       pub ended-followed : (w₀ : List ℕ) → NoneBut g p w₀ w → NoneLeft g w₀ ended

@@ -1,6 +1,7 @@
 -- What the proofs of several functions use.
 mod RunLaws
-mod CountedLaws
+mod HeldLaws
+mod RunCountedLaws
 mod KnownLaws
 mod NumberingLaws
 mod PlacedLaws

@@ -13,20 +13,21 @@ use Rattle.laws.specs.Lists.{kept, member}
 use Rattle.node.specs.Nodes.{KBWG, arc, isEnd}
 use Rattle.graph.specs.Runs.{Graph, node}
 use Rattle.export.specs.Starts.{runOf, hasArc, deeper}
+use Rattle.export.specs.RunOfLaws.{run-ends, run-goes-on}
 use Rattle.export.specs.Blocks.{each, met, total}
-use Rattle.export.specs.Places.{orderIn, metBy}
-use Rattle.export.specs.PlacesLaws.{used-lt, met-old, met-new, by-none, by-arc, total-snoc, all-total, fresh-of, stale-of, push-holds}
-use Rattle.export.specs.declared.places.Tally.{Tally}
+use Rattle.block_record.specs.Record.{orderIn, metBy}
+use Rattle.block_record.specs.RecordLaws.{used-lt, met-old, met-new, met-by-none, met-by-arc, total-snoc, all-total, fresh-of, stale-of, push-holds}
+use Rattle.block_record.specs.declared.BlockTally.{BlockTally}
 use Rattle.export.specs.ChainLaws.{arcsFrom, arc-from}
-use Rattle.export.specs.Depths.{depthAt, Below, NoneBut}
-use Rattle.export.specs.DepthsLaws.{loop-deep, below-arc, deep-by-arc}
+use Rattle.block_record.specs.Depths.{depthAt, Below, NoneBut}
+use Rattle.block_record.specs.DepthsLaws.{loop-deep, below-arc, deep-by-arc}
 use Rattle.lxd_file.specs.RunsLaws.{size}
-use Rattle.lxd_blocks.specs.Numbered.{wordsAt, passed, closed, lookedUp, Held, Known, Recorded, Numbered, NumberedAs}
-use Rattle.lxd_blocks.specs.NumberedLaws.{held-as, held-here, held-past}
+use Rattle.lxd_blocks.specs.RunsNumbered.{wordsAt, nodePassed, runClosed, lookedUp, RunsHeld, Known, RunsRecorded, RunsNumbered, NumberedAs}
+use Rattle.lxd_blocks.proofs.HeldLaws.{held-as, held-here, held-past}
 use Rattle.lxd_blocks.specs.declared.numbering.Walked.{Walked}
-use Rattle.lxd_blocks.specs.declared.numbering.Numbering.{Numbering}
-use Rattle.lxd_blocks.proofs.RunLaws.{run-last, run-more, run-first}
-use Rattle.lxd_blocks.proofs.CountedLaws.{counted-none, Passing, passing-starts, passing-node, passing-all}
+use Rattle.lxd_blocks.specs.declared.numbering.RunNumbering.{RunNumbering}
+use Rattle.lxd_blocks.proofs.RunLaws.{run-first}
+use Rattle.lxd_blocks.proofs.RunCountedLaws.{counted-none, Passing, passing-starts, passing-node, passing-all}
 use Rattle.lxd_blocks.proofs.KnownLaws.{ended-known, ended-followed}
 
 module _ (g : Graph) where
@@ -35,15 +36,15 @@ module _ (g : Graph) where
   walk left seen vs = each (met (arcsFrom g) left) seen (map (arc KBWG) (kept hasArc vs))
 
   -- ---- an arc
-  module _ {w : List ℕ} {t : Tally} (r : Recorded g w t) (left : ℕ) where
+  module _ {w : List ℕ} {t : BlockTally} (r : RunsRecorded g w t) (left : ℕ) where
     abbrev here : List ℕ
     here = orderIn (length g) w t
 
     pub no-arc : (v : ℕ) → arc KBWG v ≡ 0
-        → Numbered g w w (metBy (arcsFrom g) left here (arc KBWG v)) (hasArc v) (arc KBWG v) left (record { tally = t; runs = 0; words = 0 })
+        → RunsNumbered g w w (metBy (arcsFrom g) left here (arc KBWG v)) (hasArc v) (arc KBWG v) left (record { tally = t; runs = 0; words = 0 })
     no-arc v z =
         record {
-          held = held-as g (sym (by-none (arcsFrom g) left here (arc KBWG v) z)) (r .held);
+          held = held-as g (sym (met-by-none (arcsFrom g) left here (arc KBWG v) z)) (r .held);
           known = r .known;
           followed = λ q l f. f;
           counted = counted-none g v z;
@@ -51,9 +52,9 @@ module _ (g : Graph) where
         }
 
     -- to a run that is numbered already
-    pub known-run : (q : ℕ) → q < length g → getD w q 0 ≢ 0 → Below g w q
+    known-answer : (q : ℕ) → q < length g → getD w q 0 ≢ 0 → Below g w q
         → NumberedAs g w w (met (arcsFrom g) left here q) true q left (lookedUp (length g) w q t left)
-    known-run q l n b =
+    known-answer q l n b =
         split (eqb (getD w (depthAt (length g) q) 0) 0)
         (λ z. rw (z, lookedUp) (loop-deep g w q b l (n, eqb-true _ _ z) left))
         (λ z.
@@ -68,13 +69,17 @@ module _ (g : Graph) where
           ends = ltb-false _ _ d;
         })))
 
-  pub arc-run : (w₀ w o : List ℕ) (left v : ℕ) (r : Numbering) {q : ℕ} → q ≡ arc KBWG v → q ≢ 0
+    pub known-run : {r : RunNumbering} (q : ℕ) → q < length g → getD w q 0 ≢ 0 → Below g w q → r ≡ lookedUp (length g) w q t left
+        → NumberedAs g w w (met (arcsFrom g) left here q) true q left r
+    known-run q l n b e = subst (NumberedAs g w w (met (arcsFrom g) left here q) true q left) (sym e) (known-answer q l n b)
+
+  pub arc-run : (w₀ w o : List ℕ) (left v : ℕ) (r : RunNumbering) {q : ℕ} → q ≡ arc KBWG v → q ≢ 0
       → NumberedAs g w₀ w (met (arcsFrom g) left o q) true q left r
       → NumberedAs g w₀ w (metBy (arcsFrom g) left o (arc KBWG v)) (hasArc v) (arc KBWG v) left r
-  arc-run w₀ w o left v r {q} e n h = rw (← e, by-arc (arcsFrom g) left o q n, ne-eqb q 0 n) h
+  arc-run w₀ w o left v r {q} e n h = rw (← e, met-by-arc (arcsFrom g) left o q n, ne-eqb q 0 n) h
 
   -- ---- a run that is new
-  module _ {w : List ℕ} {t : Tally} {o : List ℕ} (h : Held g w t o) (p : ℕ) (l : p < length g) (new : getD w p 0 ≡ 0) where
+  module _ {w : List ℕ} {t : BlockTally} {o : List ℕ} (h : RunsHeld g w t o) (p : ℕ) (l : p < length g) (new : getD w p 0 ≡ 0) where
     fresh : member p o ≡ false
     fresh = fresh-of (h .runs) p l new
 
@@ -93,9 +98,9 @@ module _ (g : Graph) where
         let k = h .within in
         subst (λ x. 2 ^ 22 < 2 + total (size g) x) (sym (met-new (arcsFrom g) left o p e fresh)) (omega arith)
 
-    pub run-pushed : (w′ : List ℕ) (t′ : Tally) (s : ℕ) → 4 * length g ≤ length w → s ≡ size g p → s ≤ 2 ^ 22 - t .nodes
+    pub run-pushed : (w′ : List ℕ) (t′ : BlockTally) (s : ℕ) → 4 * length g ≤ length w → s ≡ size g p → s ≤ 2 ^ 22 - t .nodes
         → (w′ ≡ set (set w p (t .nodes + 1)) (length g + t .blocks) p) × (t′ .blocks ≡ t .blocks + 1) × (t′ .nodes ≡ t .nodes + s)
-        → Held g w′ t′ (o ++ p ∷ [])
+        → RunsHeld g w′ t′ (o ++ p ∷ [])
     run-pushed w′ t′ s room e d a = record {
       runs = push-holds p (h .runs) l (omega arith) fresh w′ t′ s e a;
       within = let k = h .within in let z = a .2 in omega arith;
@@ -106,14 +111,14 @@ module _ (g : Graph) where
       → walk left o (v ∷ vs) ≡ walk left (metBy (arcsFrom g) left o (arc KBWG v)) vs
   walk-node left o v vs =
       split (eqb (arc KBWG v) 0)
-      (λ e. rw (e, kept) (ap (λ x. walk left x vs) (sym (by-none (arcsFrom g) left o (arc KBWG v) (eqb-true _ _ e)))))
-      (λ e. rw (e, kept) (ap (λ x. walk left x vs) (sym (by-arc (arcsFrom g) left o (arc KBWG v) (eqb-false _ _ e)))))
+      (λ e. rw (e, kept) (ap (λ x. walk left x vs) (sym (met-by-none (arcsFrom g) left o (arc KBWG v) (eqb-true _ _ e)))))
+      (λ e. rw (e, kept) (ap (λ x. walk left x vs) (sym (met-by-arc (arcsFrom g) left o (arc KBWG v) (eqb-false _ _ e)))))
 
   -- the runs met before node `at` of the run from p are held, and what is left gives what is met from all its nodes after those of o;
   -- w₀ is the work list as p was numbered
   pub record Along (left : ℕ) (o : List ℕ) (p : ℕ) (w₀ w : List ℕ) (f : Walked) (at : ℕ) : Type 0 where
     pub inside : at < length g
-    pub held : Held g w (f .tally) (orderIn (length g) w (f .tally))
+    pub held : RunsHeld g w (f .tally) (orderIn (length g) w (f .tally))
     pub rest : walk left (orderIn (length g) w (f .tally)) (runOf g at) ≡ walk left o (runOf g p)
     pub own : (v : ℕ) → List·Memᴰ v (runOf g at) → List·Memᴰ v (runOf g p)
     pub known : Known g w
@@ -121,7 +126,7 @@ module _ (g : Graph) where
     pub passing : Passing g p (f .runs) (f .words) (runOf g at)
     pub ends : f .runs ≤ left
 
-  pub along-starts : {left p : ℕ} {w : List ℕ} {t : Tally} → p < length g → Held g w t (orderIn (length g) w t) → Known g w
+  pub along-starts : {left p : ℕ} {w : List ℕ} {t : BlockTally} → p < length g → RunsHeld g w t (orderIn (length g) w t) → Known g w
       → Along left (orderIn (length g) w t) p w w (record { tally = t; runs = 0; words = 0 }) p
   along-starts {p = p} l h k =
       record {
@@ -164,16 +169,16 @@ module _ (g : Graph) where
         subst (λ x. 2 ^ 22 < 2 + total (size g) x) (sym e ∙ k .rest) (omega arith)
 
     -- ---- past it
-    module _ {w′ : List ℕ} {child : Walked} (c : Numbered g w w′ next (hasArc v) (arc KBWG v) left child) where
+    module _ {w′ : List ℕ} {child : Walked} (c : RunsNumbered g w w′ next (hasArc v) (arc KBWG v) left child) where
       still : NoneBut g p w₀ w′
       still q l n x = k .followed q l n (c .followed q l x)
 
       within : max (f .runs) (child .runs) ≤ left
       within = let a = k .ends in let b = c .ends in omega arith
 
-      pub along-goes : {sum : Walked} → sum ≡ passed v f child → isEnd KBWG v ≡ false → suc at < length g → Along left o p w₀ w′ sum (at + 1)
+      pub along-goes : {sum : Walked} → sum ≡ nodePassed v f child → isEnd KBWG v ≡ false → suc at < length g → Along left o p w₀ w′ sum (at + 1)
       along-goes i e l =
-          let more = run-more g at (k .inside) e in
+          let more = run-goes-on g at (k .inside) e in
           subst (λ x. Along left o p w₀ w′ x (at + 1)) (sym i)
           (record {
             inside = omega arith;
@@ -190,12 +195,12 @@ module _ (g : Graph) where
       -- the last node passed, and what is found kept
       module _ (e : isEnd KBWG v ≡ true) (was : List ℕ) (b : NoneBut g p was w₀) (l : p < length g) (room : 4 * length g ≤ length w′) where
         abbrev whole : Walked
-        whole = closed (passed v f child)
+        whole = runClosed (nodePassed v f child)
 
-        kept-whole : Numbered g was (set (set w′ (depthAt (length g) p) (whole .runs)) (wordsAt (length g) p) (whole .words))
+        kept-whole : RunsNumbered g was (set (set w′ (depthAt (length g) p) (whole .runs)) (wordsAt (length g) p) (whole .words))
             (walk left o (runOf g p)) true p (suc left) whole
         kept-whole =
-            let last = run-last g at (k .inside) e in
+            let last = run-ends g at (k .inside) e in
             let found = passing-all g (passing-node g (subst (Passing g p (f .runs) (f .words)) last (k .passing)) (c .counted)) in
             let order = sym (ap (walk left seen) last ∙ walk-node left seen v []) ∙ k .rest in
             let some : whole .runs ≢ 0 = λ z. omega arith in
@@ -208,7 +213,7 @@ module _ (g : Graph) where
               ends = let a = within in omega arith;
             }
 
-        pub along-ends : {sum r : Walked} {w″ o′ : List ℕ} {turns : ℕ} → sum ≡ passed v f child
-            → (r ≡ closed sum) × (w″ ≡ set (set w′ (depthAt (length g) p) (closed sum .runs)) (wordsAt (length g) p) (sum .words))
-            → walk left o (runOf g p) ≡ o′ → suc left ≡ turns → Numbered g was w″ o′ true p turns r
+        pub along-ends : {sum r : Walked} {w″ o′ : List ℕ} {turns : ℕ} → sum ≡ nodePassed v f child
+            → (r ≡ runClosed sum) × (w″ ≡ set (set w′ (depthAt (length g) p) (runClosed sum .runs)) (wordsAt (length g) p) (sum .words))
+            → walk left o (runOf g p) ≡ o′ → suc left ≡ turns → RunsNumbered g was w″ o′ true p turns r
         along-ends i j x y = rw (j .0, j .1, i, ← x, ← y) kept-whole

@@ -2,28 +2,29 @@
 use mathlib.Core.Path.{_≡_, refl, sym, ap, _∙_}
 use mathlib.Core.Logic.{_≢_}
 use mathlib.Core.Bool.{Bool, true, false}
-use mathlib.Core.List.{List, [], _∷_, _++_, map, append-assoc, map-append, List·Memᴰ, List·Memᴰ·head, List·Memᴰ·tail, Memᴰ·cast}
-use Prim.Native.Nat.{ℕ, zero, suc, _+_, _*_, _≤_, _<_}
+use mathlib.Core.List.{List, [], _∷_, _++_, map, append-assoc, map-append, List·Memᴰ, Memᴰ·cast}
+use Prim.Native.Nat.{ℕ, suc, _+_, _*_, _≤_, _<_}
 use native.Mathlib.Nat.{suc-mul}
 use native.Mathlib.Omega.{arith}
 use native.Mathlib.Numerals.{add-one}
 use lib.ListN.{length, getD, take, drop, length-append, length-drop, drop-of-length-le}
 use lib.Seq.{sets, drop-cons, getD-take, getD-drop, length-take-le}
-use borrow.Author.Tests.{eq-eqb, ne-eqb, leb-false}
+use borrow.Author.Tests.{eq-eqb, ne-eqb}
 use Rattle.laws.specs.Lists.{joinAll}
-use Rattle.laws.specs.Members.{none-of}
-use Rattle.laws.specs.Sets.{sets-append}
+use Rattle.laws.specs.Members.{at-in}
+use Rattle.laws.specs.ListWrites.{sets-append}
 use Rattle.endian.specs.Bytes.{toBytes, nodeBytes}
 use Rattle.node.specs.Nodes.{KBWG, tile, arc, accepts, isEnd, values, packed}
 use Rattle.graph.specs.Runs.{Graph, node}
-use Rattle.export.specs.Starts.{runOf, unlabelled}
-use Rattle.export.specs.Places.{placeAt}
-use Rattle.export.specs.PlacesLaws.{place-none, place-value}
-use Rattle.export.specs.declared.places.Place.the-variants.{Numbered, Unnumbered}
-use Rattle.export.specs.Latin1.{byteWritten}
+use Rattle.export.specs.Starts.{runOf}
+use Rattle.export.specs.RunOfLaws.{run-ends, run-goes-on}
+use Rattle.block_record.specs.Record.{placeAt}
+use Rattle.block_record.specs.RecordLaws.{place-none, place-value}
+use Rattle.block_record.specs.declared.Place.the-variants.{Numbered, Unnumbered}
+use Rattle.latin1.specs.Latin1.{byteWritten}
 use Rattle.lxd_file.specs.File.{LXD}
 use Rattle.lxd_blocks.specs.Placed.{childIn, nodeIn, bytesIn, runBytes, orderBytes}
-use Rattle.lxd_blocks.proofs.RunLaws.{run-last, run-more, run-first}
+use Rattle.lxd_blocks.proofs.RunLaws.{run-first}
 
 -- ---- a child
 module _ (w : List ℕ) (p : ℕ) where
@@ -46,17 +47,6 @@ module _ (labels w : List ℕ) (v : ℕ) where
       → k ≡ childIn w (arc KBWG v) → packed LXD (values t a e k) ≡ nodeIn labels w v
   unfolding nodeIn
   node-packed h i j m = rw (h, i, j, m)
-
--- ---- lists
-pub in-at : (l : List ℕ) (i : ℕ) → i < length l → List·Memᴰ (getD l i 0) l
-in-at [] i h = absurd (omega arith)
-in-at (x ∷ l) zero h = List·Memᴰ·head refl
-in-at (x ∷ l) (suc i) h = List·Memᴰ·tail (in-at l i (omega arith))
-
--- each node has its tile labelled
-pub labelled-at : (g : Graph) (labels : List ℕ) → unlabelled g labels ≡ false → (p : ℕ) → p < length g
-    → tile KBWG (node g p) < length labels
-labelled-at g labels e p h = leb-false _ _ (none-of _ g e (node g p) (in-at g p h))
 
 numbers-append : (a b : List ℕ) → nodeBytes (a ++ b) ≡ nodeBytes a ++ nodeBytes b
 unfolding nodeBytes
@@ -92,12 +82,12 @@ module _ (g : Graph) (labels w : List ℕ) where
     module _ (i p : ℕ) (inside : p < length g) where
       left-last : isEnd KBWG (node g p) ≡ true → left i p ≡ toBytes (nodeIn labels w (node g p)) ++ from (i + 1)
       unfolding nodeBytes
-      left-last e = ap (λ vs. bytesIn labels w vs ++ from (i + 1)) (run-last g p inside e)
+      left-last e = ap (λ vs. bytesIn labels w vs ++ from (i + 1)) (run-ends g p inside e)
 
       left-more : isEnd KBWG (node g p) ≡ false → left i p ≡ toBytes (nodeIn labels w (node g p)) ++ left i (p + 1)
       unfolding nodeBytes
       left-more e =
-          ap (λ vs. bytesIn labels w vs ++ from (i + 1)) (run-more g p inside e)
+          ap (λ vs. bytesIn labels w vs ++ from (i + 1)) (run-goes-on g p inside e)
           ∙ append-assoc (toBytes (nodeIn labels w (node g p))) (runBytes g labels w (p + 1)) (from (i + 1))
 
       -- at least one node
@@ -110,7 +100,7 @@ module _ (g : Graph) (labels w : List ℕ) where
           omega arith
 
     -- the bytes before `at` are written, and what is left gives the whole
-    pub record Writing (file₀ file : List ℕ) (at i p : ℕ) : Type 0 where
+    pub record RunsWriting (file₀ file : List ℕ) (at i p : ℕ) : Type 0 where
       pub size : length file ≡ length file₀
       pub inside : i < k → p < length g
       pub fits : i < k → at + length (left i p) ≡ 72 + length (from 0)
@@ -133,7 +123,7 @@ module _ (g : Graph) (labels w : List ℕ) where
         run-inside : p < length g
         run-inside =
             let l = order-length in
-            runs p (Memᴰ·cast (sym (order-at i h ∙ sym e)) (in-at order i (omega arith)))
+            runs p (Memᴰ·cast (sym (order-at i h ∙ sym e)) (at-in order i 0 (omega arith)))
 
         run-left : from i ≡ left i p
         run-left =
@@ -141,7 +131,7 @@ module _ (g : Graph) (labels w : List ℕ) where
             let c : drop i order ≡ getD order i 0 ∷ drop (i + 1) order = rw (add-one, drop-cons order i 0 (omega arith)) in
             ap (orderBytes g labels w) c ∙ order-bytes (getD order i 0) (drop (i + 1) order) ∙ ap (left i) (order-at i h ∙ sym e)
 
-      pub writing-starts : (file : List ℕ) (p : ℕ) → p ≡ getD w (length g) 0 → Writing file file 72 0 p
+      pub writing-starts : (file : List ℕ) (p : ℕ) → p ≡ getD w (length g) 0 → RunsWriting file file 72 0 p
       writing-starts file p e =
           let z : p ≡ getD w (length g + 0) 0 = e ∙ ap (λ j. getD w j 0) (omega arith) in
           record {
@@ -152,7 +142,7 @@ module _ (g : Graph) (labels w : List ℕ) where
             done = λ h. ap (sets file 72) (sym (run-none 0 h));
           }
 
-      module _ {file₀ file file′ : List ℕ} {at i p : ℕ} (h : Writing file₀ file at i p) (l : i < k)
+      module _ {file₀ file file′ : List ℕ} {at i p : ℕ} (h : RunsWriting file₀ file at i p) (l : i < k)
           (same : length file′ ≡ length file) (e : file′ ≡ sets file at (toBytes (nodeIn labels w (node g p)))) where
         wrote : (after : List ℕ) → left i p ≡ toBytes (nodeIn labels w (node g p)) ++ after → sets file′ (at + 4) after ≡ sets file₀ 72 (from 0)
         wrote after c =
@@ -163,7 +153,7 @@ module _ (g : Graph) (labels w : List ℕ) where
         fitted after c =
             step-length file (sets file₀ 72 (from 0)) at (72 + length (from 0)) (nodeIn labels w (node g p)) (left i p) after c (h .fits l)
 
-        pub writing-on : isEnd KBWG (node g p) ≡ false → suc p < length g → Writing file₀ file′ (at + 4) i (p + 1)
+        pub writing-on : isEnd KBWG (node g p) ≡ false → suc p < length g → RunsWriting file₀ file′ (at + 4) i (p + 1)
         writing-on b n =
             let c = left-more i p (h .inside l) b in
             record {
@@ -174,7 +164,7 @@ module _ (g : Graph) (labels w : List ℕ) where
               done = λ m. absurd (omega arith);
             }
 
-        pub writing-over : (q : ℕ) → isEnd KBWG (node g p) ≡ true → q ≡ getD w (length g + i + 1) 0 → Writing file₀ file′ (at + 4) (i + 1) q
+        pub writing-over : (q : ℕ) → isEnd KBWG (node g p) ≡ true → q ≡ getD w (length g + i + 1) 0 → RunsWriting file₀ file′ (at + 4) (i + 1) q
         writing-over q b r =
             let c = left-last i p (h .inside l) b in
             let z : q ≡ getD w (length g + (i + 1)) 0 = r ∙ ap (λ j. getD w j 0) (omega arith) in

@@ -1,3 +1,3 @@
-pub mod Numbered
+pub mod RunsNumbered
 pub mod NumberedLaws
 pub mod Placed

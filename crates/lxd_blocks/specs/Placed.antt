@@ -1,4 +1,4 @@
--- The file's nodes as the record of places tells them.
+-- The file's nodes by the record of places.
 use mathlib.Core.Path.{_≡_}
 use mathlib.Core.Bool.{true, false}
 use mathlib.Core.List.{List, map}
@@ -11,7 +11,7 @@ use Rattle.node.specs.Nodes.{KBWG, tile, arc, accepts, isEnd, values, packed}
 use Rattle.graph.specs.Runs.{Graph}
 use Rattle.graph.specs.ChecksLaws.{Fit}
 use Rattle.export.specs.Starts.{runOf, unlabelled}
-use Rattle.export.specs.Latin1.{byteWritten}
+use Rattle.latin1.specs.Latin1.{byteWritten}
 use Rattle.lxd_file.specs.File.{LXD}
 
 -- where the run of an arc stands by the record, which has the place and 1; no arc leads nowhere
@@ -35,8 +35,8 @@ module _ (g : Graph) (labels w : List ℕ) where
   orderBytes ps = bytesIn labels w (joinAll (map (runOf g) ps))
 
   -- what writing reads
-  pub record Ready : Type 0 where
+  pub record LxdReady : Type 0 where
     pub fit : Fit g
     pub labelled : unlabelled g labels ≡ false
     pub room : length g ≤ length w
-    pub places : (p : ℕ) → p < length g → childIn w p < 2 ^ 22
+    pub child-fits : (p : ℕ) → p < length g → childIn w p < 2 ^ 22

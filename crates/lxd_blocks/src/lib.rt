@@ -3,6 +3,6 @@ mod nodes;
 mod numbering;
 
 pub use nodes::write_runs;
-pub use numbering::Numbering;
+pub use numbering::RunNumbering;
 pub use numbering::Walked;
 pub use numbering::number_run;

@@ -6,13 +6,13 @@ ghost use lib.ListN.{length, take, drop};
 ghost use lib.Seq.{sets};
 ghost use Rattle.node.specs.Nodes.{KBWG, tile, arc, values, packed};
 ghost use Rattle.lxd_file.specs.File.{LXD};
-ghost use Rattle.lxd_blocks.specs.Placed.{childIn, nodeIn, orderBytes, Ready};
+ghost use Rattle.lxd_blocks.specs.Placed.{childIn, nodeIn, orderBytes, LxdReady};
+use base::bit;
+use block_record::Place;
+use block_record::place_of;
 use endian::write_le_u32;
-use export::Place;
-use export::byte_of;
-use export::place_of;
+use latin1::byte_of;
 use node::Node24;
-use node::bit;
 
 // A node of the file; the child's place must have no more than 22 bits.
 fn pack(letter: u8, accepts: bool, is_end: bool, child: u32) -> u32
@@ -57,11 +57,13 @@ fn file_node(labels: &[u32], work: &[u32], node: u32) -> u32
 // Writes the first `blocks` runs of the record's order to the bytes from 72 on, which must be there; the record must go on after them. Where
 // the next run begins is read before it is known whether this one ends, so that the processor has nothing to guess.
 pub fn write_runs(nodes: &[u32], labels: &[u32], work: &[u32], blocks: usize, file: &mut [u8])
-    requires { ⌜ Ready (now nodes) (now labels) (now work) ⌝ }
+    requires { ⌜ LxdReady (now nodes) (now labels) (now work) ⌝ }
     requires { ⌜ length (now nodes) + blocks < length (now work) ⌝ }
     requires { ⌜ ((p : ℕ) → List·Memᴰ p (take blocks (drop (length (now nodes)) (now work))) → p < length (now nodes)) ⌝ }
     requires { ⌜ 72 + length (orderBytes (now nodes) (now labels) (now work) (take blocks (drop (length (now nodes)) (now work)))) ≤ length (now file) ⌝ }
-    ensures { λ _. ⌜ now (file .exit) ≡ sets (now (file .entry)) 72 (orderBytes (now (nodes .entry)) (now (labels .entry)) (now (work .entry)) (take blocks (drop (length (now (nodes .entry))) (now (work .entry))))) ⌝ }
+    ensures { λ _. ⌜ now (file .exit)
+        ≡ sets (now (file .entry)) 72 (orderBytes (now (nodes .entry)) (now (labels .entry)) (now (work .entry))
+        (take blocks (drop (length (now (nodes .entry))) (now (work .entry))))) ⌝ }
 {
     let n = nodes.len();
     let mut at: usize = 72;

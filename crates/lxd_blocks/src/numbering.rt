@@ -5,40 +5,40 @@ ghost use mathlib.Core.Path.{_≡_};
 ghost use mathlib.Core.Bool.{true};
 ghost use Prim.Native.Nat.{_*_, _≤_, _<_};
 ghost use lib.ListN.{length, getD, set};
+ghost use Rattle.base.specs.Numbers.{most};
 ghost use Rattle.node.specs.Nodes.{KBWG, arc};
 ghost use Rattle.graph.specs.ChecksLaws.{Fit};
 ghost use Rattle.export.specs.Blocks.{met};
-ghost use Rattle.export.specs.Places.{orderIn, metBy};
+ghost use Rattle.block_record.specs.Record.{orderIn, metBy};
 ghost use Rattle.export.specs.ChainLaws.{arcsFrom};
 ghost use Rattle.export.specs.Starts.{hasArc};
-ghost use Rattle.export.specs.Depths.{depthAt, Below};
-ghost use Rattle.export.specs.Survey.{most};
+ghost use Rattle.block_record.specs.Depths.{depthAt, Below};
 ghost use Rattle.lxd_file.specs.RunsLaws.{size};
-ghost use Rattle.lxd_blocks.specs.Numbered.{wordsAt, passed, closed, lookedUp, Recorded, NumberedAs};
-use export::Place;
-use export::Tally;
-use export::depth_of;
-use export::keep_depth;
-use export::place_of;
-use export::push_block;
-use export::survey::capped_sum;
-use graph::larger;
+ghost use Rattle.lxd_blocks.specs.RunsNumbered.{wordsAt, nodePassed, runClosed, lookedUp, RunsRecorded, NumberedAs};
+use base::bit;
+use base::capped_sum;
+use base::larger;
+use block_record::BlockTally;
+use block_record::Place;
+use block_record::depth_of;
+use block_record::keep_depth;
+use block_record::place_of;
+use block_record::push_block;
 use node::Node24;
-use node::bit;
 
-// As many nodes as the 22 bits of a child can tell apart.
+// As many nodes as a child of 22 bits can number.
 const MOST_NODES: u32 = 4194304;
 
 // What the walk knows: the runs numbered so far, and of the run at hand the runs in the longest chain from it, itself included, and its
 // words (at most 4,294,967,295); of no run, none.
 pub struct Walked {
-    pub tally: Tally,
+    pub tally: BlockTally,
     pub runs: u32,
     pub words: u32,
 }
 
 // The runs numbered, or a chain too long, or too many nodes.
-pub enum Numbering {
+pub enum RunNumbering {
     Done(Walked),
     TooDeep,
     TooMany,
@@ -79,7 +79,7 @@ fn keep_words(n: usize, work: &mut [u32], p: usize, words: u32)
 
 // What is known of a run's nodes up to one of them, by what was known before it and what its arc leads to.
 fn pass_node(node: u32, before: Walked, child: Walked) -> Walked
-    ensures { λ r. ⌜ r ≡ passed node before child ⌝ }
+    ensures { λ r. ⌜ r ≡ nodePassed node before child ⌝ }
 {
     let own = capped_sum(bit(Node24(node).accepts()), child.words);
     let tally = child.tally;
@@ -92,18 +92,18 @@ fn pass_node(node: u32, before: Walked, child: Walked) -> Walked
 
 // What is known of a run that is numbered already. While its arcs are being followed its chain is not known: an arc back to it goes round
 // for ever.
-fn look_up(n: usize, work: &[u32], p: usize, t: Tally, chain_left: u32) -> Numbering
+fn look_up(n: usize, work: &[u32], p: usize, t: BlockTally, chain_left: u32) -> RunNumbering
     requires { ⌜ (p < n) × (4 * n ≤ length (now work)) ⌝ }
     ensures { λ r. ⌜ r ≡ lookedUp n (now (work .entry)) p t «chain_left» ⌝ }
 {
     let runs = depth_of(n, work, p);
     if runs == 0 {
-        return Numbering::TooDeep;
+        return RunNumbering::TooDeep;
     }
     if chain_left < runs {
-        return Numbering::TooDeep;
+        return RunNumbering::TooDeep;
     }
-    Numbering::Done(Walked {
+    RunNumbering::Done(Walked {
         tally: t,
         runs: runs,
         words: words_of(n, work, p),
@@ -113,7 +113,7 @@ fn look_up(n: usize, work: &[u32], p: usize, t: Tally, chain_left: u32) -> Numbe
 // Keeps what is known of the run from p once its nodes are passed; one run more must be a number.
 fn close_run(n: usize, work: &mut [u32], p: usize, sum: Walked) -> Walked
     requires { ⌜ (p < n) × (4 * n ≤ length (now work)) × (sum .runs < most) ⌝ }
-    ensures { λ r. ⌜ (r ≡ closed sum) × (now (work .exit) ≡ set (set (now (work .entry)) (depthAt n p) (closed sum .runs)) (wordsAt n p) (sum .words)) ⌝ }
+    ensures { λ r. ⌜ (r ≡ runClosed sum) × (now (work .exit) ≡ set (set (now (work .entry)) (depthAt n p) (runClosed sum .runs)) (wordsAt n p) (sum .words)) ⌝ }
 {
     let runs = sum.runs + 1;
     keep_depth(n, work, p, runs);
@@ -129,15 +129,23 @@ fn close_run(n: usize, work: &mut [u32], p: usize, sum: Walked) -> Walked
 // Numbers the run that a node's arc leads to and what is met from it, unless the arc is 0 or its run is numbered already. The arc must
 // lead to a node, the record must be that of the runs met so far, and what it leads to must be below the runs whose arcs are being
 // followed: every chain from it must go on one from each of them.
-fn number_arc(nodes: &[u32], work: &mut [u32], node: u32, t: Tally, chain_left: u32) -> Numbering
-    requires { ⌜ Recorded (now nodes) (now work) t ⌝ }
+fn number_arc(
+    nodes: &[u32],
+    work: &mut [u32],
+    node: u32,
+    t: BlockTally,
+    chain_left: u32,
+) -> RunNumbering
+    requires { ⌜ RunsRecorded (now nodes) (now work) t ⌝ }
     requires { ⌜ arc KBWG node < length (now nodes) ⌝ }
     requires { ⌜ (hasArc node ≡ true → Below (now nodes) (now work) (arc KBWG node)) ⌝ }
-    ensures { λ r. ⌜ NumberedAs (now (nodes .entry)) (now (work .entry)) (now (work .exit)) (metBy (arcsFrom (now (nodes .entry))) «chain_left» (orderIn (length (now (nodes .entry))) (now (work .entry)) t) (arc KBWG node)) (hasArc node) (arc KBWG node) «chain_left» r ⌝ }
+    ensures { λ r. ⌜ NumberedAs (now (nodes .entry)) (now (work .entry)) (now (work .exit))
+        (metBy (arcsFrom (now (nodes .entry))) «chain_left» (orderIn (length (now (nodes .entry))) (now (work .entry)) t) (arc KBWG node))
+        (hasArc node) (arc KBWG node) «chain_left» r ⌝ }
 {
     let child = Node24(node).arc_index() as usize;
     if child == 0 {
-        return Numbering::Done(Walked {
+        return RunNumbering::Done(Walked {
             tally: t,
             runs: 0,
             words: 0,
@@ -152,20 +160,27 @@ fn number_arc(nodes: &[u32], work: &mut [u32], node: u32, t: Tally, chain_left: 
 
 // Numbers the run from p, a node that must not be numbered yet, and what its arcs lead to, by a record that must be that of the runs met
 // so far; p must be below the runs whose arcs are being followed. Stops as soon as a chain is too long or the file has over 2^22 nodes.
-pub fn number_run(nodes: &[u32], work: &mut [u32], p: usize, t: Tally, chain_left: u32) -> Numbering
-    requires { ⌜ Recorded (now nodes) (now work) t ⌝ }
+pub fn number_run(
+    nodes: &[u32],
+    work: &mut [u32],
+    p: usize,
+    t: BlockTally,
+    chain_left: u32,
+) -> RunNumbering
+    requires { ⌜ RunsRecorded (now nodes) (now work) t ⌝ }
     requires { ⌜ p < length (now nodes) ⌝ }
     requires { ⌜ getD (now work) p 0 ≡ 0 ⌝ }
     requires { ⌜ Below (now nodes) (now work) p ⌝ }
-    ensures { λ r. ⌜ NumberedAs (now (nodes .entry)) (now (work .entry)) (now (work .exit)) (met (arcsFrom (now (nodes .entry))) «chain_left» (orderIn (length (now (nodes .entry))) (now (work .entry)) t) p) true p «chain_left» r ⌝ }
+    ensures { λ r. ⌜ NumberedAs (now (nodes .entry)) (now (work .entry)) (now (work .exit))
+        (met (arcsFrom (now (nodes .entry))) «chain_left» (orderIn (length (now (nodes .entry))) (now (work .entry)) t) p) true p «chain_left» r ⌝ }
 {
     if chain_left == 0 {
-        return Numbering::TooDeep;
+        return RunNumbering::TooDeep;
     }
     let n = nodes.len();
     let size = run_length(nodes, p);
     if MOST_NODES - t.nodes < size {
-        return Numbering::TooMany;
+        return RunNumbering::TooMany;
     }
     let pushed = push_block(n, work, p, t, size);
     keep_depth(n, work, p, 0);
@@ -179,9 +194,9 @@ pub fn number_run(nodes: &[u32], work: &mut [u32], p: usize, t: Tally, chain_lef
         let node = nodes[at];
         let numbered = number_arc(nodes, work, node, sum.tally, chain_left - 1);
         let next = match numbered {
-            Numbering::Done(next) => next,
-            Numbering::TooDeep => return Numbering::TooDeep,
-            Numbering::TooMany => return Numbering::TooMany,
+            RunNumbering::Done(next) => next,
+            RunNumbering::TooDeep => return RunNumbering::TooDeep,
+            RunNumbering::TooMany => return RunNumbering::TooMany,
         };
         sum = pass_node(node, sum, next);
         if Node24(node).is_end() {
@@ -189,5 +204,5 @@ pub fn number_run(nodes: &[u32], work: &mut [u32], p: usize, t: Tally, chain_lef
         }
         at += 1;
     }
-    Numbering::Done(close_run(n, work, p, sum))
+    RunNumbering::Done(close_run(n, work, p, sum))
 }

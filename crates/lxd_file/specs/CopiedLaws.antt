@@ -11,7 +11,7 @@ use lib.ListN.{drop}
 use Rattle.laws.specs.Cases.{split}
 use Rattle.laws.specs.Lists.{joinAll}
 use Rattle.laws.specs.Members.{join-in}
-use Rattle.node.specs.Nodes.{Places, tile, arc, accepts, isEnd}
+use Rattle.node.specs.Nodes.{BitLayout, tile, arc, accepts, isEnd}
 use Rattle.graph.specs.RunLaws.{run-last, run-next, first-in-run}
 use Rattle.graph.specs.Runs.{Graph, run, lastEnds}
 use Rattle.graph.specs.Words.{Word, inOrder, spelled, wordsWithin}
@@ -30,7 +30,7 @@ inOrder-copied h rename to from (v ∷ l) e =
     ap₂ _++_ (e v (List·Memᴰ·head refl)) (inOrder-copied h rename to from l (λ w m. e w (List·Memᴰ·tail m)))
     ∙ sym (map-append rename (from v) (inOrder from l))
 
-module _ (y z : Places) where
+module _ (y z : BitLayout) where
   -- ---- a run copied, whatever follows it
   pub run-copied : (h : ℕ → ℕ) (l rest : Graph) → lastEnds y l ≡ true → ((v : ℕ) → List·Memᴰ v (run y l) → isEnd z (h v) ≡ isEnd y v)
       → run z (map h (run y l) ++ rest) ≡ map h (run y l)

@@ -6,15 +6,15 @@ use lib.Dec.{eqb}
 use lib.ListN.{length, getD, take, replicate}
 use Rattle.laws.specs.Lists.{kept, joinAll}
 use Rattle.endian.specs.Bytes.{toBytes, nodeBytes}
-use Rattle.node.specs.Nodes.{Places, bits, Tile, Accepts, End, Arc, KBWG, tile, arc, accepts, isEnd, values, packed}
-use Rattle.graph.specs.Runs.{Graph}
+use Rattle.node.specs.Nodes.{BitLayout, bits, Tile, Accepts, End, Arc, KBWG, tile, arc, accepts, isEnd, values, packed}
+use Rattle.graph.specs.Runs.{Graph, startNode}
 use Rattle.graph.specs.Words.{count}
-use Rattle.export.specs.Starts.{start, runOf, hasArc}
+use Rattle.export.specs.Starts.{runOf, hasArc}
 use Rattle.export.specs.Blocks.{met, blockAt}
-use Rattle.export.specs.Latin1.{byteWritten}
+use Rattle.latin1.specs.Latin1.{byteWritten}
 
 -- "Node: end bit 31, accepts 30, letter 22–29, child 0–21."
-abbrev pub LXD : Places
+abbrev pub LXD : BitLayout
 LXD =
     record {
       end = bits 31 31;
@@ -31,7 +31,7 @@ field size text = take size (map byteWritten text ++ replicate size 0)
 module _ (g : Graph) where
   -- the runs from the start, in the order in which they are first met, depth first
   unfoldable pub runs : List ℕ
-  runs = met (λ p. map (arc KBWG) (kept hasArc (runOf g p))) 64 [] (start g 0)
+  runs = met (λ p. map (arc KBWG) (kept hasArc (runOf g p))) 64 [] (startNode g 0)
 
   -- "a run takes consecutive places when first met", after nodes 0 and 1; no arc leads nowhere
   unfoldable pub child : ℕ → ℕ
@@ -47,7 +47,7 @@ module _ (g : Graph) where
     -- "Nodes 0 and 1 are 8A800000 and 8A800002 .. With no words, node 2 is 8A800000 and the last."
     unfoldable pub lxdNodes : List ℕ
     lxdNodes =
-        0x8A800000 ∷ 0x8A800002 ∷ elim (eqb (count KBWG g (start g 0)) 0) [
+        0x8A800000 ∷ 0x8A800002 ∷ elim (eqb (count KBWG g (startNode g 0)) 0) [
           | true ↦ 0x8A800000 ∷ []
           | false ↦ map lxdNode (joinAll (map (runOf g) runs))
         ]
@@ -55,4 +55,4 @@ module _ (g : Graph) where
     -- "64; node count; title (32 bytes) and date (20), zero-filled; word count; nodes. Numbers are 4 bytes."
     unfoldable pub lxdFile : List ℕ → List ℕ → List ℕ
     lxdFile title date =
-        toBytes 64 ++ (toBytes (length lxdNodes) ++ (field 32 title ++ (field 20 date ++ (toBytes (count KBWG g (start g 0)) ++ nodeBytes lxdNodes))))
+        toBytes 64 ++ (toBytes (length lxdNodes) ++ (field 32 title ++ (field 20 date ++ (toBytes (count KBWG g (startNode g 0)) ++ nodeBytes lxdNodes))))

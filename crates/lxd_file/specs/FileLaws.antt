@@ -7,10 +7,9 @@ use lib.ListN.{length, getD, drop, replicate, length-append, length-take, length
 use lib.Seq.{drop-drop, drop-at}
 use Rattle.endian.specs.Bytes.{toBytes, nodeBytes, wholeNodes}
 use Rattle.node.specs.Nodes.{KBWG}
-use Rattle.graph.specs.Runs.{Graph}
+use Rattle.graph.specs.Runs.{Graph, startNode}
 use Rattle.graph.specs.Words.{count}
-use Rattle.export.specs.Starts.{start}
-use Rattle.export.specs.Latin1.{byteWritten}
+use Rattle.latin1.specs.Latin1.{byteWritten}
 use Rattle.lxd_file.specs.File.{field, lxdNodes, lxdFile}
 use Rattle.lxd_file.specs.Reading.{nodesRead, nodeCount, wordCount}
 use Rattle.lxd_file.specs.NumbersLaws.{number-read, numbers-read, length-numbers}
@@ -31,8 +30,8 @@ module _ (g : Graph) (labels title date : List ℕ) where
   abbrev nodes : List ℕ
   nodes = lxdNodes g labels
 
-  abbrev spelled : ℕ
-  spelled = count KBWG g (start g 0)
+  abbrev wordsFromStart : ℕ
+  wordsFromStart = count KBWG g (startNode g 0)
 
   pub length-file : length file ≡ 64 + 4 * length nodes
   unfolding lxdFile
@@ -43,10 +42,10 @@ module _ (g : Graph) (labels title date : List ℕ) where
       simp length-append (omega arith)
 
   -- ---- what stands after the date, and after the header
-  after-date : drop 60 file ≡ toBytes spelled ++ nodeBytes nodes
+  after-date : drop 60 file ≡ toBytes wordsFromStart ++ nodeBytes nodes
   unfolding lxdFile
   after-date =
-      after-two (field 32 title) (field 20 date) (toBytes spelled ++ nodeBytes nodes) 32 20 (length-field 32 title) (length-field 20 date)
+      after-two (field 32 title) (field 20 date) (toBytes wordsFromStart ++ nodeBytes nodes) 32 20 (length-field 32 title) (length-field 20 date)
 
   after-header : drop 64 file ≡ nodeBytes nodes
   after-header = sym (drop-drop 4 60 file) ∙ ap (drop 4) after-date
@@ -59,5 +58,5 @@ module _ (g : Graph) (labels title date : List ℕ) where
   unfolding lxdFile
   file-node-count h = ap (λ l. getD l 0 0) (number-read (length nodes) _ h)
 
-  pub file-word-count : spelled < 2 ^ 32 → wordCount file ≡ spelled
-  file-word-count h = ap (λ l. getD (wholeNodes l) 0 0) after-date ∙ ap (λ l. getD l 0 0) (number-read spelled (nodeBytes nodes) h)
+  pub file-word-count : wordsFromStart < 2 ^ 32 → wordCount file ≡ wordsFromStart
+  file-word-count h = ap (λ l. getD (wholeNodes l) 0 0) after-date ∙ ap (λ l. getD l 0 0) (number-read wordsFromStart (nodeBytes nodes) h)

@@ -1,7 +1,6 @@
 pub mod CopiedLaws
 pub mod File
 pub mod FileLaws
-pub mod Latin1Laws
 pub mod NodesLaws
 pub mod NumbersLaws
 pub mod PackedLaws

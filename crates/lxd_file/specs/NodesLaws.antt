@@ -10,14 +10,13 @@ use borrow.Author.Tests.{eqb-true, eqb-false, eq-eqb, ne-eqb}
 use Rattle.laws.specs.Cases.{split}
 use Rattle.laws.specs.Members.{in-map}
 use Rattle.node.specs.Nodes.{KBWG, tile, arc, accepts, isEnd}
-use Rattle.graph.specs.Runs.{Graph}
+use Rattle.graph.specs.Runs.{Graph, startNode}
 use Rattle.graph.specs.Words.{count}
-use Rattle.export.specs.Starts.{start}
 use Rattle.lxd_file.specs.File.{child, letter, lxdNode, lxdNodes}
 use Rattle.lxd_file.specs.Row.{reached}
-use Rattle.lxd_file.specs.Latin1Laws.{byte-below}
+use Rattle.latin1.specs.Latin1Laws.{byte-below}
 use Rattle.lxd_file.specs.PackedLaws.{Fields, packed-fields}
-use Rattle.lxd_file.specs.RowLaws.{Accepted}
+use Rattle.lxd_file.specs.RowLaws.{LxdAccepted}
 use Rattle.lxd_file.specs.RunsLaws.{child-within}
 
 after-two-below : (l : List ℕ) → ((v : ℕ) → List·Memᴰ v l → v < 2 ^ 32)
@@ -25,33 +24,33 @@ after-two-below : (l : List ℕ) → ((v : ℕ) → List·Memᴰ v l → v < 2 ^
 after-two-below l h v m = ⊎-elim (λ i. omega arith) (λ k. ⊎-elim (λ i. omega arith) (h v) (List·Memᴰ·cases-cons k)) (List·Memᴰ·cases-cons m)
 
 -- there are no words, or some
-pub words-or-none : (g : Graph) {C : Type 0} → (count KBWG g (start g 0) ≡ 0 → C) → (count KBWG g (start g 0) ≢ 0 → C) → C
+pub words-or-none : (g : Graph) {C : Type 0} → (count KBWG g (startNode g 0) ≡ 0 → C) → (count KBWG g (startNode g 0) ≢ 0 → C) → C
 words-or-none g none some =
-    let n = count KBWG g (start g 0) in
+    let n = count KBWG g (startNode g 0) in
     split (eqb n 0) (λ t. none (eqb-true n 0 t)) (λ t. some (eqb-false n 0 t))
 
 module _ (g : Graph) (labels : List ℕ) where
   -- ---- how many nodes, with no words and with some
-  module _ (none : count KBWG g (start g 0) ≡ 0) where
+  module _ (none : count KBWG g (startNode g 0) ≡ 0) where
     pub nodes-none : lxdNodes g labels ≡ 0x8A800000 ∷ 0x8A800002 ∷ 0x8A800000 ∷ []
     unfolding lxdNodes
-    nodes-none = rw (eq-eqb (count KBWG g (start g 0)) 0 none, lxdNodes)
+    nodes-none = rw (eq-eqb (count KBWG g (startNode g 0)) 0 none, lxdNodes)
 
     pub length-none : length (lxdNodes g labels) ≡ 3
     length-none = ap length nodes-none
 
-  module _ (some : count KBWG g (start g 0) ≢ 0) where
+  module _ (some : count KBWG g (startNode g 0) ≢ 0) where
     pub nodes-some : lxdNodes g labels ≡ 0x8A800000 ∷ 0x8A800002 ∷ map (lxdNode g labels) (reached g)
     unfolding lxdNodes
-    nodes-some = rw (ne-eqb (count KBWG g (start g 0)) 0 some, lxdNodes)
+    nodes-some = rw (ne-eqb (count KBWG g (startNode g 0)) 0 some, lxdNodes)
 
     pub length-some : length (lxdNodes g labels) ≡ 2 + length (reached g)
     length-some = ap length nodes-some ∙ (let e = length-map (reached g) (lxdNode g labels) in omega arith)
 
-  module _ (ok : Accepted g labels) where
+  module _ (ok : LxdAccepted g labels) where
     -- ---- a node's fields
     module _ (v : ℕ) (m : List·Memᴰ v (reached g)) where
-      pub child-below : child g (arc KBWG v) < 2 ^ 22
+      child-below : child g (arc KBWG v) < 2 ^ 22
       child-below = let h = child-within g (ok .sound) (ok .ended) v m in let r = ok .room in omega arith
 
       pub node-fields : Fields (lxdNode g labels v) (getD labels (tile KBWG v) 0) (accepts KBWG v) (isEnd KBWG v) (child g (arc KBWG v))

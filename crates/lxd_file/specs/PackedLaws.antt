@@ -5,11 +5,12 @@ use mathlib.Core.List.{List·Memᴰ, List·Memᴰ·head, List·Memᴰ·tail}
 use Prim.Native.Nat.{ℕ, _^_, _<_}
 use native.Mathlib.Omega.{arith}
 use lib.Dec.{eqb}
-use Rattle.node.specs.Nodes.{Field, Tile, Accepts, End, Arc, at, width, fields, tile, arc, accepts, isEnd, flag, values, packed}
-use Rattle.node.specs.PackingLaws.{Whole, unpack-pack}
+use Rattle.base.specs.Numbers.{flag, flag-read}
+use Rattle.node.specs.Nodes.{Field, Tile, Accepts, End, Arc, at, width, fields, tile, arc, accepts, isEnd, values, packed}
+use Rattle.node.specs.PackingLaws.{FillsNode, unpack-pack}
 use Rattle.lxd_file.specs.File.{LXD}
 
-pub whole-LXD : Whole LXD
+whole-LXD : FillsNode LXD
 whole-LXD = record { chain = refl; each = present }
   where
     present : (f : Field) → List·Memᴰ f (LXD .upward)
@@ -21,10 +22,6 @@ whole-LXD = record { chain = refl; each = present }
 flag-below : (b : Bool) → flag b < 2
 flag-below true = omega arith
 flag-below false = omega arith
-
-flag-test : (b : Bool) → eqb (flag b) 1 ≡ b
-flag-test true = refl
-flag-test false = refl
 
 -- a node with such fields
 pub record Fields (v t : ℕ) (a e : Bool) (r : ℕ) : Type 0 where
@@ -50,8 +47,8 @@ module _ (t : ℕ) (a e : Bool) (r : ℕ) (byte : t < 2 ^ 8) (place : r < 2 ^ 22
       let y = flag-below e in
       record {
         tile-is = kept Tile;
-        accepts-is = ap (λ k. eqb k 1) (kept Accepts) ∙ flag-test a;
-        end-is = ap (λ k. eqb k 1) (kept End) ∙ flag-test e;
+        accepts-is = ap (λ k. eqb k 1) (kept Accepts) ∙ flag-read a;
+        end-is = ap (λ k. eqb k 1) (kept End) ∙ flag-read e;
         arc-is = kept Arc;
         below = omega arith;
       }

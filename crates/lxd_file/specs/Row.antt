@@ -4,13 +4,14 @@ use Prim.Native.Nat.{ℕ, _+_, _*_, _^_}
 use lib.Dec.{ltb, leb}
 use lib.ListN.{length, getD}
 use Rattle.laws.specs.Lists.{joinAll, someOf}
-use Rattle.node.specs.Answers.{refusing, Row, firstOf}
+use Rattle.answers.specs.Answers.{refusing, Row, firstOf}
 use Rattle.node.specs.Nodes.{KBWG, tile}
-use Rattle.graph.specs.Runs.{Graph}
+use Rattle.graph.specs.Runs.{Graph, startNode}
 use Rattle.graph.specs.Words.{count}
 use Rattle.graph.specs.Checks.{graphRow}
-use Rattle.export.specs.Starts.{start, runOf, unlabelled, deeper}
-use Rattle.export.specs.Latin1.{noByte}
+use Rattle.base.specs.Numbers.{most}
+use Rattle.export.specs.Starts.{runOf, unlabelled, deeper}
+use Rattle.latin1.specs.Latin1.{noByte}
 use Rattle.export.specs.Written.{Written, written}
 use Rattle.lxd_file.specs.File.{runs, lxdFile}
 
@@ -19,8 +20,8 @@ abbrev pub reached : Graph → List ℕ
 reached g = joinAll (map (runOf g) (runs g))
 
 -- the checks before the walk
-abbrev pub checkRow : Graph → List ℕ → List ℕ → List ℕ → ℕ → Row
-checkRow g labels title date lentWork =
+abbrev pub lxdChecks : Graph → List ℕ → List ℕ → List ℕ → ℕ → Row
+lxdChecks g labels title date lentWork =
     graphRow g
     ++ (someOf noByte title, refusing 20 [])
     ∷ (ltb 31 (length title), refusing 19 [])
@@ -31,17 +32,17 @@ checkRow g labels title date lentWork =
     ∷ []
 
 -- those of the walk and of the sizes; nodes 0 and 1 are counted, "before the no-words cut"
-abbrev pub walkRow : Graph → List ℕ → List ℕ → List ℕ → ℕ → Row
-walkRow g labels title date lentFile =
-    (deeper g 64 (start g 0), refusing 22 [])
+abbrev pub lxdWalkRow : Graph → List ℕ → List ℕ → List ℕ → ℕ → Row
+lxdWalkRow g labels title date lentFile =
+    (deeper g 64 (startNode g 0), refusing 22 [])
     ∷ (someOf (λ v. noByte (getD labels (tile KBWG v) 0)) (reached g), refusing 23 [])
-    ∷ (leb 4_294_967_295 (count KBWG g (start g 0)), refusing 13 [])
+    ∷ (leb most (count KBWG g (startNode g 0)), refusing 13 [])
     ∷ (ltb (2 ^ 22) (2 + length (reached g)), refusing 25 [])
     ∷ (ltb lentFile (length (lxdFile g labels title date)), refusing 11 [])
     ∷ []
 
 unfoldable pub lxdRow : Graph → List ℕ → List ℕ → List ℕ → ℕ → ℕ → Row
-lxdRow g labels title date lentWork lentFile = checkRow g labels title date lentWork ++ walkRow g labels title date lentFile
+lxdRow g labels title date lentWork lentFile = lxdChecks g labels title date lentWork ++ lxdWalkRow g labels title date lentFile
 
 -- what the call answers, and the file after it
 unfoldable pub toLxd : Graph → List ℕ → List ℕ → List ℕ → ℕ → List ℕ → Written

@@ -1,4 +1,4 @@
--- What passing the row of checks tells: a sound graph whose chains end, labels that have bytes, and numbers that fit into the file.
+-- What follows from passing the row of checks: a sound graph whose chains end, labels that have bytes, and numbers that fit into the file.
 use mathlib.Core.Path.{_≡_, sym, _∙_, subst}
 use mathlib.Core.Bool.{false}
 use mathlib.Core.List.{List, List·Memᴰ}
@@ -8,20 +8,21 @@ use lib.ListN.{length, getD}
 use borrow.Author.Tests.{ltb-false, leb-false}
 use Rattle.laws.specs.Lists.{someOf}
 use Rattle.laws.specs.Members.{none-of}
-use Rattle.node.specs.Answers.{firstOf}
-use Rattle.node.specs.RowLaws.{row-passed, rows-pass, rows-passed}
+use Rattle.answers.specs.Answers.{firstOf}
+use Rattle.answers.specs.RowLaws.{row-passed, rows-pass, rows-passed}
 use Rattle.node.specs.Nodes.{KBWG, tile}
-use Rattle.graph.specs.Runs.{Graph}
+use Rattle.graph.specs.Runs.{Graph, startNode}
 use Rattle.graph.specs.Words.{count}
 use Rattle.graph.specs.Checks.{graphRow}
 use Rattle.graph.specs.ChecksLaws.{Fit, fit}
-use Rattle.export.specs.Starts.{start, deeper}
-use Rattle.export.specs.Latin1.{noByte, byteWritten}
-use Rattle.lxd_file.specs.Latin1Laws.{byte-below, byte-is}
-use Rattle.lxd_file.specs.Row.{reached, checkRow, walkRow, lxdRow}
+use Rattle.base.specs.Numbers.{most}
+use Rattle.export.specs.Starts.{deeper}
+use Rattle.latin1.specs.Latin1.{noByte, byteWritten}
+use Rattle.latin1.specs.Latin1Laws.{byte-below, byte-is}
+use Rattle.lxd_file.specs.Row.{reached, lxdChecks, lxdWalkRow, lxdRow}
 
 -- "23 reached label over FF": otherwise each reached label is a byte, and written as itself
-pub labels-written : (g : Graph) (labels : List ℕ) → someOf (λ v. noByte (getD labels (tile KBWG v) 0)) (reached g) ≡ false
+labels-written : (g : Graph) (labels : List ℕ) → someOf (λ v. noByte (getD labels (tile KBWG v) 0)) (reached g) ≡ false
     → (v : ℕ) → List·Memᴰ v (reached g)
     → (byteWritten (getD labels (tile KBWG v) 0) ≡ getD labels (tile KBWG v) 0) × (getD labels (tile KBWG v) 0 < 2 ^ 8)
 labels-written g labels e v m =
@@ -30,20 +31,20 @@ labels-written g labels e v m =
     (same, subst (λ k. k < 2 ^ 8) same (byte-below label))
 
 -- what no check refuses
-pub record Accepted (g : Graph) (labels : List ℕ) : Type 0 where
+pub record LxdAccepted (g : Graph) (labels : List ℕ) : Type 0 where
   pub sound : Fit g
-  pub ended : deeper g 64 (start g 0) ≡ false
+  pub ended : deeper g 64 (startNode g 0) ≡ false
   pub bytes : (v : ℕ) → List·Memᴰ v (reached g) → byteWritten (getD labels (tile KBWG v) 0) ≡ getD labels (tile KBWG v) 0
-  pub few : count KBWG g (start g 0) < 4_294_967_295
+  pub few : count KBWG g (startNode g 0) < most
   pub room : 2 + length (reached g) ≤ 2 ^ 22
 
 pub accepted : (g : Graph) (labels title date : List ℕ) (lentWork lentFile : ℕ)
-    → firstOf (lxdRow g labels title date lentWork lentFile) ≡ none → Accepted g labels
+    → firstOf (lxdRow g labels title date lentWork lentFile) ≡ none → LxdAccepted g labels
 unfolding lxdRow
 accepted g labels title date lentWork lentFile e =
-    let checks = checkRow g labels title date lentWork in
-    let before = rows-passed checks (walkRow g labels title date lentFile) e in
-    let deep = row-passed _ _ _ (sym (rows-pass checks (walkRow g labels title date lentFile) before) ∙ e) in
+    let checks = lxdChecks g labels title date lentWork in
+    let before = rows-passed checks (lxdWalkRow g labels title date lentFile) e in
+    let deep = row-passed _ _ _ (sym (rows-pass checks (lxdWalkRow g labels title date lentFile) before) ∙ e) in
     let plain = row-passed _ _ _ (deep .1) in
     let words = row-passed _ _ _ (plain .1) in
     let nodes = row-passed _ _ _ (words .1) in
@@ -51,6 +52,6 @@ accepted g labels title date lentWork lentFile e =
       sound = fit g (rows-passed (graphRow g) _ before);
       ended = deep .0;
       bytes = λ v m. labels-written g labels (plain .0) v m .0;
-      few = leb-false 4_294_967_295 (count KBWG g (start g 0)) (words .0);
+      few = leb-false most (count KBWG g (startNode g 0)) (words .0);
       room = ltb-false (2 ^ 22) (2 + length (reached g)) (nodes .0);
     }

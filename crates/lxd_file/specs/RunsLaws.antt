@@ -13,9 +13,9 @@ use lib.Seq.{drop-cons, getD-drop}
 use Rattle.laws.specs.Cases.{split}
 use Rattle.laws.specs.Members.{in-join}
 use Rattle.node.specs.Nodes.{KBWG, arc, isEnd}
-use Rattle.graph.specs.Runs.{Graph, run, lastEnds}
+use Rattle.graph.specs.Runs.{Graph, run, lastEnds, startNode}
 use Rattle.graph.specs.ChecksLaws.{Closed, Fit, last-of}
-use Rattle.export.specs.Starts.{start, runOf, deeper}
+use Rattle.export.specs.Starts.{runOf, deeper}
 use Rattle.export.specs.Blocks.{blockAt, total}
 use Rattle.export.specs.BlocksLaws.{every-met, first-met, start-met, children-met, blocks-length, block-first, block-within, block-from, blocks-most}
 use Rattle.export.specs.ChainLaws.{arcsFrom, arc-from, arcs-inside, shallow-low, shallow-closed, shallow-within}
@@ -49,23 +49,23 @@ module _ (g : Graph) where
   pub reached-size : length (reached g) ≡ total size (runs g)
   reached-size = blocks-length size (runOf g) (λ q. refl) (runs g)
 
-  pub size-some : (p : ℕ) → p < length g → 0 < size p
+  size-some : (p : ℕ) → p < length g → 0 < size p
   unfolding run
   size-some p h = rw (drop-cons g p 0 h) (omega arith)
 
-  pub start-place : place (start g 0) ≡ 2
+  pub start-place : place (startNode g 0) ≡ 2
   unfolding runs
   start-place =
-      let r = first-met (arcsFrom g) 63 (start g 0) in
-      ap (λ l. blockAt size 2 l (start g 0)) (r .1) ∙ block-first size 2 (start g 0) (r .0)
+      let r = first-met (arcsFrom g) 63 (startNode g 0) in
+      ap (λ l. blockAt size 2 l (startNode g 0)) (r .1) ∙ block-first size 2 (startNode g 0) (r .0)
 
   module _ (f : Fit g) where
-    pub start-inside : start g 0 < length g
+    pub start-inside : startNode g 0 < length g
     start-inside = let two = f .two in f .steps .arcs 0 (omega arith)
 
     pub runs-inside : (p : ℕ) → List·Memᴰ p (runs g) → p < length g
     unfolding runs
-    runs-inside = every-met (arcsFrom g) (λ p. p < length g) (λ p q h m. arcs-inside g (f .steps) p q m) 64 (start g 0) start-inside
+    runs-inside = every-met (arcsFrom g) (λ p. p < length g) (λ p q h m. arcs-inside g (f .steps) p q m) 64 (startNode g 0) start-inside
 
     pub runs-within : length (runs g) ≤ length (reached g)
     runs-within =
@@ -81,14 +81,14 @@ module _ (g : Graph) where
         let e = reached-size in
         (block-from size (runs g) 2 p, omega arith)
 
-    module _ (ended : deeper g 64 (start g 0) ≡ false) where
-      pub start-in-runs : List·Memᴰ (start g 0) (runs g)
+    module _ (ended : deeper g 64 (startNode g 0) ≡ false) where
+      pub start-in-runs : List·Memᴰ (startNode g 0) (runs g)
       unfolding runs
-      start-in-runs = start-met (arcsFrom g) 64 (start g 0) (shallow-low g (arcsFrom g) (λ p q m. m) 64 (start g 0) ended)
+      start-in-runs = start-met (arcsFrom g) 64 (startNode g 0) (shallow-low g (arcsFrom g) (λ p q m. m) 64 (startNode g 0) ended)
 
       arcs-in-runs : (p q : ℕ) → List·Memᴰ p (runs g) → List·Memᴰ q (arcsFrom g p) → List·Memᴰ q (runs g)
       unfolding runs
-      arcs-in-runs p q = children-met (arcsFrom g) 64 (start g 0) (shallow-low g (arcsFrom g) (λ x y m. m) 64 (start g 0) ended) p q
+      arcs-in-runs p q = children-met (arcsFrom g) 64 (startNode g 0) (shallow-low g (arcsFrom g) (λ x y m. m) 64 (startNode g 0) ended) p q
 
       pub arc-in-runs : (v : ℕ) → List·Memᴰ v (reached g) → arc KBWG v ≢ 0 → List·Memᴰ (arc KBWG v) (runs g)
       arc-in-runs v m n =
@@ -96,8 +96,8 @@ module _ (g : Graph) where
           arcs-in-runs (r .0) (arc KBWG v) (r .1) (arc-from g (r .0) v (r .2) (ap not (ne-eqb (arc KBWG v) 0 n)))
 
       -- as many turns as there are runs follow every chain
-      pub runs-end : (k : ℕ) → length (runs g) ≤ k → deeper g k (start g 0) ≡ false
-      runs-end k h = shallow-within g (length (runs g)) k (start g 0) h (shallow-closed g (runs g) arcs-in-runs 64 (start g 0) start-in-runs ended)
+      pub runs-end : (k : ℕ) → length (runs g) ≤ k → deeper g k (startNode g 0) ≡ false
+      runs-end k h = shallow-within g (length (runs g)) k (startNode g 0) h (shallow-closed g (runs g) arcs-in-runs 64 (startNode g 0) start-in-runs ended)
 
       -- where an arc leads in the file
       pub child-within : (v : ℕ) → List·Memᴰ v (reached g) → child g (arc KBWG v) < 2 + length (reached g)

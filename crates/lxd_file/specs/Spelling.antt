@@ -4,11 +4,10 @@ use mathlib.Core.List.{List, map}
 use mathlib.Core.Option.{none}
 use Prim.Native.Nat.{ℕ}
 use lib.ListN.{length, getD}
-use Rattle.node.specs.Answers.{firstOf}
+use Rattle.answers.specs.Answers.{firstOf}
 use Rattle.node.specs.Nodes.{KBWG}
-use Rattle.graph.specs.Runs.{Graph}
+use Rattle.graph.specs.Runs.{Graph, startNode}
 use Rattle.graph.specs.Words.{Word, words}
-use Rattle.export.specs.Starts.{start}
 use Rattle.lxd_file.specs.File.{lxdFile}
 use Rattle.lxd_file.specs.Reading.{nodesRead, lxdWords, nodeCount, wordCount}
 use Rattle.lxd_file.specs.Row.{lxdRow}
@@ -18,17 +17,17 @@ abbrev pub renamed : List ℕ → Word → Word
 renamed labels = map (λ t. getD labels t 0)
 
 -- the words that the file should spell
-abbrev pub spelt : Graph → List ℕ → List Word
-spelt g labels = map (renamed labels) (words KBWG g (start g 0))
+abbrev pub wordsSpelled : Graph → List ℕ → List Word
+wordsSpelled g labels = map (renamed labels) (words KBWG g (startNode g 0))
 
 -- the file spells the words, and its header has the numbers of the nodes and words that are read
 pub record Spells (file : List ℕ) (ws : List Word) : Type 0 where
   pub read : lxdWords file ≡ ws
-  pub nodes-told : nodeCount file ≡ length (nodesRead file)
-  pub words-told : wordCount file ≡ length ws
+  pub nodes-counted : nodeCount file ≡ length (nodesRead file)
+  pub words-counted : wordCount file ≡ length ws
 
 -- every file that the writer accepts
 abbrev pub LxdSpells : Type 0
 LxdSpells =
     (g : Graph) (labels title date : List ℕ) (lentWork lentFile : ℕ) → firstOf (lxdRow g labels title date lentWork lentFile) ≡ none
-    → Spells (lxdFile g labels title date) (spelt g labels)
+    → Spells (lxdFile g labels title date) (wordsSpelled g labels)

@@ -8,26 +8,27 @@ use lib.ListN.{length, getD, drop, length-map}
 use Rattle.laws.specs.Lists.{drop-map}
 use Rattle.laws.specs.Members.{join-in}
 use Rattle.node.specs.Nodes.{KBWG, arc}
-use Rattle.graph.specs.Runs.{Graph, run}
+use Rattle.graph.specs.Runs.{Graph, run, startNode}
 use Rattle.graph.specs.Words.{Word, inOrder, spelled, wordsWithin, words}
-use Rattle.export.specs.Starts.{start, runOf}
+use Rattle.export.specs.Starts.{runOf}
 use Rattle.export.specs.BlocksLaws.{block-at}
 use Rattle.export.specs.ChainLaws.{words-within}
 use Rattle.lxd_file.specs.File.{LXD, runs, child, lxdNode, lxdNodes}
 use Rattle.lxd_file.specs.Reading.{lxdWords}
 use Rattle.lxd_file.specs.Row.{reached}
-use Rattle.lxd_file.specs.RowLaws.{Accepted, accepted}
-use Rattle.lxd_file.specs.Spelling.{spelt, renamed, LxdSpells}
+use Rattle.lxd_file.specs.RowLaws.{LxdAccepted, accepted}
+use Rattle.lxd_file.specs.Spelling.{wordsSpelled, renamed, LxdSpells}
 use Rattle.lxd_file.specs.CopiedLaws.{run-copied, Copied, words-copied}
 use Rattle.lxd_file.specs.FileLaws.{file-nodes, file-node-count, file-word-count}
-use Rattle.lxd_file.specs.RunsLaws.{size, place, no-child, child-place, start-place, runs-inside, runs-within, place-within, start-in-runs, arc-in-runs, runs-end, ends-from, start-inside}
+use Rattle.lxd_file.specs.RunsLaws.{size, place, no-child, child-place, start-place, start-inside, start-in-runs, ends-from}
+use Rattle.lxd_file.specs.RunsLaws.{runs-inside, runs-within, runs-end, arc-in-runs, place-within}
 use Rattle.lxd_file.specs.NodesLaws.{words-or-none, nodes-none, nodes-some, node-fields, nodes-below, nodes-few}
 
 none-left : (ws : List Word) → length ws ≡ 0 → ws ≡ []
 none-left [] e = refl
 none-left (w ∷ ws) e = absurd (omega arith)
 
-module _ (g : Graph) (labels : List ℕ) (ok : Accepted g labels) where
+module _ (g : Graph) (labels : List ℕ) (ok : LxdAccepted g labels) where
   abbrev label : ℕ → ℕ
   label t = getD labels t 0
 
@@ -63,10 +64,10 @@ module _ (g : Graph) (labels : List ℕ) (ok : Accepted g labels) where
       }
 
   -- ---- so the copies spell the words, and the nodes of a file with no words spell none
-  copies-spell : words LXD copies 2 ≡ spelt g labels
+  copies-spell : words LXD copies 2 ≡ wordsSpelled g labels
   unfolding words
   copies-spell =
-      let s = start g 0 in
+      let s = startNode g 0 in
       let n = length copies in
       let l = length-map (reached g) (lxdNode g labels) in
       let r = runs-within g (ok .sound) in
@@ -75,11 +76,11 @@ module _ (g : Graph) (labels : List ℕ) (ok : Accepted g labels) where
       ∙ ap (map (map label))
       (words-within g (ok .sound .steps) n s (start-inside g (ok .sound)) (runs-end g (ok .sound) (ok .ended) n (omega arith)))
 
-  nodes-spell : words LXD (lxdNodes g labels) 2 ≡ spelt g labels
+  nodes-spell : words LXD (lxdNodes g labels) 2 ≡ wordsSpelled g labels
   unfolding words wordsWithin inOrder spelled run
   nodes-spell =
       words-or-none g
-      (λ z. ap (λ l. words LXD l 2) (nodes-none g labels z) ∙ ap (map (renamed labels)) (sym (none-left (words KBWG g (start g 0)) z)))
+      (λ z. ap (λ l. words LXD l 2) (nodes-none g labels z) ∙ ap (map (renamed labels)) (sym (none-left (words KBWG g (startNode g 0)) z)))
       (λ n. ap (λ l. words LXD l 2) (nodes-some g labels n) ∙ copies-spell)
 
 pub lxd-spells : LxdSpells
@@ -91,6 +92,6 @@ lxd-spells g labels title date lentWork lentFile e =
     let most = ok .few in
     record {
       read = ap (λ l. words LXD l 2) nodes ∙ nodes-spell g labels ok;
-      nodes-told = file-node-count g labels title date (omega arith) ∙ sym (ap length nodes);
-      words-told = file-word-count g labels title date (omega arith) ∙ sym (length-map (words KBWG g (start g 0)) (renamed labels));
+      nodes-counted = file-node-count g labels title date (omega arith) ∙ sym (ap length nodes);
+      words-counted = file-word-count g labels title date (omega arith) ∙ sym (length-map (words KBWG g (startNode g 0)) (renamed labels));
     }

@@ -3,10 +3,10 @@ use mathlib.Core.Path.{_≡_, sym, ap, _∙_}
 use mathlib.Core.List.{[], _∷_}
 use Prim.Native.Nat.{ℕ, _<_, _≤_}
 use lib.ListN.{length}
-use Rattle.node.specs.Answers.{gives, refused}
+use Rattle.answers.specs.Answers.{gives, refused}
 use Rattle.graph.specs.Runs.{Graph}
-use Rattle.lookup.specs.WalkLaws.{lent-on, lent-out}
-use Rattle.cursor.specs.RunSteps.{Moves, reached, moves}
+use Rattle.lookup.specs.StepsLaws.{lent-on, lent-out}
+use Rattle.cursor.specs.RunSteps.{Moves, nodeReached, moves}
 use Rattle.cursor.specs.Said.{saidStep, movedAs}
 use Rattle.cursor.specs.declared.Stepped.the-variants.{To}
 use Rattle.cursor.specs.declared.Moved.{Moved}
@@ -22,4 +22,4 @@ module _ (g : Graph) (p : ℕ) where
   made-out h = rw (lent-out g p h)
 
   pub step-reached : (m : Moved) (q : ℕ) → movedAs m ≡ moves g p → m .answer ≡ To q → m .at ≡ q
-  step-reached m q e to = ap (λ x. x .at) e ∙ ap (λ a. reached a p) (sym (ap (λ x. x .answer) e) ∙ ap saidStep to)
+  step-reached m q e to = ap (λ x. x .at) e ∙ ap (λ a. nodeReached a p) (sym (ap (λ x. x .answer) e) ∙ ap saidStep to)

@@ -2,9 +2,8 @@
 ghost use mathlib.Core.Path.{_≡_};
 ghost use Prim.Native.Nat.{_*_};
 ghost use lib.ListN.{length};
-ghost use Rattle.graph.specs.Counting.{Counted as IsCounted, countRow};
+ghost use Rattle.graph.specs.Counting.{IsCounted, countRow, countLimit};
 ghost use Rattle.graph.specs.Lent.{WorkKept};
-ghost use Rattle.count.specs.Said.{limit};
 ghost use Rattle.flat.specs.FlatCounts.{countedOf, flatCounted};
 use flat::FlatCounted;
 use flat::flat_counted;
@@ -16,8 +15,9 @@ pub extern "C" fn machirsun_count_words(
     counts: &mut [u32],
     work: &mut [u32],
 ) -> FlatCounted
-    ensures counted { λ r. ⌜ IsCounted limit (now (nodes .entry)) (now (counts .entry)) (length (now (work .entry))) (countedOf r) (now (counts .exit)) ⌝ }
-    ensures free { λ r. ⌜ WorkKept (countRow (now (nodes .entry)) (length (now (counts .entry))) (length (now (work .entry)))) (2 * length (now (nodes .entry))) (now (work .entry)) (now (work .exit)) ⌝ }
+    ensures counted { λ r. ⌜ IsCounted countLimit (now (nodes .entry)) (now (counts .entry)) (length (now (work .entry))) (countedOf r) (now (counts .exit)) ⌝ }
+    ensures free { λ r. ⌜ WorkKept (countRow (now (nodes .entry)) (length (now (counts .entry))) (length (now (work .entry))))
+        (2 * length (now (nodes .entry))) (now (work .entry)) (now (work .exit)) ⌝ }
     ensures flat { λ r. ⌜ r ≡ flatCounted (countedOf r) ⌝ }
 {
     flat_counted(count::count_words(nodes, counts, work))

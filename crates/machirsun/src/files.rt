@@ -3,9 +3,9 @@ ghost use mathlib.Core.Path.{_≡_};
 ghost use Prim.Native.Nat.{_*_};
 ghost use lib.ListN.{length};
 ghost use Rattle.graph.specs.Lent.{WorkKept};
-ghost use Rattle.macondo_file.specs.Row.{checkRow as macondoRow, toMacondo};
+ghost use Rattle.macondo_file.specs.Row.{macondoChecks, toMacondo};
 ghost use Rattle.macondo.specs.Said.{formatOf};
-ghost use Rattle.lxd_file.specs.Row.{checkRow as lxdRow, toLxd};
+ghost use Rattle.lxd_file.specs.Row.{lxdChecks, toLxd};
 ghost use Rattle.flat.specs.FlatFiles.{formatNumbered, fileOf, fileWritten, flatFile};
 use flat::FlatFile;
 use flat::flat_lxd;
@@ -23,8 +23,11 @@ pub extern "C" fn machirsun_to_macondo(
     work: &mut [u32],
     file: &mut [u8],
 ) -> FlatFile
-    ensures written { λ r. ⌜ fileWritten r (now (file .exit)) ≡ toMacondo (now (nodes .entry)) (now (labels .entry)) (now (name .entry)) (formatOf (formatNumbered format)) (length (now (work .entry))) (now (file .entry)) ⌝ }
-    ensures free { λ r. ⌜ WorkKept (macondoRow (now (nodes .entry)) (now (labels .entry)) (now (name .entry)) (length (now (work .entry)))) (8 * length (now (nodes .entry))) (now (work .entry)) (now (work .exit)) ⌝ }
+    ensures written { λ r. ⌜ fileWritten r (now (file .exit))
+        ≡ toMacondo (now (nodes .entry)) (now (labels .entry)) (now (name .entry)) (formatOf (formatNumbered format)) (length (now (work .entry)))
+        (now (file .entry)) ⌝ }
+    ensures free { λ r. ⌜ WorkKept (macondoChecks (now (nodes .entry)) (now (labels .entry)) (now (name .entry)) (length (now (work .entry))))
+        (8 * length (now (nodes .entry))) (now (work .entry)) (now (work .exit)) ⌝ }
     ensures flat { λ r. ⌜ r ≡ flatFile (fileOf r) ⌝ }
 {
     let kind = format_of(format);
@@ -41,8 +44,10 @@ pub extern "C" fn machirsun_to_lxd(
     work: &mut [u32],
     file: &mut [u8],
 ) -> FlatFile
-    ensures written { λ r. ⌜ fileWritten r (now (file .exit)) ≡ toLxd (now (nodes .entry)) (now (labels .entry)) (now (title .entry)) (now (date .entry)) (length (now (work .entry))) (now (file .entry)) ⌝ }
-    ensures free { λ r. ⌜ WorkKept (lxdRow (now (nodes .entry)) (now (labels .entry)) (now (title .entry)) (now (date .entry)) (length (now (work .entry)))) (8 * length (now (nodes .entry))) (now (work .entry)) (now (work .exit)) ⌝ }
+    ensures written { λ r. ⌜ fileWritten r (now (file .exit))
+        ≡ toLxd (now (nodes .entry)) (now (labels .entry)) (now (title .entry)) (now (date .entry)) (length (now (work .entry))) (now (file .entry)) ⌝ }
+    ensures free { λ r. ⌜ WorkKept (lxdChecks (now (nodes .entry)) (now (labels .entry)) (now (title .entry)) (now (date .entry))
+        (length (now (work .entry)))) (8 * length (now (nodes .entry))) (now (work .entry)) (now (work .exit)) ⌝ }
     ensures flat { λ r. ⌜ r ≡ flatFile (fileOf r) ⌝ }
 {
     flat_lxd(lxd::to_lxd(nodes, labels, title, date, work, file))

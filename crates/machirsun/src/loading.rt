@@ -1,7 +1,7 @@
 // Loading and repacking. A layout is a number: 0 is KWG, every other number KBWG.
 ghost use mathlib.Core.Path.{_≡_};
 ghost use lib.ListN.{length};
-ghost use Rattle.node.specs.Said.{placesOf};
+ghost use Rattle.node.specs.Said.{bitLayout};
 ghost use Rattle.load.specs.Repacking.{repackAnswer, repackedBytes};
 ghost use Rattle.load.specs.Loading.{begin, feed, finish};
 ghost use Rattle.pieces.specs.Pieces.{cutAt, loadPieces};
@@ -26,8 +26,8 @@ use load::Loader;
 // Puts the nodes in bytes into the other layout, where they stand.
 #[no_mangle]
 pub extern "C" fn machirsun_repack(bytes: &mut [u8], from: u32, to: u32) -> FlatRepacked
-    ensures answer { λ r. ⌜ repackedOf r ≡ repackAnswer (placesOf (layoutOf from)) (placesOf (layoutOf to)) (now (bytes .entry)) ⌝ }
-    ensures rewritten { λ r. ⌜ now (bytes .exit) ≡ repackedBytes (placesOf (layoutOf from)) (placesOf (layoutOf to)) (now (bytes .entry)) ⌝ }
+    ensures answer { λ r. ⌜ repackedOf r ≡ repackAnswer (bitLayout (layoutOf from)) (bitLayout (layoutOf to)) (now (bytes .entry)) ⌝ }
+    ensures rewritten { λ r. ⌜ now (bytes .exit) ≡ repackedBytes (bitLayout (layoutOf from)) (bitLayout (layoutOf to)) (now (bytes .entry)) ⌝ }
     ensures flat { λ r. ⌜ r ≡ flatRepacked (repackedOf r) ⌝ }
 {
     let old = layout_of(from);
@@ -88,7 +88,9 @@ pub extern "C" fn machirsun_load_in_pieces(
     answers: &mut [u32],
     nodes: &mut [u32],
 ) -> FlatLoaded
-    ensures answer { λ r. ⌜ loadedOf r (now (answers .exit)) (now (nodes .exit)) ≡ loadLeaves (now (answers .entry)) (loadPieces announced (layoutOf layout) (now (nodes .entry)) (cutAt (now (cuts .entry)) (now (bytes .entry)))) ⌝ }
+    ensures answer { λ r. ⌜ loadedOf r (now (answers .exit)) (now (nodes .exit))
+        ≡ loadLeaves (now (answers .entry)) (loadPieces announced (layoutOf layout) (now (nodes .entry))
+        (cutAt (now (cuts .entry)) (now (bytes .entry)))) ⌝ }
     ensures flat { λ r. ⌜ r ≡ flatLoaded (loadedOf r (now (answers .exit)) (now (nodes .exit))) ⌝ }
 {
     let read = layout_of(layout);

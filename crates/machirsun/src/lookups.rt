@@ -1,10 +1,10 @@
 // Lookups in a loaded graph: a tile in a run, the steps along a run, words and their numbers.
 ghost use mathlib.Core.Path.{_≡_};
-ghost use Prim.Native.Nat.{_-_, _^_};
 ghost use lib.ListN.{length};
+ghost use Rattle.graph.specs.Counting.{countLimit};
 ghost use Rattle.lookup.specs.Walks.{seek, wordIndex, wordByIndex};
 ghost use Rattle.cursor.specs.RunSteps.{moves};
-ghost use Rattle.flat.specs.FlatLookups.{soughtOf, flatSought, madeAt, cursorOf, flatCursor, indexOf, flatIndex, Put};
+ghost use Rattle.flat.specs.FlatLookups.{soughtOf, flatSought, madeAt, cursorOf, flatCursor, indexOf, flatIndex, FlatWordPut};
 use cursor::Stepped;
 use flat::FlatCursor;
 use flat::FlatIndex;
@@ -80,7 +80,7 @@ pub extern "C" fn machirsun_word_index(
     start: u32,
     word: &[u8],
 ) -> FlatIndex
-    ensures answer { λ r. ⌜ indexOf r ≡ wordIndex (2 ^ 32 - 1) (now (nodes .entry)) (now (counts .entry)) start (now (word .entry)) ⌝ }
+    ensures answer { λ r. ⌜ indexOf r ≡ wordIndex countLimit (now (nodes .entry)) (now (counts .entry)) start (now (word .entry)) ⌝ }
     ensures flat { λ r. ⌜ r ≡ flatIndex (indexOf r) ⌝ }
 {
     flat_index(lookup::get_word_index(nodes, counts, start, word))
@@ -95,7 +95,8 @@ pub extern "C" fn machirsun_word_by_index(
     number: u32,
     word: &mut [u8],
 ) -> FlatWord
-    ensures { λ r. ⌜ Put (wordByIndex (now (counts .entry)) (now (nodes .entry)) (length (now (word .entry))) start number) (now (word .entry)) (now (word .exit)) r ⌝ }
+    ensures { λ r. ⌜ FlatWordPut (wordByIndex (now (counts .entry)) (now (nodes .entry)) (length (now (word .entry))) start number)
+        (now (word .entry)) (now (word .exit)) r ⌝ }
 {
     flat_word(lookup::get_word_by_index(nodes, counts, start, number, word))
 }

@@ -16,7 +16,8 @@ pub extern "C" fn machirsun_letter_bits(
     letter_bits: &mut [u64],
     accepting_bits: &mut [u64],
 ) -> u32
-    ensures { λ r. ⌜ bitsOf r (now («letter_bits» .exit)) (now («accepting_bits» .exit)) ≡ letterBits (now (nodes .entry)) (now («letter_bits» .entry)) (now («accepting_bits» .entry)) ⌝ }
+    ensures { λ r. ⌜ bitsOf r (now («letter_bits» .exit)) (now («accepting_bits» .exit))
+        ≡ letterBits (now (nodes .entry)) (now («letter_bits» .entry)) (now («accepting_bits» .entry)) ⌝ }
 {
     bits_refusal(letters::compute_letter_bits(nodes, letter_bits, accepting_bits))
 }

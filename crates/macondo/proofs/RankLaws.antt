@@ -8,9 +8,8 @@ use lib.Dec.{ltb}
 use lib.ListN.{length, getD, take, List·getD-eq-default}
 use Rattle.laws.specs.Cases.{split}
 use Rattle.laws.specs.Lists.{All}
-use Rattle.macondo_file.specs.Alphabet.{letters, letterOf}
+use Rattle.macondo_file.specs.Alphabet.{letters, letterIn, letterOf}
 use Rattle.macondo_file.specs.AlphabetLaws.{letter-most}
-use Rattle.macondo_blocks.specs.Blocks.{letterIn}
 use Rattle.macondo_blocks.specs.LettersLaws.{letter-in, letters-below, letters-low}
 use Rattle.macondo_blocks.specs.EntriesLaws.{all-taken}
 use Rattle.letter_sets.specs.Letters.{Ranks, Small}

@@ -11,45 +11,45 @@ use lib.ListN.{length, drop, length-append, length-drop}
 use lib.Seq.{sets, drop-at}
 use Rattle.laws.specs.Cases.{split}
 use Rattle.laws.specs.Members.{some-of}
-use Rattle.laws.specs.Sets.{sets-front}
-use Rattle.node.specs.Answers.{Row, firstOf}
-use Rattle.node.specs.RowLaws.{rows-refuse, rows-pass}
+use Rattle.laws.specs.ListWrites.{sets-front}
+use Rattle.answers.specs.Answers.{Row, firstOf}
+use Rattle.answers.specs.RowLaws.{rows-refuse, rows-pass}
 use Rattle.node.specs.Nodes.{KBWG, tile}
 use Rattle.graph.specs.Runs.{Graph}
 use Rattle.graph.specs.Lent.{Kept}
 use Rattle.export.specs.Starts.{unlabelled}
 use Rattle.export.specs.Written.{written}
 use Rattle.macondo_file.specs.File.{Format, macondoFile}
-use Rattle.macondo_file.specs.Row.{checkRow, walkRow, macondoRow, toMacondo}
-use Rattle.macondo_file.specs.RowLaws.{Checked}
-use Rattle.macondo_blocks.specs.Blocks.{Ready}
+use Rattle.macondo_file.specs.Row.{macondoChecks, macondoWalkRow, macondoRow, toMacondo}
+use Rattle.macondo_file.specs.RowLaws.{MacondoChecked}
+use Rattle.macondo_blocks.specs.Blocks.{MacondoReady}
 use Rattle.macondo.specs.declared.Macondo.{Macondo}
 use Rattle.macondo.specs.declared.Macondo.the-variants.{Written}
-use Rattle.macondo.specs.Said.{said, writtenAs}
+use Rattle.macondo.specs.Said.{saidMacondo, macondoWrittenAs}
 
 -- ---- by one row
 module _ (row : Row) (file lent : List ℕ) where
-  pub refused-by : (r : Macondo) → firstOf row ≡ some (said r) → writtenAs r lent ≡ written (firstOf row) file lent
+  pub refused-by : (r : Macondo) → firstOf row ≡ some (saidMacondo r) → macondoWrittenAs r lent ≡ written (firstOf row) file lent
   refused-by r e = rw e
 
   pub accepted-by : (n : ℕ) {after : List ℕ} → firstOf row ≡ none → n ≡ length file → length file ≤ length lent → after ≡ sets lent 0 file
-      → writtenAs (Written n) after ≡ written (firstOf row) file lent
+      → macondoWrittenAs (Written n) after ≡ written (firstOf row) file lent
   accepted-by n e i room s = rw (e, i, s, sets-front lent file room)
 
 -- ---- by the checks before the walk, and by those of the walk
 module _ (g : Graph) (labels name : List ℕ) (f : Format) (lentWork : ℕ) (lent : List ℕ) (r : Macondo) where
   abbrev checks : Row
-  checks = checkRow g labels name lentWork
+  checks = macondoChecks g labels name lentWork
 
   abbrev walk : Row
-  walk = walkRow g labels name f (length lent)
+  walk = macondoWalkRow g labels name f (length lent)
 
-  pub refused-before : firstOf checks ≡ some (said r) → writtenAs r lent ≡ toMacondo g labels name f lentWork lent
+  pub refused-before : firstOf checks ≡ some (saidMacondo r) → macondoWrittenAs r lent ≡ toMacondo g labels name f lentWork lent
   unfolding toMacondo macondoRow
   refused-before e = refused-by (checks ++ walk) (macondoFile g labels f name) lent r (rows-refuse checks walk e)
 
-  pub passed-before : firstOf checks ≡ none → {after : List ℕ} → writtenAs r after ≡ written (firstOf walk) (macondoFile g labels f name) lent
-      → writtenAs r after ≡ toMacondo g labels name f lentWork lent
+  pub passed-before : firstOf checks ≡ none → {after : List ℕ} → macondoWrittenAs r after ≡ written (firstOf walk) (macondoFile g labels f name) lent
+      → macondoWrittenAs r after ≡ toMacondo g labels name f lentWork lent
   unfolding toMacondo macondoRow
   passed-before e h = h ∙ ap (λ o. written o (macondoFile g labels f name) lent) (sym (rows-pass checks walk e))
 
@@ -63,8 +63,8 @@ kept-past n before part e h =
 
 -- ---- what the walk asks of graph and labels
 -- a part of the work list that is long enough will do
-pub with-part : {g : Graph} {labels name : List ℕ} {lentWork : ℕ} → Checked g labels name lentWork → (part : ℕ) → 8 * length g ≤ part
-    → Checked g labels name part
+pub with-part : {g : Graph} {labels name : List ℕ} {lentWork : ℕ} → MacondoChecked g labels name lentWork → (part : ℕ) → 8 * length g ≤ part
+    → MacondoChecked g labels name part
 with-part c part h =
     record {
       sound = c .sound;
@@ -76,7 +76,7 @@ with-part c part h =
       work = h;
     }
 
-pub all-labelled : {g : Graph} {labels name : List ℕ} {lentWork : ℕ} → Checked g labels name lentWork → unlabelled g labels ≡ false
+pub all-labelled : {g : Graph} {labels name : List ℕ} {lentWork : ℕ} → MacondoChecked g labels name lentWork → unlabelled g labels ≡ false
 all-labelled {g} {labels} c =
     split (unlabelled g labels)
     (λ t.
@@ -86,5 +86,5 @@ all-labelled {g} {labels} c =
     absurd (omega arith))
     (λ t. t)
 
-pub ready : {g : Graph} {labels name : List ℕ} {lentWork : ℕ} → Checked g labels name lentWork → Ready g labels
+pub ready : {g : Graph} {labels name : List ℕ} {lentWork : ℕ} → MacondoChecked g labels name lentWork → MacondoReady g labels
 ready c = record { fit = c .sound; up = c .ascending; labelled = all-labelled c; few = c .fifty }

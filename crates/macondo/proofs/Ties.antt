@@ -2,7 +2,7 @@
 -- number and 1, and the blocks and their sets stand in the order of the definition; so what is read block after block is the file's.
 use mathlib.Core.Path.{_≡_, refl, sym, ap, ap₂, _∙_, subst}
 use mathlib.Core.List.{List, [], _∷_, _++_, map, List·Memᴰ, List·Memᴰ·head, List·Memᴰ·tail}
-use Prim.Native.Nat.{ℕ, zero, suc, _+_, _-_, _*_, _≤_, _<_}
+use Prim.Native.Nat.{ℕ, suc, _+_, _-_, _*_, _≤_, _<_}
 use native.Mathlib.Omega.{arith}
 use native.Mathlib.Nat.{add-zero, zero-add}
 use lib.ListN.{length, getD, take, drop, length-drop}
@@ -10,36 +10,28 @@ use lib.Seq.{getD-take, getD-drop, length-take-le}
 use Rattle.laws.specs.Cases.{split}
 use Rattle.laws.specs.Firsts.{placeIn, firsts}
 use Rattle.laws.specs.Lists.{member, joinAll}
-use Rattle.laws.specs.Members.{member-mem, mem-member}
+use Rattle.laws.specs.Members.{at-in, map-same, member-mem, mem-member}
 use Rattle.node.specs.Nodes.{KBWG, tile, arc}
+use Rattle.endian.specs.Bytes.{bigEndian}
 use Rattle.graph.specs.Runs.{Graph}
 use Rattle.export.specs.BlocksLaws.{block-within}
 use Rattle.graph.specs.RunLaws.{in-graph}
 use Rattle.export.specs.ChainLaws.{arc-from, arcs-inside}
-use Rattle.export.specs.PlacesLaws.{used-le}
-use Rattle.export.specs.declared.places.Tally.{Tally}
+use Rattle.block_record.specs.Record.{HoldsBlocks}
+use Rattle.block_record.specs.RecordLaws.{used-le}
+use Rattle.block_record.specs.declared.BlockTally.{BlockTally}
 use Rattle.macondo_file.specs.Alphabet.{letters}
-use Rattle.macondo_file.specs.File.{section, Format, marks, arcsOf, setOf, blocks, sets, blockNumber, blockOf, macondoNodes, macondoFile}
+use Rattle.macondo_file.specs.File.{section, Format, marks, arcsOf, sizeOf, setOf, blocks, letterSets, blockNumber, blockOf, macondoNodes, macondoFile}
 use Rattle.macondo_file.specs.ReadingLaws.{file-length}
-use Rattle.macondo_file.specs.RowLaws.{Checked}
+use Rattle.macondo_file.specs.RowLaws.{MacondoChecked}
 use Rattle.macondo_file.specs.ArcLaws.{in-arcs}
 use Rattle.macondo_file.specs.BlockLaws.{arcNode, headNode, block-is, nodes-length, sets-few, block-inside, set-number-below, child-block}
-use Rattle.macondo_blocks.specs.Blocks.{sizeOf}
 use Rattle.letter_sets.specs.Letters.{Ranks, Small}
-use Rattle.letter_sets.specs.Sets.{setsIn}
-use Rattle.macondo.specs.declared.tables.Counts.{Counts}
-use Rattle.macondo.specs.Tables.{arcIn, blockIn, nodesFrom, fileIn, BlocksIn, Tables, Filled}
+use Rattle.letter_sets.specs.SetNumbers.{setsIn, SetsNumbered}
+use Rattle.macondo_writing.specs.declared.tables.SectionCounts.{SectionCounts}
+use Rattle.macondo_writing.specs.FileTables.{arcIn, blockIn, blockNodesFrom, fileIn, TablesFilled}
+use Rattle.macondo.specs.BlocksIn.{BlocksIn}
 use Rattle.macondo.proofs.Rows.{ready}
-
--- ---- lists
-at-in : (l : List ℕ) (j : ℕ) → j < length l → List·Memᴰ (getD l j 0) l
-at-in [] j h = absurd (omega arith)
-at-in (x ∷ l) zero h = List·Memᴰ·head refl
-at-in (x ∷ l) (suc j) h = List·Memᴰ·tail (at-in l j (omega arith))
-
-map-same : (f h : ℕ → ℕ) (l : List ℕ) → ((x : ℕ) → List·Memᴰ x l → f x ≡ h x) → map f l ≡ map h l
-map-same f h [] e = refl
-map-same f h (x ∷ l) e = ap₂ _∷_ (e x (List·Memᴰ·head refl)) (map-same f h l (λ y m. e y (List·Memᴰ·tail m)))
 
 join-same : (f h : ℕ → List ℕ) (l : List ℕ) → ((x : ℕ) → List·Memᴰ x l → f x ≡ h x) → joinAll (map f l) ≡ joinAll (map h l)
 join-same f h [] e = refl
@@ -48,8 +40,8 @@ join-same f h (x ∷ l) e = ap₂ _++_ (e x (List·Memᴰ·head refl)) (join-sam
 -- ---- the nodes read block after block, where the work list holds the blocks of a list from block j on
 nodes-over : (g : Graph) (labels ranks w : List ℕ) (number : ℕ → ℕ) (l : List ℕ) (j : ℕ)
     → ((i : ℕ) → i < length l → (getD w (length g + (j + i)) 0 ≡ getD l i 0) × (getD w (2 * length g + (j + i)) 0 ≡ number (getD l i 0)))
-    → nodesFrom g labels ranks w j (length l) ≡ joinAll (map (λ p. blockIn ranks w (number p) (arcsOf g labels p)) l)
-unfolding nodesFrom
+    → blockNodesFrom g labels ranks w j (length l) ≡ joinAll (map (λ p. blockIn ranks w (number p) (arcsOf g labels p)) l)
+unfolding blockNodesFrom
 nodes-over g labels ranks w number [] j h = refl
 nodes-over g labels ranks w number (p ∷ l) j h =
     let a = h 0 (omega arith) in
@@ -62,19 +54,29 @@ nodes-over g labels ranks w number (p ∷ l) j h =
     rw e (h (suc k) (omega arith))))
 
 -- ---- what the walk leaves in the work list: first the record of blocks
-pub nodes-count : {g : Graph} {labels : List ℕ} {f : Format} {w : List ℕ} {t : Tally} → BlocksIn g labels f w t → t .nodes ≡ length (macondoNodes g labels f)
+pub blocks-few : {n : ℕ} {size : ℕ → ℕ} {w : List ℕ} {t : BlockTally} {o : List ℕ} → HoldsBlocks n size 0 w t o → t .blocks ≤ n
+blocks-few {n} {w = w} h = omega (arith, h .many, used-le n w)
+
+pub nodes-count : {g : Graph} {labels : List ℕ} {f : Format} {w : List ℕ} {t : BlockTally} → BlocksIn g labels f w t
+    → t .nodes ≡ length (macondoNodes g labels f)
 unfolding blocks
 nodes-count {g} {labels} {f} b = let a = b .holds .sum in let n = nodes-length g labels f in omega arith
 
--- then the sets
-module _ {g : Graph} {labels name : List ℕ} {lentWork : ℕ} (c : Checked g labels name lentWork) (f : Format)
-    {w : List ℕ} {k : Counts} (t : Tables g labels f w k) where
+-- then, over all but that, the numbers of their sets
+pub record FileTables (g : Graph) (labels : List ℕ) (f : Format) (w : List ℕ) (c : SectionCounts) : Type 0 where
+  pub recorded : List ℕ
+  pub room : 2 * length g ≤ length recorded
+  pub first : BlocksIn g labels f recorded (record { blocks = c .blocks; nodes = c .nodes })
+  pub numbered : SetsNumbered (setOf g labels) (length g) (c .blocks) recorded w (c .sets)
+
+module _ {g : Graph} {labels name : List ℕ} {lentWork : ℕ} (c : MacondoChecked g labels name lentWork) (f : Format)
+    {w : List ℕ} {k : SectionCounts} (t : FileTables g labels f w k) where
   order : take (k .blocks) (drop (length g) (t .recorded)) ≡ blocks g labels f
   unfolding blocks
   order = t .first .holds .order
 
   blocks-within : k .blocks ≤ length g
-  blocks-within = let a = used-le (length g) (t .recorded) in let b = t .first .holds .many in omega arith
+  blocks-within = blocks-few (t .first .holds)
 
   many : length (blocks g labels f) ≡ k .blocks
   many =
@@ -83,12 +85,12 @@ module _ {g : Graph} {labels name : List ℕ} {lentWork : ℕ} (c : Checked g la
       ap length (sym order) ∙ length-take-le (k .blocks) (drop (length g) (t .recorded)) (simp length-drop (omega arith))
 
   -- ---- sets
-  sets-are : setsIn (length g) w (k .sets) ≡ sets g labels f
-  unfolding sets
-  sets-are = t .numbered .sets ∙ ap (λ l. firsts [] (map (setOf g labels) l)) order
+  sets-are : setsIn (length g) w (k .sets) ≡ letterSets g labels f
+  unfolding letterSets
+  sets-are = t .numbered .sets-are ∙ ap (λ l. firsts [] (map (setOf g labels) l)) order
 
-  pub sets-count : k .sets ≡ length (sets g labels f)
-  unfolding sets
+  pub sets-count : k .sets ≡ length (letterSets g labels f)
+  unfolding letterSets
   sets-count = t .numbered .counted ∙ ap (λ l. length (firsts [] (map (setOf g labels) l))) order
 
   sets-within : k .sets ≤ length g
@@ -110,10 +112,10 @@ module _ {g : Graph} {labels name : List ℕ} {lentWork : ℕ} (c : Checked g la
     block-at = let b = blocks-within in t .numbered .kept (length g + j) (omega arith) ∙ block-here
 
     block-met : List·Memᴰ (getD (blocks g labels f) j 0) (blocks g labels f)
-    block-met = let m = many in at-in (blocks g labels f) j (omega arith)
+    block-met = let m = many in at-in (blocks g labels f) j 0 (omega arith)
 
-    number-at : getD w (2 * length g + j) 0 ≡ placeIn (sets g labels f) (setOf g labels (getD (blocks g labels f) j 0))
-    unfolding sets
+    number-at : getD w (2 * length g + j) 0 ≡ placeIn (letterSets g labels f) (setOf g labels (getD (blocks g labels f) j 0))
+    unfolding letterSets
     number-at =
         t .numbered .numbers j h
         ∙ ap₂ (λ l p. placeIn (firsts [] (map (setOf g labels) l)) (setOf g labels p)) order block-here
@@ -169,23 +171,23 @@ module _ {g : Graph} {labels name : List ℕ} {lentWork : ℕ} (c : Checked g la
         ap₂ (λ l b. l * 16777216 + b) (ranked (tile KBWG v) (c .labelled v (in-graph KBWG g p v (a .0)))) place
 
     block-same : (p : ℕ) → List·Memᴰ p (blocks g labels f)
-        → blockIn ranks w (placeIn (sets g labels f) (setOf g labels p)) (arcsOf g labels p) ≡ blockOf g labels f p
+        → blockIn ranks w (placeIn (letterSets g labels f) (setOf g labels p)) (arcsOf g labels p) ≡ blockOf g labels f p
     unfolding blockIn
     block-same p m =
         ap (headNode g labels f p ∷_) (map-same (arcIn ranks w) (arcNode g labels f) (arcsOf g labels p) (λ v n. arc-same p v m n))
         ∙ sym (block-is g labels f p)
 
-    nodes-are : nodesFrom g labels ranks w 0 (k .blocks) ≡ macondoNodes g labels f
+    nodes-are : blockNodesFrom g labels ranks w 0 (k .blocks) ≡ macondoNodes g labels f
     unfolding macondoNodes
     nodes-are =
-        ap (nodesFrom g labels ranks w 0) (sym many)
-        ∙ nodes-over g labels ranks w (λ p. placeIn (sets g labels f) (setOf g labels p)) (blocks g labels f) 0
+        ap (blockNodesFrom g labels ranks w 0) (sym many)
+        ∙ nodes-over g labels ranks w (λ p. placeIn (letterSets g labels f) (setOf g labels p)) (blocks g labels f) 0
         (λ i h. let b : i < k .blocks = subst (i <_) many h in rw zero-add (block-at i b, number-at i b))
-        ∙ join-same (λ p. blockIn ranks w (placeIn (sets g labels f) (setOf g labels p)) (arcsOf g labels p)) (blockOf g labels f)
+        ∙ join-same (λ p. blockIn ranks w (placeIn (letterSets g labels f) (setOf g labels p)) (arcsOf g labels p)) (blockOf g labels f)
         (blocks g labels f) block-same
 
     -- ---- so the tables are what a file needs, and the file is that of the definition
-    pub filled : Small ranks → 5 * length g ≤ length w → k .nodes ≤ 16777216 → Filled g labels ranks w k
+    pub filled : Small ranks → 5 * length g ≤ length w → k .nodes ≤ 16777216 → TablesFilled g labels ranks w k
     filled small room few =
         record {
           ready = ready c;
@@ -193,15 +195,15 @@ module _ {g : Graph} {labels name : List ℕ} {lentWork : ℕ} (c : Checked g la
           room = room;
           few-blocks = blocks-within;
           few-sets = sets-within;
-          places = λ q h. let p = place-most q h in omega arith;
+          place-fits = λ q h. let p = place-most q h in omega arith;
           runs = run-below;
           numbers = number-below;
           nodes = nodes-count (t .first) ∙ ap length (sym nodes-are);
         }
 
-    pub file-is : (text letters′ : List ℕ) → take (length labels - 1) letters′ ≡ letters labels
-        → fileIn f text g labels letters′ ranks w k ≡ macondoFile g labels f text
+    pub file-is : (magic : ℕ) → bigEndian 4 magic ≡ marks f .magic → (text letters′ : List ℕ) → take (length labels - 1) letters′ ≡ letters labels
+        → fileIn magic text g labels letters′ ranks w k ≡ macondoFile g labels f text
     unfolding fileIn macondoFile
-    file-is text letters′ e =
-        ap₂ (λ l r. marks f .magic ++ (length text ∷ text) ++ (section 4 (map (λ t. getD labels t 0) l) ++ r)) e
-        (ap₂ (λ s n. section 8 s ++ section 4 n) sets-are nodes-are)
+    file-is magic m text letters′ e =
+        ap₂ (λ b r. b ++ (length text ∷ text) ++ r) m
+        (ap₂ (λ l r. section 4 (map (λ t. getD labels t 0) l) ++ r) e (ap₂ (λ s n. section 8 s ++ section 4 n) sets-are nodes-are))

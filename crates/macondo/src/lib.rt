@@ -1,17 +1,13 @@
 // Writes a graph as a file for Macondo.
 mod checks;
-mod file;
-mod nodes;
-mod sections;
-mod tables;
 mod walk;
 
 ghost use mathlib.Core.Path.{_≡_};
 ghost use Prim.Native.Nat.{_*_};
 ghost use lib.ListN.{length};
 ghost use Rattle.graph.specs.Lent.{WorkKept};
-ghost use Rattle.macondo_file.specs.Row.{checkRow, toMacondo};
-ghost use Rattle.macondo.specs.Said.{formatOf, writtenAs};
+ghost use Rattle.macondo_file.specs.Row.{macondoChecks, toMacondo};
+ghost use Rattle.macondo.specs.Said.{formatOf, macondoWrittenAs};
 use checks::descends;
 use export::lacks_label;
 use graph::GraphCheck;
@@ -48,8 +44,11 @@ pub fn to_macondo(
     work: &mut [u32],
     file: &mut [u8],
 ) -> Macondo
-    ensures written { λ r. ⌜ writtenAs r (now (file .exit)) ≡ toMacondo (now (nodes .entry)) (now (labels .entry)) (now (name .entry)) (formatOf format) (length (now (work .entry))) (now (file .entry)) ⌝ }
-    ensures free { λ r. ⌜ WorkKept (checkRow (now (nodes .entry)) (now (labels .entry)) (now (name .entry)) (length (now (work .entry)))) (8 * length (now (nodes .entry))) (now (work .entry)) (now (work .exit)) ⌝ }
+    ensures written { λ r. ⌜ macondoWrittenAs r (now (file .exit))
+        ≡ toMacondo (now (nodes .entry)) (now (labels .entry)) (now (name .entry)) (formatOf format) (length (now (work .entry)))
+        (now (file .entry)) ⌝ }
+    ensures free { λ r. ⌜ WorkKept (macondoChecks (now (nodes .entry)) (now (labels .entry)) (now (name .entry)) (length (now (work .entry))))
+        (8 * length (now (nodes .entry))) (now (work .entry)) (now (work .exit)) ⌝ }
 {
     match graph::check_graph(nodes) {
         GraphCheck::Sound => {}

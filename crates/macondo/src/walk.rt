@@ -1,35 +1,43 @@
 // From the checks of graph, labels and name to the file: the walk from the start, the sizes, the bytes.
 ghost use mathlib.Core.Path.{_≡_};
 ghost use Prim.Native.Nat.{_≤_};
-ghost use lib.ListN.{length, drop};
-ghost use Rattle.node.specs.Answers.{firstOf};
-ghost use Rattle.export.specs.Starts.{start};
-ghost use Rattle.export.specs.Written.{written};
-ghost use Rattle.macondo_file.specs.File.{marks, macondoFile};
-ghost use Rattle.macondo_file.specs.Row.{walkRow};
-ghost use Rattle.macondo_file.specs.RowLaws.{Checked};
-ghost use Rattle.macondo.specs.Said.{formatOf, writtenAs};
-ghost use Rattle.macondo.specs.Tables.{BlocksIn};
+ghost use lib.ListN.{length};
+ghost use Rattle.endian.specs.Bytes.{bigEndian};
+ghost use Rattle.graph.specs.Runs.{startNode};
+ghost use Rattle.macondo_file.specs.File.{marks};
+ghost use Rattle.macondo_file.specs.RowLaws.{MacondoChecked};
+ghost use Rattle.macondo.specs.Said.{formatOf, macondoWrittenAs, writtenPast};
+ghost use Rattle.macondo.specs.BlocksIn.{BlocksIn};
 use crate::Macondo;
 use crate::MacondoFormat;
 use crate::checks::lacks_code_point;
-use crate::file::write_file;
-use crate::tables::Counts;
-use crate::tables::file_size;
-use export::Tally;
+use block_record::BlockTally;
 use letter_sets::number_sets;
-use macondo_blocks::Numbering;
+use macondo_blocks::BlockNumbering;
 use macondo_blocks::number_blocks;
+use macondo_writing::SectionCounts;
+use macondo_writing::file_size;
+use macondo_writing::write_file;
 use node::Node24;
 
 // "The start node s is node 0's arc, for a Macondo gaddag node 1's arc"; there must be two nodes.
 fn start_of(nodes: &[u32], format: MacondoFormat) -> usize
     requires { ⌜ 2 ≤ length (now nodes) ⌝ }
-    ensures { λ r. ⌜ r ≡ start (now (nodes .entry)) (marks (formatOf format) .root) ⌝ }
+    ensures { λ r. ⌜ r ≡ startNode (now (nodes .entry)) (marks (formatOf format) .root) ⌝ }
 {
     match format {
         MacondoFormat::Dawg => Node24(nodes[0]).arc_index() as usize,
         MacondoFormat::Gaddag => Node24(nodes[1]).arc_index() as usize,
+    }
+}
+
+// "`cdwg` or `cgdg`", as one number.
+fn magic(format: MacondoFormat) -> u32
+    ensures { λ r. ⌜ bigEndian 4 r ≡ marks (formatOf format) .magic ⌝ }
+{
+    match format {
+        MacondoFormat::Dawg => 0x63647767,
+        MacondoFormat::Gaddag => 0x63676467,
     }
 }
 
@@ -41,19 +49,20 @@ fn write_numbered(
     name: &[u8],
     format: MacondoFormat,
     work: &mut [u32],
-    tally: Tally,
+    tally: BlockTally,
     file: &mut [u8],
 ) -> Macondo
-    requires { ⌜ Checked (now nodes) (now labels) (now name) (length (now work)) ⌝ }
+    requires { ⌜ MacondoChecked (now nodes) (now labels) (now name) (length (now work)) ⌝ }
     requires { ⌜ BlocksIn (now nodes) (now labels) (formatOf format) (now work) tally ⌝ }
-    ensures { λ r. ⌜ writtenAs r (now (file .exit)) ≡ written (firstOf (drop 2 (walkRow (now (nodes .entry)) (now (labels .entry)) (now (name .entry)) (formatOf format) (length (now (file .entry)))))) (macondoFile (now (nodes .entry)) (now (labels .entry)) (formatOf format) (now (name .entry))) (now (file .entry)) ⌝ }
+    ensures { λ r. ⌜ macondoWrittenAs r (now (file .exit))
+        ≡ writtenPast 2 (now (nodes .entry)) (now (labels .entry)) (now (name .entry)) (formatOf format) (now (file .entry)) ⌝ }
 {
     if 16777216 < tally.nodes {
         return Macondo::TooManyNodes;
     }
     let letters = macondo_blocks::letters(labels);
     let ranks = macondo_blocks::ranks(&letters, labels.len() - 1);
-    let counts = Counts {
+    let counts = SectionCounts {
         blocks: tally.blocks,
         sets: number_sets(nodes, &ranks, work, tally.blocks as usize),
         nodes: tally.nodes,
@@ -66,7 +75,7 @@ fn write_numbered(
         nodes,
         labels,
         name,
-        format,
+        magic(format),
         &letters,
         &ranks,
         work,
@@ -85,12 +94,13 @@ pub(crate) fn write_checked(
     work: &mut [u32],
     file: &mut [u8],
 ) -> Macondo
-    requires { ⌜ Checked (now nodes) (now labels) (now name) (length (now work)) ⌝ }
-    ensures { λ r. ⌜ writtenAs r (now (file .exit)) ≡ written (firstOf (walkRow (now (nodes .entry)) (now (labels .entry)) (now (name .entry)) (formatOf format) (length (now (file .entry))))) (macondoFile (now (nodes .entry)) (now (labels .entry)) (formatOf format) (now (name .entry))) (now (file .entry)) ⌝ }
+    requires { ⌜ MacondoChecked (now nodes) (now labels) (now name) (length (now work)) ⌝ }
+    ensures { λ r. ⌜ macondoWrittenAs r (now (file .exit))
+        ≡ writtenPast 0 (now (nodes .entry)) (now (labels .entry)) (now (name .entry)) (formatOf format) (now (file .entry)) ⌝ }
 {
     let s = start_of(nodes, format);
     let found = number_blocks(nodes, labels, work, s);
-    let Numbering::Done(reached) = found else {
+    let BlockNumbering::Done(reached) = found else {
         return Macondo::ChainTooLong;
     };
     if lacks_code_point(labels) {

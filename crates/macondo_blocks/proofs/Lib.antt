@@ -1,7 +1,8 @@
 -- What the proofs of several functions use.
+mod ArcCounts
 mod Insertion
 mod Order
 mod RankTable
 mod LetterOrder
 mod Runs
-mod Numbering
+mod BlockNumbering

@@ -1,12 +1,10 @@
 -- What the Macondo writer computes before it writes, named for the contracts of this crate.
 use mathlib.Core.Path.{_≡_}
 use mathlib.Core.Bool.{Bool, true, false}
-use mathlib.Core.List.{List, [], _∷_, _++_, map}
-use Prim.Native.Nat.{ℕ, suc, _*_, _≤_, _<_}
-use lib.Dec.{eqb}
+use mathlib.Core.List.{List, [], _∷_, _++_}
+use Prim.Native.Nat.{ℕ, _*_, _≤_, _<_}
 use lib.ListN.{length, take}
 use lib.Seq.{slice}
-use Rattle.laws.specs.Firsts.{placeIn}
 use Rattle.laws.specs.Lists.{All, kept}
 use Rattle.laws.specs.Sorting.{inserted, insertedAll}
 use Rattle.node.specs.Nodes.{KBWG, tile, arc}
@@ -15,22 +13,22 @@ use Rattle.graph.specs.ChecksLaws.{Fit}
 use Rattle.graph.specs.Lent.{Kept}
 use Rattle.export.specs.Starts.{hasArc, unlabelled, deeper}
 use Rattle.export.specs.Blocks.{met}
-use Rattle.export.specs.Places.{orderIn, Holds}
-use Rattle.export.specs.Depths.{Depth, Depths, NoneLeft}
-use Rattle.export.specs.declared.places.Tally.{Tally}
+use Rattle.block_record.specs.Record.{orderIn, HoldsBlocks}
+use Rattle.block_record.specs.Depths.{Depth, Depths, NoneLeft}
+use Rattle.block_record.specs.declared.BlockTally.{BlockTally}
 use Rattle.macondo_file.specs.Alphabet.{precedes}
-use Rattle.macondo_file.specs.File.{arcsOf}
+use Rattle.macondo_file.specs.File.{childrenOf, sizeOf, blocksFrom}
 use Rattle.macondo_blocks.specs.declared.blocks.Reached.{Reached}
-use Rattle.macondo_blocks.specs.declared.blocks.Numbering.{Numbering}
-use Rattle.macondo_blocks.specs.declared.blocks.Numbering.the-variants.{Done, TooDeep}
+use Rattle.macondo_blocks.specs.declared.blocks.BlockNumbering.{BlockNumbering}
+use Rattle.macondo_blocks.specs.declared.blocks.BlockNumbering.the-variants.{Done, TooDeep}
 
 -- the arc order, of nodes by their tiles; a tile as a node without arc and flags is its own tile
 abbrev pub byTile : List ℕ → ℕ → ℕ → Bool
 byTile labels v w = precedes labels (tile KBWG v) (tile KBWG w)
 
 -- every node's tile has a label
-abbrev pub Labelled : List ℕ → List ℕ → Type 0
-Labelled labels vs = All (λ v. tile KBWG v < length labels) vs
+abbrev pub AllLabelled : List ℕ → List ℕ → Type 0
+AllLabelled labels vs = All (λ v. tile KBWG v < length labels) vs
 
 -- the arc order: no entry precedes one that stands before it
 abbrev pub Ordered : List ℕ → List ℕ → Type 0
@@ -46,55 +44,40 @@ pub record Slot (labels list : List ℕ) (count v r : ℕ) : Type 0 where
 abbrev pub withArc : List ℕ → List ℕ → ℕ → List ℕ
 withArc labels arcs v = insertedAll (byTile labels) arcs (kept hasArc (v ∷ []))
 
--- the letter written for a tile, where the letters stand in the list in rank order
-abbrev pub letterIn : List ℕ → ℕ → ℕ
-letterIn letters t = elim (eqb t 0) [ true ↦ 50 | false ↦ placeIn letters t ]
-
--- what the checks before the walk tell of graph and labels
-pub record Ready (g : Graph) (labels : List ℕ) : Type 0 where
+-- what the checks before the walk say of graph and labels
+pub record MacondoReady (g : Graph) (labels : List ℕ) : Type 0 where
   pub fit : Fit g
   pub up : ascends KBWG g ≡ true
   pub labelled : unlabelled g labels ≡ false
   pub few : length labels ≤ 50
 
--- the blocks that a block's arcs lead to, and its nodes: the head and the arcs
-abbrev pub childrenOf : Graph → List ℕ → ℕ → List ℕ
-childrenOf g labels p = map (arc KBWG) (arcsOf g labels p)
-
-abbrev pub sizeOf : Graph → List ℕ → ℕ → ℕ
-sizeOf g labels p = suc (length (arcsOf g labels p))
-
--- the blocks of a file whose start is node s
-abbrev pub blocksFrom : Graph → List ℕ → ℕ → List ℕ
-blocksFrom g labels s = met (childrenOf g labels) 64 [] s
-
 -- the work list has room for the record and the depths; it holds the blocks numbered so far, and how deep they are
-pub record Recorded (g : Graph) (labels : List ℕ) (w : List ℕ) (t : Tally) : Type 0 where
-  pub ready : Ready g labels
+pub record BlocksRecorded (g : Graph) (labels : List ℕ) (w : List ℕ) (t : BlockTally) : Type 0 where
+  pub ready : MacondoReady g labels
   pub room : 3 * length g ≤ length w
-  pub holds : Holds (length g) (sizeOf g labels) 0 w t (orderIn (length g) w t)
+  pub holds : HoldsBlocks (length g) (sizeOf g labels) 0 w t (orderIn (length g) w t)
   pub depths : Depths g w
 
 -- what numbering leaves: the record of the blocks in the list, and the numbers past the depths as before
-pub record Numbered (g : Graph) (labels : List ℕ) (w w′ : List ℕ) (t : Tally) (blocks : List ℕ) : Type 0 where
-  pub holds : Holds (length g) (sizeOf g labels) 0 w′ t blocks
+pub record BlocksNumbered (g : Graph) (labels : List ℕ) (w w′ : List ℕ) (t : BlockTally) (blocks : List ℕ) : Type 0 where
+  pub holds : HoldsBlocks (length g) (sizeOf g labels) 0 w′ t blocks
   pub past : Kept (3 * length g) w w′
 
 -- the same of a block and what its arcs lead to, where a record stands and a chain of c runs is left: the runs in the longest chain from
 -- it, which are no more; the depths of all blocks that are not being followed; and that no other block is followed than before
-pub record Reaches (g : Graph) (labels w : List ℕ) (t : Tally) (c p : ℕ) (w′ : List ℕ) (r : Reached) : Type 0 where
-  pub numbered : Numbered g labels w w′ (r .tally) (met (childrenOf g labels) c (orderIn (length g) w t) p)
+pub record BlocksReached (g : Graph) (labels w : List ℕ) (t : BlockTally) (c p : ℕ) (w′ : List ℕ) (r : Reached) : Type 0 where
+  pub numbered : BlocksNumbered g labels w w′ (r .tally) (met (childrenOf g labels) c (orderIn (length g) w t) p)
   pub depth : Depth g p (r .runs)
   pub within : r .runs ≤ c
   pub depths : Depths g w′
   pub left : NoneLeft g w w′
 
-abbrev pub NumberingFrom : Graph → List ℕ → List ℕ → Tally → ℕ → ℕ → List ℕ → Numbering → Type 0
-NumberingFrom g labels w t c p w′ (Done r) = Reaches g labels w t c p w′ r
+abbrev pub NumberingFrom : Graph → List ℕ → List ℕ → BlockTally → ℕ → ℕ → List ℕ → BlockNumbering → Type 0
+NumberingFrom g labels w t c p w′ (Done r) = BlocksReached g labels w t c p w′ r
 NumberingFrom g labels w t c p w′ TooDeep = deeper g c p ≡ true
 
 -- the blocks of a file whose start is node s: "over 64 runs, each reached by an arc of the one before, from the start", or the record of
 -- the blocks and the runs in the longest chain
-abbrev pub NumberingIs : Graph → List ℕ → ℕ → List ℕ → List ℕ → Numbering → Type 0
-NumberingIs g labels s w w′ (Done r) = Numbered g labels w w′ (r .tally) (blocksFrom g labels s) × Depth g s (r .runs) × (deeper g 64 s ≡ false)
+abbrev pub NumberingIs : Graph → List ℕ → ℕ → List ℕ → List ℕ → BlockNumbering → Type 0
+NumberingIs g labels s w w′ (Done r) = BlocksNumbered g labels w w′ (r .tally) (blocksFrom g labels s) × Depth g s (r .runs) × (deeper g 64 s ≡ false)
 NumberingIs g labels s w w′ TooDeep = deeper g 64 s ≡ true

@@ -6,8 +6,7 @@ use native.Mathlib.Omega.{arith}
 use lib.ListN.{length}
 use Rattle.laws.specs.Lists.{All, all-weaken}
 use Rattle.graph.specs.Counting.{table}
-use Rattle.macondo_file.specs.Alphabet.{precedes, letters, letterOf}
-use Rattle.macondo_blocks.specs.Blocks.{letterIn}
+use Rattle.macondo_file.specs.Alphabet.{precedes, letters, letterIn, letterOf}
 use Rattle.macondo_blocks.specs.EntriesLaws.{all-table, all-inserted}
 
 -- "Letters (tiles 1 up)"

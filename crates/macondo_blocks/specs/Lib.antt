@@ -2,4 +2,3 @@ pub mod Blocks
 pub mod EntriesLaws
 pub mod ArcsLaws
 pub mod LettersLaws
-pub mod NumbersLaws

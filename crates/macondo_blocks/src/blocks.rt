@@ -3,27 +3,27 @@
 ghost use mathlib.Core.Path.{_≡_};
 ghost use Prim.Native.Nat.{_*_, _≤_, _<_};
 ghost use lib.ListN.{length, getD};
-ghost use Rattle.export.specs.Depths.{Below};
-ghost use Rattle.macondo_blocks.specs.Blocks.{Ready, Recorded, NumberingIs, NumberingFrom};
+ghost use Rattle.block_record.specs.Depths.{Below};
+ghost use Rattle.macondo_blocks.specs.Blocks.{MacondoReady, BlocksRecorded, NumberingIs, NumberingFrom};
 use crate::arcs::arcs_of;
-use export::Place;
-use export::Tally;
-use export::depth_of;
-use export::keep_depth;
-use export::place_of;
-use export::push_block;
-use graph::larger;
-use lists::clear;
+use base::clear;
+use base::larger;
+use block_record::BlockTally;
+use block_record::Place;
+use block_record::depth_of;
+use block_record::keep_depth;
+use block_record::place_of;
+use block_record::push_block;
 use node::Node24;
 
 // The tally after a block and what can be reached from it are numbered, and the runs in the longest chain from the block.
 pub struct Reached {
-    pub tally: Tally,
+    pub tally: BlockTally,
     pub runs: u32,
 }
 
 // What numbering comes to: an end, or a chain with more runs than are left.
-pub enum Numbering {
+pub enum BlockNumbering {
     Done(Reached),
     TooDeep,
 }
@@ -36,10 +36,10 @@ fn number_arc(
     labels: &[u32],
     work: &mut [u32],
     child: usize,
-    t: Tally,
+    t: BlockTally,
     chain_left: u32,
-) -> Numbering
-    requires { ⌜ Recorded (now nodes) (now labels) (now work) t ⌝ }
+) -> BlockNumbering
+    requires { ⌜ BlocksRecorded (now nodes) (now labels) (now work) t ⌝ }
     requires { ⌜ (child < length (now nodes)) × Below (now nodes) (now work) child ⌝ }
     ensures { λ r. ⌜ NumberingFrom (now (nodes .entry)) (now (labels .entry)) (now (work .entry)) t «chain_left» child (now (work .exit)) r ⌝ }
 {
@@ -48,12 +48,12 @@ fn number_arc(
     };
     let runs = depth_of(nodes.len(), work, child);
     if runs == 0 {
-        return Numbering::TooDeep;
+        return BlockNumbering::TooDeep;
     }
     if chain_left < runs {
-        return Numbering::TooDeep;
+        return BlockNumbering::TooDeep;
     }
-    Numbering::Done(Reached { tally: t, runs })
+    BlockNumbering::Done(Reached { tally: t, runs })
 }
 
 // Numbers the block of node p, which must not be numbered yet, and then what its arcs lead to. While they are followed its depth is 0.
@@ -62,16 +62,16 @@ fn number_run(
     labels: &[u32],
     work: &mut [u32],
     p: usize,
-    t: Tally,
+    t: BlockTally,
     chain_left: u32,
-) -> Numbering
-    requires { ⌜ Recorded (now nodes) (now labels) (now work) t ⌝ }
+) -> BlockNumbering
+    requires { ⌜ BlocksRecorded (now nodes) (now labels) (now work) t ⌝ }
     requires { ⌜ (p < length (now nodes)) × Below (now nodes) (now work) p ⌝ }
     requires { ⌜ getD (now work) p 0 ≡ 0 ⌝ }
     ensures { λ r. ⌜ NumberingFrom (now (nodes .entry)) (now (labels .entry)) (now (work .entry)) t «chain_left» p (now (work .exit)) r ⌝ }
 {
     if chain_left == 0 {
-        return Numbering::TooDeep;
+        return BlockNumbering::TooDeep;
     }
     let mut arcs = [0u32; 64];
     let count = arcs_of(nodes, labels, p, &mut arcs);
@@ -82,15 +82,15 @@ fn number_run(
     while i < count {
         let child = Node24(arcs[i]).arc_index() as usize;
         let found = number_arc(nodes, labels, work, child, sum, chain_left - 1);
-        let Numbering::Done(reached) = found else {
-            return Numbering::TooDeep;
+        let BlockNumbering::Done(reached) = found else {
+            return BlockNumbering::TooDeep;
         };
         sum = reached.tally;
         runs = larger(runs, reached.runs);
         i += 1;
     }
     keep_depth(nodes.len(), work, p, runs + 1);
-    Numbering::Done(Reached {
+    BlockNumbering::Done(Reached {
         tally: sum,
         runs: runs + 1,
     })
@@ -98,8 +98,8 @@ fn number_run(
 
 // Numbers the blocks from node s on, unless a chain from it has more than 64 runs, over a work list that has room for the record and
 // the depths, three numbers a node. The graph must have passed the checks before the walk.
-pub fn number_blocks(nodes: &[u32], labels: &[u32], work: &mut [u32], s: usize) -> Numbering
-    requires { ⌜ Ready (now nodes) (now labels) ⌝ }
+pub fn number_blocks(nodes: &[u32], labels: &[u32], work: &mut [u32], s: usize) -> BlockNumbering
+    requires { ⌜ MacondoReady (now nodes) (now labels) ⌝ }
     requires { ⌜ (s < length (now nodes)) × (3 * length (now nodes) ≤ length (now work)) ⌝ }
     ensures { λ r. ⌜ NumberingIs (now (nodes .entry)) (now (labels .entry)) s (now (work .entry)) (now (work .exit)) r ⌝ }
 {
@@ -109,7 +109,7 @@ pub fn number_blocks(nodes: &[u32], labels: &[u32], work: &mut [u32], s: usize) 
         labels,
         work,
         s,
-        Tally {
+        BlockTally {
             blocks: 0,
             nodes: 0,
         },

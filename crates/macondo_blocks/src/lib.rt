@@ -8,6 +8,6 @@ mod sorting;
 pub use alphabet::letters;
 pub use alphabet::ranks;
 pub use arcs::arcs_of;
-pub use blocks::Numbering;
+pub use blocks::BlockNumbering;
 pub use blocks::Reached;
 pub use blocks::number_blocks;

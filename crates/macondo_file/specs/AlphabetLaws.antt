@@ -1,5 +1,5 @@
 -- How many letters there are, how high the number written for a tile can be, that a tile's label stands at it among the code points, and
--- that no other tile has it. The idea: the letters are the tiles from 1 up, so a letter's place among them tells its tile.
+-- that no other tile has it. The idea: the letters are the tiles from 1 up, so a letter's place among them determines its tile.
 use mathlib.Core.Path.{_≡_, refl, sym, ap, _∙_}
 use mathlib.Core.Bool.{true, false}
 use mathlib.Core.Logic.{_≢_}
@@ -14,9 +14,9 @@ use Rattle.laws.specs.Firsts.{placeIn, place-le, place-lt, place-at}
 use Rattle.laws.specs.Members.{getD-map-in}
 use Rattle.laws.specs.Sorting.{insertedAll, in-sorted, sorted-in, sorted-length}
 use Rattle.graph.specs.Counting.{table}
-use Rattle.macondo_file.specs.Alphabet.{precedes, letters, letterOf}
+use Rattle.macondo_file.specs.Alphabet.{precedes, letters, letterIn, letterOf}
 use Rattle.macondo_file.specs.File.{codePoints}
-use Rattle.graph.specs.TableLaws.{table-length, table-in, in-table}
+use Rattle.graph.specs.TableLaws.{table-length, table-in, from-table}
 
 -- labels that descend: tile 2 ranks first, and so does its code point
 letters-ranked : codePoints (0x3F ∷ 0x42 ∷ 0x41 ∷ []) ≡ 0x41 ∷ 0x42 ∷ []
@@ -24,7 +24,7 @@ unfolding letters insertedAll table
 letters-ranked = refl
 
 module _ (labels : List ℕ) where
-  pub letters-length : length (letters labels) ≡ length labels - 1
+  letters-length : length (letters labels) ≡ length labels - 1
   unfolding letters
   letters-length = sorted-length (precedes labels) (table (length labels - 1) suc) ∙ table-length (length labels - 1) suc
 
@@ -33,9 +33,9 @@ module _ (labels : List ℕ) where
   letter-most fifty t =
       let a = place-le (letters labels) t in
       let b = letters-length in
-      split (eqb t 0) (λ e. rw (e, letterOf) (omega arith)) (λ e. rw (e, letterOf) (omega arith))
+      split (eqb t 0) (λ e. rw (e, letterIn) (omega arith)) (λ e. rw (e, letterIn) (omega arith))
 
-  pub letters-in : (t : ℕ) → 0 < t → t < length labels → List·Memᴰ t (letters labels)
+  letters-in : (t : ℕ) → 0 < t → t < length labels → List·Memᴰ t (letters labels)
   unfolding letters
   letters-in zero z h = absurd (omega arith)
   letters-in (suc i) z h =
@@ -44,14 +44,14 @@ module _ (labels : List ℕ) where
   pub in-letters : (t : ℕ) → List·Memᴰ t (letters labels) → (0 < t) × (t < length labels)
   unfolding letters
   in-letters t m =
-      let r = in-table (length labels - 1) suc t (in-sorted (precedes labels) (table (length labels - 1) suc) t m) in
+      let r = from-table (length labels - 1) suc t (in-sorted (precedes labels) (table (length labels - 1) suc) t m) in
       let h = r .1 in
       let e = r .2 in
       (omega arith, omega arith)
 
-  pub letter-place : (t : ℕ) → 0 < t → letterOf labels t ≡ placeIn (letters labels) t
+  letter-place : (t : ℕ) → 0 < t → letterOf labels t ≡ placeIn (letters labels) t
   unfolding letterOf
-  letter-place t z = rw (ne-eqb t 0 (λ e. omega arith), letterOf)
+  letter-place t z = rw (ne-eqb t 0 (λ e. omega arith), letterIn)
 
   -- ---- the code points
   -- the one at a tile's letter is the tile's label
@@ -66,7 +66,7 @@ module _ (labels : List ℕ) where
   pub code-points-length : length (codePoints labels) ≡ length labels - 1
   code-points-length = length-map (letters labels) (λ t. getD labels t 0) ∙ letters-length
 
-  -- ---- a letter tells its tile
+  -- ---- a letter determines its tile
   abbrev tileOf : ℕ → ℕ
   tileOf r = elim (eqb r 50) [ true ↦ 0 | false ↦ getD (letters labels) r 0 ]
 
@@ -74,7 +74,7 @@ module _ (labels : List ℕ) where
   unfolding letterOf
   letter-back fifty t h =
       split (eqb t 0)
-      (λ e. rw (e, letterOf) (sym (eqb-true t 0 e)))
+      (λ e. rw (e, letterIn) (sym (eqb-true t 0 e)))
       (λ e.
       let n : t ≢ 0 = eqb-false t 0 e in
       let z : 0 < t = omega arith in

@@ -20,14 +20,10 @@ use Rattle.graph.specs.RunLaws.{run-last, run-next, in-graph}
 use Rattle.export.specs.ChainLaws.{arcsFrom, arc-from, from-arc}
 use Rattle.macondo_file.specs.Alphabet.{precedes, letterOf}
 use Rattle.macondo_file.specs.AlphabetLaws.{letter-apart}
-use Rattle.macondo_file.specs.File.{arcsOf}
-use Rattle.macondo_file.specs.RowLaws.{Checked}
+use Rattle.macondo_file.specs.File.{arcsOf, childrenOf}
+use Rattle.macondo_file.specs.RowLaws.{MacondoChecked}
 
 module _ (g : Graph) (labels : List ℕ) where
-  -- the blocks that the arcs of p's block lead to
-  abbrev pub childrenOf : ℕ → List ℕ
-  childrenOf p = map (arc KBWG) (arcsOf g labels p)
-
   pub in-arcs : (p v : ℕ) → List·Memᴰ v (arcsOf g labels p) → List·Memᴰ v (runOf g p) × (hasArc v ≡ true)
   unfolding arcsOf
   in-arcs p v m =
@@ -39,18 +35,18 @@ module _ (g : Graph) (labels : List ℕ) where
       sorted-in (λ v w. precedes labels (tile KBWG v) (tile KBWG w)) (kept hasArc (runOf g p)) v (kept-in hasArc (runOf g p) v m h)
 
   -- the order changes nothing of where they lead
-  pub in-children : (p q : ℕ) → List·Memᴰ q (childrenOf p) → List·Memᴰ q (arcsFrom g p)
+  pub in-children : (p q : ℕ) → List·Memᴰ q (childrenOf g labels p) → List·Memᴰ q (arcsFrom g p)
   in-children p q m =
       let r = in-map (arc KBWG) (arcsOf g labels p) q m in
       let a = in-arcs p (r .0) (r .1) in
       rw (r .2) (arc-from g p (r .0) (a .0) (a .1))
 
-  pub children-in : (p q : ℕ) → List·Memᴰ q (arcsFrom g p) → List·Memᴰ q (childrenOf p)
+  pub children-in : (p q : ℕ) → List·Memᴰ q (arcsFrom g p) → List·Memᴰ q (childrenOf g labels p)
   children-in p q m =
       let r = from-arc g p q m in
       rw (r .3) (map-in (arc KBWG) (arcsOf g labels p) (r .0) (arcs-in p (r .0) (r .1) (r .2)))
 
-  pub arcs-length : (p : ℕ) → length (arcsOf g labels p) ≤ length (runOf g p)
+  arcs-length : (p : ℕ) → length (arcsOf g labels p) ≤ length (runOf g p)
   unfolding arcsOf
   arcs-length p =
       let a = sorted-length (λ v w. precedes labels (tile KBWG v) (tile KBWG w)) (kept hasArc (runOf g p)) in
@@ -74,7 +70,7 @@ module _ (n : ℕ) where
       let r = run-from u l (ascends-tail KBWG v u l a) (λ w m. h w (rw (e, run) (List·Memᴰ·tail m))) in
       rw (e, run) (omega arith))
 
-  pub run-most : (l : Graph) → ascends KBWG l ≡ true → ((w : ℕ) → List·Memᴰ w (run KBWG l) → tile KBWG w < n) → length (run KBWG l) ≤ n
+  run-most : (l : Graph) → ascends KBWG l ≡ true → ((w : ℕ) → List·Memᴰ w (run KBWG l) → tile KBWG w < n) → length (run KBWG l) ≤ n
   unfolding run
   run-most [] a h = zero-le
   run-most (v ∷ l) a h = let r = run-from v l a h in omega arith
@@ -108,7 +104,7 @@ run-tiles (v ∷ l) a =
       run-tiles l (ascends-drop KBWG 1 (v ∷ l) a),
     ))
 
-module _ {g : Graph} {labels name : List ℕ} {lentWork : ℕ} (c : Checked g labels name lentWork) where
+module _ {g : Graph} {labels name : List ℕ} {lentWork : ℕ} (c : MacondoChecked g labels name lentWork) where
   run-once : (p : ℕ) → NoRepeats (map (tile KBWG) (runOf g p))
   run-once p = run-tiles (drop p g) (ascends-drop KBWG p g (c .ascending))
 
@@ -125,11 +121,10 @@ module _ {g : Graph} {labels name : List ℕ} {lentWork : ℕ} (c : Checked g la
       map-apart (tile KBWG) (runOf g p) (run-once p) v w m n
       (letter-apart labels (c .fifty) (tile KBWG v) (tile KBWG w) (c .labelled v (in-graph KBWG g p v m)) (c .labelled w (in-graph KBWG g p w n)) e)
 
-  pub run-few : (p : ℕ) → length (runOf g p) ≤ 50
-  run-few p =
-      let a = run-most (length labels) (drop p g) (ascends-drop KBWG p g (c .ascending)) (λ v m. c .labelled v (in-graph KBWG g p v m)) in
-      let b = c .fifty in
-      omega arith
-
-  pub arcs-few : (p : ℕ) → length (arcsOf g labels p) ≤ 50
-  arcs-few p = let a = arcs-length g labels p in let b = run-few p in omega arith
+-- ---- how many arcs a block has
+pub arcs-few : (g : Graph) (labels : List ℕ) → ascends KBWG g ≡ true → ((v : ℕ) → List·Memᴰ v g → tile KBWG v < length labels)
+    → length labels ≤ 50 → (p : ℕ) → length (arcsOf g labels p) ≤ 50
+arcs-few g labels ascending labelled fifty p =
+    let a = arcs-length g labels p in
+    let b = run-most (length labels) (drop p g) (ascends-drop KBWG p g ascending) (λ v m. labelled v (in-graph KBWG g p v m)) in
+    omega arith

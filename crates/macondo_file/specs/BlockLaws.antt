@@ -10,16 +10,18 @@ use lib.ListN.{length, length-map}
 use Rattle.laws.specs.Firsts.{placeIn, place-lt, firsts-all, firsts-length, firsts-from}
 use Rattle.laws.specs.Members.{in-map, map-in, in-join}
 use Rattle.node.specs.Nodes.{KBWG, tile, arc}
-use Rattle.graph.specs.Runs.{Graph}
-use Rattle.export.specs.Starts.{start, deeper}
+use Rattle.graph.specs.Runs.{Graph, startNode}
+use Rattle.export.specs.Starts.{deeper}
 use Rattle.export.specs.Blocks.{blockAt, total}
-use Rattle.export.specs.BlocksLaws.{Low, every-met, few-met, first-met, start-met, children-met, blocks-length, block-first, block-within, block-upto, blocks-most}
+use Rattle.export.specs.BlocksLaws.{Low, every-met, few-met, first-met, start-met, children-met, blocks-length}
+use Rattle.export.specs.BlocksLaws.{block-first, block-within, block-upto, blocks-most}
 use Rattle.export.specs.ChainLaws.{arcsFrom, arcs-inside, shallow-low}
 use Rattle.macondo_file.specs.Alphabet.{letterOf}
 use Rattle.macondo_file.specs.AlphabetLaws.{letter-most}
-use Rattle.macondo_file.specs.File.{Format, dawg, gaddag, marks, arcsOf, setOf, blocks, sets, blockNumber, blockOf, macondoNodes}
-use Rattle.macondo_file.specs.RowLaws.{Checked}
-use Rattle.macondo_file.specs.ArcLaws.{childrenOf, in-children, children-in, arcs-few}
+use Rattle.macondo_file.specs.File.{Format, dawg, gaddag, marks, arcsOf, childrenOf, sizeOf, setOf}
+use Rattle.macondo_file.specs.File.{blocks, letterSets, blockNumber, blockOf, macondoNodes}
+use Rattle.macondo_file.specs.RowLaws.{MacondoChecked}
+use Rattle.macondo_file.specs.ArcLaws.{in-children, children-in, arcs-few}
 use Rattle.macondo_file.specs.SetLaws.{set-below}
 
 root-below : (f : Format) → marks f .root < 2
@@ -27,70 +29,67 @@ root-below dawg = omega arith
 root-below gaddag = omega arith
 
 module _ (g : Graph) (labels : List ℕ) (f : Format) where
-  abbrev size : ℕ → ℕ
-  size p = suc (length (arcsOf g labels p))
-
   -- a node for an arc, and a block's head
   abbrev pub arcNode : ℕ → ℕ
   arcNode v = letterOf labels (tile KBWG v) * 2 ^ 24 + blockNumber g labels f (arc KBWG v)
 
   abbrev pub headNode : ℕ → ℕ
-  headNode p = length (arcsOf g labels p) * 2 ^ 24 + placeIn (sets g labels f) (setOf g labels p)
+  headNode p = length (arcsOf g labels p) * 2 ^ 24 + placeIn (letterSets g labels f) (setOf g labels p)
 
   pub block-is : (p : ℕ) → blockOf g labels f p ≡ headNode p ∷ map arcNode (arcsOf g labels p)
   unfolding blockOf
   block-is p = refl
 
-  pub block-length : (p : ℕ) → length (blockOf g labels f p) ≡ suc (length (arcsOf g labels p))
+  pub block-length : (p : ℕ) → length (blockOf g labels f p) ≡ sizeOf g labels p
   block-length p = ap length (block-is p) ∙ ap suc (length-map (arcsOf g labels p) arcNode)
 
-  pub nodes-length : length (macondoNodes g labels f) ≡ total (λ p. suc (length (arcsOf g labels p))) (blocks g labels f)
+  pub nodes-length : length (macondoNodes g labels f) ≡ total (sizeOf g labels) (blocks g labels f)
   unfolding macondoNodes
-  nodes-length = blocks-length size (blockOf g labels f) block-length (blocks g labels f)
+  nodes-length = blocks-length (sizeOf g labels) (blockOf g labels f) block-length (blocks g labels f)
 
   -- every block has a head
   pub heads-few : length (blocks g labels f) ≤ length (macondoNodes g labels f)
   heads-few =
-      let a = blocks-most size (blocks g labels f) (λ p m. omega arith) in
+      let a = blocks-most (sizeOf g labels) (blocks g labels f) (λ p m. omega arith) in
       let b = nodes-length in
       omega arith
 
-  pub sets-few : length (sets g labels f) ≤ length (blocks g labels f)
-  unfolding sets
+  pub sets-few : length (letterSets g labels f) ≤ length (blocks g labels f)
+  unfolding letterSets
   sets-few =
       let a = firsts-length (map (setOf g labels) (blocks g labels f)) [] in
       let b = length-map (blocks g labels f) (setOf g labels) in
       omega arith
 
-  pub set-met : (p : ℕ) → List·Memᴰ p (blocks g labels f) → List·Memᴰ (setOf g labels p) (sets g labels f)
-  unfolding sets
+  pub set-met : (p : ℕ) → List·Memᴰ p (blocks g labels f) → List·Memᴰ (setOf g labels p) (letterSets g labels f)
+  unfolding letterSets
   set-met p m =
       firsts-all (map (setOf g labels) (blocks g labels f)) [] (setOf g labels p) (map-in (setOf g labels) (blocks g labels f) p m)
 
   -- a block's number is at most the number of nodes, and below it for a block of the file
-  pub number-most : (q : ℕ) → blockNumber g labels f q ≤ length (macondoNodes g labels f)
+  number-most : (q : ℕ) → blockNumber g labels f q ≤ length (macondoNodes g labels f)
   number-most q =
-      let a = block-upto size (blocks g labels f) 0 q in
+      let a = block-upto (sizeOf g labels) (blocks g labels f) 0 q in
       let b = nodes-length in
       omega arith
 
   pub number-within : (p : ℕ) → List·Memᴰ p (blocks g labels f)
-      → blockNumber g labels f p + suc (length (arcsOf g labels p)) ≤ length (macondoNodes g labels f)
+      → blockNumber g labels f p + sizeOf g labels p ≤ length (macondoNodes g labels f)
   number-within p m =
-      let a = block-within size (blocks g labels f) 0 p m in
+      let a = block-within (sizeOf g labels) (blocks g labels f) 0 p m in
       let b = nodes-length in
       omega arith
 
   -- the start's block is block 0
-  pub start-number : blockNumber g labels f (start g (marks f .root)) ≡ 0
+  pub start-number : blockNumber g labels f (startNode g (marks f .root)) ≡ 0
   unfolding blocks
   start-number =
-      let s = start g (marks f .root) in
+      let s = startNode g (marks f .root) in
       let r = first-met (childrenOf g labels) 63 s in
-      ap (λ l. blockAt size 0 l s) (r .1) ∙ block-first size 0 s (r .0)
+      ap (λ l. blockAt (sizeOf g labels) 0 l s) (r .1) ∙ block-first (sizeOf g labels) 0 s (r .0)
 
-module _ {g : Graph} {labels name : List ℕ} {lentWork : ℕ} (c : Checked g labels name lentWork) (f : Format) where
-  pub start-inside : start g (marks f .root) < length g
+module _ {g : Graph} {labels name : List ℕ} {lentWork : ℕ} (c : MacondoChecked g labels name lentWork) (f : Format) where
+  pub start-inside : startNode g (marks f .root) < length g
   start-inside = let a = root-below f in let b = c .sound .two in c .sound .steps .arcs (marks f .root) (omega arith)
 
   child-inside : (p q : ℕ) → List·Memᴰ q (childrenOf g labels p) → q < length g
@@ -100,22 +99,22 @@ module _ {g : Graph} {labels name : List ℕ} {lentWork : ℕ} (c : Checked g la
   pub block-inside : (p : ℕ) → List·Memᴰ p (blocks g labels f) → p < length g
   unfolding blocks
   block-inside =
-      every-met (childrenOf g labels) (λ p. p < length g) (λ p q h m. child-inside p q m) 64 (start g (marks f .root)) start-inside
+      every-met (childrenOf g labels) (λ p. p < length g) (λ p q h m. child-inside p q m) 64 (startNode g (marks f .root)) start-inside
 
   pub blocks-few : length (blocks g labels f) ≤ length g
   unfolding blocks
-  blocks-few = few-met (childrenOf g labels) (length g) (λ p q h m. child-inside p q m) 64 (start g (marks f .root)) start-inside
+  blocks-few = few-met (childrenOf g labels) (length g) (λ p q h m. child-inside p q m) 64 (startNode g (marks f .root)) start-inside
 
-  pub set-number-below : (p : ℕ) → List·Memᴰ p (blocks g labels f) → placeIn (sets g labels f) (setOf g labels p) < 2 ^ 24
+  pub set-number-below : (p : ℕ) → List·Memᴰ p (blocks g labels f) → placeIn (letterSets g labels f) (setOf g labels p) < 2 ^ 24
   set-number-below p m =
-      let a = place-lt (sets g labels f) (setOf g labels p) (set-met g labels f p m) in
+      let a = place-lt (letterSets g labels f) (setOf g labels p) (set-met g labels f p m) in
       let b = sets-few g labels f in
       let d = blocks-few in
       let e = c .sound .most in
       omega arith
 
-  pub sets-below : (v : ℕ) → List·Memᴰ v (sets g labels f) → v < 2 ^ 64
-  unfolding sets
+  pub sets-below : (v : ℕ) → List·Memᴰ v (letterSets g labels f) → v < 2 ^ 64
+  unfolding letterSets
   sets-below =
       firsts-from (λ v. v < 2 ^ 64) (map (setOf g labels) (blocks g labels f)) [] (λ v m. absurd (List·Memᴰ·not-nil m))
       (λ v m.
@@ -123,9 +122,9 @@ module _ {g : Graph} {labels name : List ℕ} {lentWork : ℕ} (c : Checked g la
       rw (r .2) (set-below g labels (c .fifty) (r .0)))
 
   -- every node of the file fits in four bytes: a block's head, and a node for an arc
-  pub head-below : (p : ℕ) → List·Memᴰ p (blocks g labels f) → headNode g labels f p < 2 ^ 32
+  head-below : (p : ℕ) → List·Memᴰ p (blocks g labels f) → headNode g labels f p < 2 ^ 32
   head-below p m =
-      let a = arcs-few c p in
+      let a = arcs-few g labels (c .ascending) (c .labelled) (c .fifty) p in
       let b = set-number-below p m in
       omega arith
 
@@ -145,14 +144,14 @@ module _ {g : Graph} {labels name : List ℕ} {lentWork : ℕ} (c : Checked g la
         (λ k. let x = in-map (arcNode g labels f) (arcsOf g labels (r .0)) v k in rw (x .2) (arc-below (x .0)))
         (List·Memᴰ·cases-cons (rw (block-is g labels f (r .0)) at (r .2)))
 
-  module _ (shallow : deeper g 64 (start g (marks f .root)) ≡ false) where
-    low : Low (childrenOf g labels) 64 (start g (marks f .root))
-    low = shallow-low g (childrenOf g labels) (in-children g labels) 64 (start g (marks f .root)) shallow
+  module _ (shallow : deeper g 64 (startNode g (marks f .root)) ≡ false) where
+    low : Low (childrenOf g labels) 64 (startNode g (marks f .root))
+    low = shallow-low g (childrenOf g labels) (in-children g labels) 64 (startNode g (marks f .root)) shallow
 
-    pub start-block : List·Memᴰ (start g (marks f .root)) (blocks g labels f)
+    pub start-block : List·Memᴰ (startNode g (marks f .root)) (blocks g labels f)
     unfolding blocks
-    start-block = start-met (childrenOf g labels) 64 (start g (marks f .root)) low
+    start-block = start-met (childrenOf g labels) 64 (startNode g (marks f .root)) low
 
     pub child-block : (p q : ℕ) → List·Memᴰ p (blocks g labels f) → List·Memᴰ q (arcsFrom g p) → List·Memᴰ q (blocks g labels f)
     unfolding blocks
-    child-block p q m n = children-met (childrenOf g labels) 64 (start g (marks f .root)) low p q m (children-in g labels p q n)
+    child-block p q m n = children-met (childrenOf g labels) 64 (startNode g (marks f .root)) low p q m (children-in g labels p q n)

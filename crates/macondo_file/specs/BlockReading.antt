@@ -10,18 +10,18 @@ use lib.Seq.{take-at, getD-drop, drop-drop}
 use Rattle.laws.specs.Firsts.{place-at}
 use Rattle.graph.specs.Runs.{Graph}
 use Rattle.export.specs.BlocksLaws.{block-at}
-use Rattle.macondo_file.specs.File.{Format, arcsOf, setOf, blocks, sets, blockNumber, blockOf, macondoNodes}
-use Rattle.macondo_file.specs.RowLaws.{Checked}
+use Rattle.macondo_file.specs.File.{Format, arcsOf, sizeOf, setOf, blocks, letterSets, blockNumber, blockOf, macondoNodes}
+use Rattle.macondo_file.specs.RowLaws.{MacondoChecked}
 use Rattle.macondo_file.specs.BlockLaws.{arcNode, headNode, block-is, block-length, set-met, set-number-below}
 
--- the list from a place on tells the entry there and the list after it
+-- the entry at a place and the list after it, by the list from that place on
 drop-head : (l : List ℕ) (d x : ℕ) (r : List ℕ) → drop d l ≡ x ∷ r → (getD l d 0 ≡ x) × (drop (suc d) l ≡ r)
 drop-head l d x r e = (
   ap (λ k. getD l k 0) (sym (add-zero d)) ∙ sym (getD-drop d l 0 0) ∙ ap (λ s. getD s 0 0) e,
   ap (λ k. drop k l) (sym (add-one d)) ∙ sym (drop-drop 1 d l) ∙ ap (drop 1) e,
 )
 
-module _ {g : Graph} {labels name : List ℕ} {lentWork : ℕ} (c : Checked g labels name lentWork) (f : Format) where
+module _ {g : Graph} {labels name : List ℕ} {lentWork : ℕ} (c : MacondoChecked g labels name lentWork) (f : Format) where
   abbrev nodes : List ℕ
   nodes = macondoNodes g labels f
 
@@ -29,7 +29,7 @@ module _ {g : Graph} {labels name : List ℕ} {lentWork : ℕ} (c : Checked g la
   head p = getD nodes (blockNumber g labels f p) 0
 
   pub record BlockRead (p : ℕ) : Type 0 where
-    pub set-read : getD (sets g labels f) (head p % 2 ^ 24) 0 ≡ setOf g labels p
+    pub set-read : getD (letterSets g labels f) (head p % 2 ^ 24) 0 ≡ setOf g labels p
     pub arcs-read : take (head p / 2 ^ 24) (drop (suc (blockNumber g labels f p)) nodes) ≡ map (arcNode g labels f) (arcsOf g labels p)
 
   pub block-read : (p : ℕ) → List·Memᴰ p (blocks g labels f) → BlockRead p
@@ -37,11 +37,11 @@ module _ {g : Graph} {labels name : List ℕ} {lentWork : ℕ} (c : Checked g la
   block-read p m =
       let arcs = map (arcNode g labels f) (arcsOf g labels p) in
       let count = length (arcsOf g labels p) in
-      let r = block-at (λ q. suc (length (arcsOf g labels q))) (blockOf g labels f) (block-length g labels f) (blocks g labels f) 0 p m in
+      let r = block-at (sizeOf g labels) (blockOf g labels f) (block-length g labels f) (blocks g labels f) 0 p m in
       let at : blockNumber g labels f p ≡ r .0 = r .2 ∙ zero-add (r .0) in
       let e = drop-head nodes (r .0) (headNode g labels f p) (arcs ++ r .1) (r .3 ∙ ap (_++ r .1) (block-is g labels f p)) in
       let h = set-number-below c f p m in
       record {
-        set-read = rw (at, e .0, low count 24 h) (place-at (sets g labels f) (setOf g labels p) (set-met g labels f p m));
+        set-read = rw (at, e .0, low count 24 h) (place-at (letterSets g labels f) (setOf g labels p) (set-met g labels f p m));
         arcs-read = rw (at, e .0, high count 24 h, e .1) (take-at arcs (r .1) count (length-map (arcsOf g labels p) (arcNode g labels f)));
       }

@@ -10,8 +10,8 @@ use Rattle.laws.specs.Lists.{kept, joinAll}
 use Rattle.laws.specs.Sorting.{sorted}
 use Rattle.endian.specs.Bytes.{bigEndian, bigEndians}
 use Rattle.node.specs.Nodes.{KBWG, tile, arc, accepts}
-use Rattle.graph.specs.Runs.{Graph}
-use Rattle.export.specs.Starts.{start, runOf, hasArc}
+use Rattle.graph.specs.Runs.{Graph, startNode}
+use Rattle.export.specs.Starts.{runOf, hasArc}
 use Rattle.export.specs.Blocks.{met, blockAt}
 use Rattle.macondo_file.specs.Alphabet.{precedes, letters, letterOf}
 
@@ -44,27 +44,38 @@ module _ (g : Graph) (labels : List ℕ) where
   unfoldable pub arcsOf : ℕ → List ℕ
   arcsOf p = sorted (λ v w. precedes labels (tile KBWG v) (tile KBWG w)) (kept hasArc (runOf g p))
 
+  -- the blocks that the arcs of p's block lead to
+  abbrev pub childrenOf : ℕ → List ℕ
+  childrenOf p = map (arc KBWG) (arcsOf p)
+
+  -- "A block is one head, then its arcs": its nodes
+  abbrev pub sizeOf : ℕ → ℕ
+  sizeOf p = suc (length (arcsOf p))
+
+  -- "Blocks are numbered depth first, each before its children", from the start node
+  abbrev pub blocksFrom : ℕ → List ℕ
+  blocksFrom s = met childrenOf 64 [] s
+
   -- "a set has bit r for the letter of rank r"
   unfoldable pub setOf : ℕ → ℕ
   setOf p = bitSet (map (λ v. letterOf labels (tile KBWG v)) (kept endsInLetter (runOf g p)))
 
   module _ (f : Format) where
-    -- "Blocks are numbered depth first, each before its children"
     unfoldable pub blocks : List ℕ
-    blocks = met (λ p. map (arc KBWG) (arcsOf p)) 64 [] (start g (marks f .root))
+    blocks = blocksFrom (startNode g (marks f .root))
 
     -- "sets from 0 by first appearance in that order"
-    unfoldable pub sets : List ℕ
-    sets = firsts [] (map setOf blocks)
+    unfoldable pub letterSets : List ℕ
+    letterSets = firsts [] (map setOf blocks)
 
     -- "A block's number is the place of its head, from 0."
     abbrev pub blockNumber : ℕ → ℕ
-    blockNumber p = blockAt (λ q. suc (length (arcsOf q))) 0 blocks p
+    blockNumber p = blockAt sizeOf 0 blocks p
 
     -- "Head: arc count × 2^24 + letter-set number; arc: letter × 2^24 + child block."
     unfoldable pub blockOf : ℕ → List ℕ
     blockOf p =
-        (length (arcsOf p) * 2 ^ 24 + placeIn sets (setOf p))
+        (length (arcsOf p) * 2 ^ 24 + placeIn letterSets (setOf p))
         ∷ map (λ v. letterOf labels (tile KBWG v) * 2 ^ 24 + blockNumber (arc KBWG v)) (arcsOf p)
 
     unfoldable pub macondoNodes : List ℕ
@@ -72,4 +83,4 @@ module _ (g : Graph) (labels : List ℕ) where
 
     unfoldable pub macondoFile : List ℕ → List ℕ
     macondoFile name =
-        marks f .magic ++ (length name ∷ name) ++ (section 4 (codePoints labels) ++ (section 8 sets ++ section 4 macondoNodes))
+        marks f .magic ++ (length name ∷ name) ++ (section 4 (codePoints labels) ++ (section 8 letterSets ++ section 4 macondoNodes))

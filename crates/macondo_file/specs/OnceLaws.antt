@@ -3,7 +3,8 @@
 use mathlib.Core.Path.{_≡_, refl, sym, ap, ap₂, _∙_, subst}
 use mathlib.Core.Bool.{true, false, not}
 use mathlib.Core.Logic.{⊎-elim}
-use mathlib.Core.List.{List, [], _∷_, map, map-map, List·Memᴰ, List·Memᴰ·head, List·Memᴰ·tail, List·Memᴰ·not-nil, List·Memᴰ·eq-of-singleton, head-eq-of-cons-eq, tail-eq-of-cons-eq, nil≢cons, Memᴰ·cast}
+use mathlib.Core.List.{List, [], _∷_, map, map-map, head-eq-of-cons-eq, tail-eq-of-cons-eq, nil≢cons}
+use mathlib.Core.List.{List·Memᴰ, List·Memᴰ·head, List·Memᴰ·tail, List·Memᴰ·not-nil, List·Memᴰ·eq-of-singleton, Memᴰ·cast}
 use Prim.Native.Nat.{ℕ, zero, suc, _/_, _%_, _^_, _≤_, _<_}
 use native.Mathlib.Omega.{arith}
 use lib.ListN.{length}
@@ -13,21 +14,21 @@ use Rattle.laws.specs.Lists.{All}
 use Rattle.laws.specs.Members.{in-map, map-in, in-kept}
 use Rattle.laws.specs.NoRepeats.{NoRepeats, no-repeats-append, no-repeats-kept, no-repeats-map}
 use Rattle.node.specs.Nodes.{KBWG, arc}
-use Rattle.graph.specs.Runs.{Graph}
+use Rattle.graph.specs.Runs.{Graph, startNode}
 use Rattle.graph.specs.Words.{Word, inOrder, wordsWithin, words}
 use Rattle.graph.specs.WordsAscend.{ascending-once, words-ascend}
 use Rattle.graph.specs.RunLaws.{in-graph}
-use Rattle.export.specs.Starts.{start, deeper}
+use Rattle.export.specs.Starts.{deeper}
 use Rattle.export.specs.ChainLaws.{arc-from}
 use Rattle.macondo_file.specs.AlphabetLaws.{letter-apart}
-use Rattle.macondo_file.specs.File.{Format, marks, arcsOf, setOf, blocks, sets, blockNumber, macondoNodes, macondoFile}
+use Rattle.macondo_file.specs.File.{Format, marks, arcsOf, setOf, blocks, letterSets, blockNumber, macondoNodes, macondoFile}
 use Rattle.macondo_file.specs.Reading.{setWords, arcWords, blockWords, macondoWords}
-use Rattle.macondo_file.specs.RowLaws.{Checked}
+use Rattle.macondo_file.specs.RowLaws.{MacondoChecked}
 use Rattle.macondo_file.specs.ArcLaws.{in-arcs, arcs-once, letters-apart}
 use Rattle.macondo_file.specs.SetLaws.{in-set-words}
 use Rattle.macondo_file.specs.BlockLaws.{arcNode, start-block, child-block}
 use Rattle.macondo_file.specs.Spelling.{renamed, endingInLetters, endsInZero}
-use Rattle.macondo_file.specs.WordLaws.{in-in-order, in-spelled, Made, ends, goes, word-node, arc-read, block-words, read-made, start-read}
+use Rattle.macondo_file.specs.WordLaws.{in-in-order, in-spelled, MadeOf, ends, goes, word-node, arc-read, block-words, read-made, start-read}
 
 -- ---- the letters of a set, and the words along arcs
 abbrev topWord : ℕ → ℕ → List Word
@@ -60,13 +61,13 @@ arc-words-once from (e ∷ l) a h =
     let y = in-map ((r .0 / 2 ^ 24) ∷_) (from (r .0 % 2 ^ 24)) w (r .2) in
     a .0 (Memᴰ·cast (head-eq-of-cons-eq (sym (x .2) ∙ y .2)) (map-in (_/ 2 ^ 24) l (r .0) (r .1))))
 
-made-some : {g : Graph} {labels : List ℕ} {from : ℕ → Word → Type 0} {p : ℕ} → Made g labels from p [] → ⊥
+made-some : {g : Graph} {labels : List ℕ} {from : ℕ → Word → Type 0} {p : ℕ} → MadeOf g labels from p [] → ⊥
 made-some (ends v m e i) = nil≢cons i
 made-some (goes v u m h n i) = nil≢cons i
 
 -- ---- the words of a block
-module _ {g : Graph} {labels name : List ℕ} {lentWork : ℕ} (c : Checked g labels name lentWork) (f : Format)
-    (few : length (macondoNodes g labels f) ≤ 2 ^ 24) (shallow : deeper g 64 (start g (marks f .root)) ≡ false) where
+module _ {g : Graph} {labels name : List ℕ} {lentWork : ℕ} (c : MacondoChecked g labels name lentWork) (f : Format)
+    (few : length (macondoNodes g labels f) ≤ 2 ^ 24) (shallow : deeper g 64 (startNode g (marks f .root)) ≡ false) where
   abbrev entry : ℕ → ℕ
   entry v = arcNode g labels f v
 
@@ -74,7 +75,7 @@ module _ {g : Graph} {labels name : List ℕ} {lentWork : ℕ} (c : Checked g la
   entries p = map entry (arcsOf g labels p)
 
   abbrev from : ℕ → ℕ → List Word
-  from k = blockWords (sets g labels f) (macondoNodes g labels f) k
+  from k = blockWords (letterSets g labels f) (macondoNodes g labels f) k
 
   -- the block that an arc's node leads to
   entry-child : (p e : ℕ) → List·Memᴰ p (blocks g labels f) → List·Memᴰ e (entries p)
@@ -130,14 +131,14 @@ module _ {g : Graph} {labels name : List ℕ} {lentWork : ℕ} (c : Checked g la
   pub words-once : NoRepeats (macondoWords (macondoFile g labels f name))
   words-once =
       subst NoRepeats (sym (start-read c f few shallow))
-      (read-once (length (macondoNodes g labels f)) (start g (marks f .root)) (start-block c f shallow))
+      (read-once (length (macondoNodes g labels f)) (startNode g (marks f .root)) (start-block c f shallow))
 
 -- ---- the words of a graph
-module _ {g : Graph} {labels name : List ℕ} {lentWork : ℕ} (c : Checked g labels name lentWork) where
-  abbrev Labelled : Word → Type 0
-  Labelled = All (λ t. t < length labels)
+module _ {g : Graph} {labels name : List ℕ} {lentWork : ℕ} (c : MacondoChecked g labels name lentWork) where
+  abbrev LabelledWord : Word → Type 0
+  LabelledWord = All (λ t. t < length labels)
 
-  tiles-labelled : (k p : ℕ) (w : Word) → List·Memᴰ w (wordsWithin KBWG k g p) → Labelled w
+  tiles-labelled : (k p : ℕ) (w : Word) → List·Memᴰ w (wordsWithin KBWG k g p) → LabelledWord w
   unfolding wordsWithin
   tiles-labelled zero p w m = absurd (List·Memᴰ·not-nil m)
   tiles-labelled (suc k) p w m =
@@ -148,13 +149,13 @@ module _ {g : Graph} {labels name : List ℕ} {lentWork : ℕ} (c : Checked g la
       (λ i. rw (i .3) (here, tiles-labelled k (arc KBWG (j .0)) (i .0) (i .2)))
       (in-spelled (λ q. wordsWithin KBWG k g q) (j .0) w (j .2))
 
-  pub spelt-labelled : (f : Format) (w : Word) → List·Memᴰ w (endingInLetters g f) → All (λ t. t < length labels) w
+  pub spelled-labelled : (f : Format) (w : Word) → List·Memᴰ w (endingInLetters g f) → All (λ t. t < length labels) w
   unfolding words
-  spelt-labelled f w m =
-      let s = start g (marks f .root) in
+  spelled-labelled f w m =
+      let s = startNode g (marks f .root) in
       tiles-labelled (length g) s w (in-kept (λ u. not (endsInZero u)) (words KBWG g s) w m .0)
 
-  renamed-apart : (u v : Word) → Labelled u → Labelled v → renamed labels u ≡ renamed labels v → u ≡ v
+  renamed-apart : (u v : Word) → LabelledWord u → LabelledWord v → renamed labels u ≡ renamed labels v → u ≡ v
   renamed-apart [] [] a b e = refl
   renamed-apart [] (x ∷ v) a b e = absurd (nil≢cons e)
   renamed-apart (t ∷ u) [] a b e = absurd (nil≢cons (sym e))
@@ -163,7 +164,7 @@ module _ {g : Graph} {labels name : List ℕ} {lentWork : ℕ} (c : Checked g la
 
   pub renamed-once : (f : Format) → NoRepeats (map (renamed labels) (endingInLetters g f))
   renamed-once f =
-      let ws = words KBWG g (start g (marks f .root)) in
+      let ws = words KBWG g (startNode g (marks f .root)) in
       no-repeats-map (renamed labels) (endingInLetters g f)
-      (λ u v m n. renamed-apart u v (spelt-labelled f u m) (spelt-labelled f v n))
-      (no-repeats-kept (λ u. not (endsInZero u)) ws (ascending-once ws (words-ascend KBWG g (c .ascending) (start g (marks f .root)))))
+      (λ u v m n. renamed-apart u v (spelled-labelled f u m) (spelled-labelled f v n))
+      (no-repeats-kept (λ u. not (endsInZero u)) ws (ascending-once ws (words-ascend KBWG g (c .ascending) (startNode g (marks f .root)))))

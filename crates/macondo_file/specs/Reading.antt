@@ -19,10 +19,10 @@ arcWords from v = map ((v / 2 ^ 24) ∷_) (from (v % 2 ^ 24))
 
 -- the words from block b that follow fewer than k arcs
 unfoldable pub blockWords : List ℕ → List ℕ → ℕ → ℕ → List Word
-blockWords sets nodes zero b = []
-blockWords sets nodes (suc k) b =
-    setWords 64 (getD sets (getD nodes b 0 % 2 ^ 24) 0)
-    ++ inOrder (arcWords (blockWords sets nodes k)) (take (getD nodes b 0 / 2 ^ 24) (drop (suc b) nodes))
+blockWords letterSets nodes zero b = []
+blockWords letterSets nodes (suc k) b =
+    setWords 64 (getD letterSets (getD nodes b 0 % 2 ^ 24) 0)
+    ++ inOrder (arcWords (blockWords letterSets nodes k)) (take (getD nodes b 0 / 2 ^ 24) (drop (suc b) nodes))
 
 -- a section: its count, its numbers, and the bytes after it
 abbrev pub countAt : List ℕ → ℕ
@@ -38,15 +38,15 @@ after width bytes = drop (4 + width * countAt bytes) bytes
 abbrev pub lettersIn : List ℕ → List ℕ
 lettersIn file = drop (5 + getD file 4 0) file
 
-abbrev pub setsIn : List ℕ → List ℕ
-setsIn file = after 4 (lettersIn file)
+abbrev pub setsRead : List ℕ → List ℕ
+setsRead file = after 4 (lettersIn file)
 
 abbrev pub nodesIn : List ℕ → List ℕ
-nodesIn file = after 8 (setsIn file)
+nodesIn file = after 8 (setsRead file)
 
 -- "block 0's words": no path follows as many arcs as there are nodes
 unfoldable pub macondoWords : List ℕ → List Word
-macondoWords file = blockWords (numbersAt 8 (setsIn file)) (numbersAt 4 (nodesIn file)) (countAt (nodesIn file)) 0
+macondoWords file = blockWords (numbersAt 8 (setsRead file)) (numbersAt 4 (nodesIn file)) (countAt (nodesIn file)) 0
 
 -- the code point that the file has for a letter; the 50 of tile 0 has none there, and is read as 5E, where tile 0 stands "in the arc
 -- order"

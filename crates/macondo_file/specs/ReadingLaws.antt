@@ -18,10 +18,10 @@ use Rattle.endian.specs.BigLaws.{big-length, bigs-length, big-back, numbers-bac
 use Rattle.graph.specs.Runs.{Graph}
 use Rattle.macondo_file.specs.Alphabet.{codePoint, letters, letterOf}
 use Rattle.macondo_file.specs.AlphabetLaws.{in-letters, code-point-at, code-points-length}
-use Rattle.macondo_file.specs.File.{Format, dawg, gaddag, marks, sets, macondoNodes, codePoints, macondoFile}
-use Rattle.macondo_file.specs.Reading.{blockWords, countAt, numbersAt, after, lettersIn, setsIn, nodesIn, macondoWords, codePointIn}
+use Rattle.macondo_file.specs.File.{Format, dawg, gaddag, marks, letterSets, macondoNodes, codePoints, macondoFile}
+use Rattle.macondo_file.specs.Reading.{blockWords, countAt, numbersAt, after, lettersIn, setsRead, nodesIn, macondoWords, codePointIn}
 use Rattle.macondo_file.specs.Row.{noCodePoint}
-use Rattle.macondo_file.specs.RowLaws.{Checked}
+use Rattle.macondo_file.specs.RowLaws.{MacondoChecked}
 use Rattle.macondo_file.specs.BlockLaws.{sets-few, blocks-few, sets-below, nodes-below}
 
 -- ---- one section: its count, then its numbers
@@ -66,7 +66,7 @@ module _ (g : Graph) (labels : List ℕ) (f : Format) (name : List ℕ) where
   nodePart = written 4 (macondoNodes g labels f)
 
   abbrev setPart : List ℕ
-  setPart = written 8 (sets g labels f) ++ nodePart
+  setPart = written 8 (letterSets g labels f) ++ nodePart
 
   abbrev letterPart : List ℕ
   letterPart = written 4 (codePoints labels) ++ setPart
@@ -82,16 +82,16 @@ module _ (g : Graph) (labels : List ℕ) (f : Format) (name : List ℕ) where
   front-length = let a = magic-length f in length-append (marks f .magic) (length name ∷ name) ∙ omega arith
 
   pub file-length : length (macondoFile g labels f name)
-      ≡ 17 + length name + 4 * (length labels - 1) + 8 * length (sets g labels f) + 4 * length (macondoNodes g labels f)
+      ≡ 17 + length name + 4 * (length labels - 1) + 8 * length (letterSets g labels f) + 4 * length (macondoNodes g labels f)
   file-length =
       let a = front-length in
       let b = code-points-length labels in
       let c = section-length 4 (codePoints labels) in
-      let d = section-length 8 (sets g labels f) in
+      let d = section-length 8 (letterSets g labels f) in
       let e = section-length 4 (macondoNodes g labels f) in
       let h = length-append front letterPart in
       let i = length-append (written 4 (codePoints labels)) setPart in
-      let j = length-append (written 8 (sets g labels f)) nodePart in
+      let j = length-append (written 8 (letterSets g labels f)) nodePart in
       ap length file-is ∙ omega arith
 
   name-read : getD (macondoFile g labels f name) 4 0 ≡ length name
@@ -104,7 +104,7 @@ module _ (g : Graph) (labels : List ℕ) (f : Format) (name : List ℕ) where
       ap₂ (λ n b. drop (5 + n) b) name-read file-is
       ∙ drop-at front letterPart (5 + length name) front-length
 
-module _ {g : Graph} {labels name : List ℕ} {lentWork : ℕ} (c : Checked g labels name lentWork) (f : Format)
+module _ {g : Graph} {labels name : List ℕ} {lentWork : ℕ} (c : MacondoChecked g labels name lentWork) (f : Format)
     (few : length (macondoNodes g labels f) ≤ 2 ^ 24) where
   abbrev file : List ℕ
   file = macondoFile g labels f name
@@ -115,10 +115,10 @@ module _ {g : Graph} {labels name : List ℕ} {lentWork : ℕ} (c : Checked g la
   letter-count-back : countAt (lettersIn file) ≡ length (codePoints labels)
   letter-count-back = ap countAt (letters-read g labels f name) ∙ section-count 4 (codePoints labels) (setPart g labels f name) letters-counted
 
-  sets-read : setsIn file ≡ setPart g labels f name
+  sets-read : setsRead file ≡ setPart g labels f name
   sets-read = ap (after 4) (letters-read g labels f name) ∙ section-after 4 (codePoints labels) (setPart g labels f name) letters-counted
 
-  sets-counted : length (sets g labels f) < 256 ^ 4
+  sets-counted : length (letterSets g labels f) < 256 ^ 4
   sets-counted =
       let a = sets-few g labels f in
       let b = blocks-few c f in
@@ -128,14 +128,14 @@ module _ {g : Graph} {labels name : List ℕ} {lentWork : ℕ} (c : Checked g la
   nodes-read : nodesIn file ≡ nodePart g labels f name ++ []
   nodes-read =
       ap (after 8) sets-read
-      ∙ section-after 8 (sets g labels f) (nodePart g labels f name) sets-counted
+      ∙ section-after 8 (letterSets g labels f) (nodePart g labels f name) sets-counted
       ∙ sym (append-nil (nodePart g labels f name))
 
-  sets-back : numbersAt 8 (setsIn file) ≡ sets g labels f
-  sets-back = ap (numbersAt 8) sets-read ∙ section-numbers 8 (sets g labels f) (nodePart g labels f name) sets-counted (sets-below c f)
+  sets-back : numbersAt 8 (setsRead file) ≡ letterSets g labels f
+  sets-back = ap (numbersAt 8) sets-read ∙ section-numbers 8 (letterSets g labels f) (nodePart g labels f name) sets-counted (sets-below c f)
 
-  set-count-back : countAt (setsIn file) ≡ length (sets g labels f)
-  set-count-back = ap countAt sets-read ∙ section-count 8 (sets g labels f) (nodePart g labels f name) sets-counted
+  set-count-back : countAt (setsRead file) ≡ length (letterSets g labels f)
+  set-count-back = ap countAt sets-read ∙ section-count 8 (letterSets g labels f) (nodePart g labels f name) sets-counted
 
   nodes-back : numbersAt 4 (nodesIn file) ≡ macondoNodes g labels f
   nodes-back = ap (numbersAt 4) nodes-read ∙ section-numbers 4 (macondoNodes g labels f) [] (omega arith) (nodes-below c f few)
@@ -144,7 +144,7 @@ module _ {g : Graph} {labels name : List ℕ} {lentWork : ℕ} (c : Checked g la
   count-back = ap countAt nodes-read ∙ section-count 4 (macondoNodes g labels f) [] (omega arith)
 
   -- the reader walks the sets and nodes that were written
-  pub file-read : macondoWords file ≡ blockWords (sets g labels f) (macondoNodes g labels f) (length (macondoNodes g labels f)) 0
+  pub file-read : macondoWords file ≡ blockWords (letterSets g labels f) (macondoNodes g labels f) (length (macondoNodes g labels f)) 0
   unfolding macondoWords
   file-read i = blockWords (sets-back i) (nodes-back i) (count-back i) 0
 
@@ -153,7 +153,7 @@ module _ {g : Graph} {labels name : List ℕ} {lentWork : ℕ} (c : Checked g la
   letters-told = letter-count-back ∙ code-points-length labels
 
   pub bytes-told : length file
-      ≡ 5 + getD file 4 0 + (4 + 4 * countAt (lettersIn file)) + (4 + 8 * countAt (setsIn file)) + (4 + 4 * countAt (nodesIn file))
+      ≡ 5 + getD file 4 0 + (4 + 4 * countAt (lettersIn file)) + (4 + 8 * countAt (setsRead file)) + (4 + 4 * countAt (nodesIn file))
   bytes-told =
       let a = file-length g labels f name in
       let b = name-read g labels f name in

@@ -5,11 +5,11 @@ use Prim.Native.Nat.{ℕ, _*_, _^_}
 use lib.Dec.{eqb, ltb, leb}
 use lib.ListN.{length, drop}
 use Rattle.laws.specs.Lists.{someOf}
-use Rattle.node.specs.Answers.{refusing, Row, firstOf}
+use Rattle.answers.specs.Answers.{refusing, Row, firstOf}
 use Rattle.node.specs.Nodes.{KBWG}
-use Rattle.graph.specs.Runs.{Graph, ascends}
+use Rattle.graph.specs.Runs.{Graph, ascends, startNode}
 use Rattle.graph.specs.Checks.{graphRow}
-use Rattle.export.specs.Starts.{start, unlabelled, deeper}
+use Rattle.export.specs.Starts.{unlabelled, deeper}
 use Rattle.export.specs.Written.{Written, written}
 use Rattle.macondo_file.specs.File.{Format, marks, macondoNodes, macondoFile}
 
@@ -18,8 +18,8 @@ abbrev pub noCodePoint : ℕ → Bool
 noCodePoint c = (leb 0xD800 c && leb c 0xDFFF) || leb 0x110000 c
 
 -- the checks before the walk
-abbrev pub checkRow : Graph → List ℕ → List ℕ → ℕ → Row
-checkRow g labels name lentWork =
+abbrev pub macondoChecks : Graph → List ℕ → List ℕ → ℕ → Row
+macondoChecks g labels name lentWork =
     graphRow g
     ++ (eqb (length labels) 0 || ltb 50 (length labels), refusing 18 [])
     ∷ (ltb 255 (length name), refusing 19 [])
@@ -29,16 +29,16 @@ checkRow g labels name lentWork =
     ∷ []
 
 -- those of the walk, the letters ("tiles 1 up") and the sizes
-abbrev pub walkRow : Graph → List ℕ → List ℕ → Format → ℕ → Row
-walkRow g labels name f lentFile =
-    (deeper g 64 (start g (marks f .root)), refusing 22 [])
+abbrev pub macondoWalkRow : Graph → List ℕ → List ℕ → Format → ℕ → Row
+macondoWalkRow g labels name f lentFile =
+    (deeper g 64 (startNode g (marks f .root)), refusing 22 [])
     ∷ (someOf noCodePoint (drop 1 labels), refusing 23 [])
     ∷ (ltb (2 ^ 24) (length (macondoNodes g labels f)), refusing 25 [])
     ∷ (ltb lentFile (length (macondoFile g labels f name)), refusing 11 [])
     ∷ []
 
 unfoldable pub macondoRow : Graph → List ℕ → List ℕ → Format → ℕ → ℕ → Row
-macondoRow g labels name f lentWork lentFile = checkRow g labels name lentWork ++ walkRow g labels name f lentFile
+macondoRow g labels name f lentWork lentFile = macondoChecks g labels name lentWork ++ macondoWalkRow g labels name f lentFile
 
 -- what the call answers, and the file after it
 unfoldable pub toMacondo : Graph → List ℕ → List ℕ → Format → ℕ → List ℕ → Written

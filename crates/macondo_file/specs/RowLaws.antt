@@ -1,4 +1,4 @@
--- What a file that is not refused tells of its graph, labels and name.
+-- What follows for graph, labels and name where a file is not refused.
 use mathlib.Core.Path.{_≡_, sym, _∙_}
 use mathlib.Core.Bool.{true, false}
 use mathlib.Core.List.{List, List·Memᴰ}
@@ -11,18 +11,18 @@ use borrow.Author.Tests.{ltb-false, leb-false, eqb-false, not-false}
 use Rattle.laws.specs.Cases.{or-false-left, or-false-right}
 use Rattle.laws.specs.Lists.{someOf}
 use Rattle.laws.specs.Members.{none-of}
-use Rattle.node.specs.Answers.{firstOf}
-use Rattle.node.specs.RowLaws.{row-passed, rows-pass, rows-passed}
+use Rattle.answers.specs.Answers.{firstOf}
+use Rattle.answers.specs.RowLaws.{row-passed, rows-pass, rows-passed}
 use Rattle.node.specs.Nodes.{KBWG, tile}
-use Rattle.graph.specs.Runs.{Graph, ascends}
+use Rattle.graph.specs.Runs.{Graph, ascends, startNode}
 use Rattle.graph.specs.Checks.{graphRow}
 use Rattle.graph.specs.ChecksLaws.{Fit, fit}
-use Rattle.export.specs.Starts.{start, deeper}
+use Rattle.export.specs.Starts.{deeper}
 use Rattle.macondo_file.specs.File.{Format, marks, macondoNodes, macondoFile}
-use Rattle.macondo_file.specs.Row.{noCodePoint, checkRow, walkRow, macondoRow}
+use Rattle.macondo_file.specs.Row.{noCodePoint, macondoChecks, macondoWalkRow, macondoRow}
 
 -- the checks before the walk
-pub record Checked (g : Graph) (labels name : List ℕ) (lentWork : ℕ) : Type 0 where
+pub record MacondoChecked (g : Graph) (labels name : List ℕ) (lentWork : ℕ) : Type 0 where
   pub sound : Fit g
   pub some-label : 0 < length labels
   pub fifty : length labels ≤ 50
@@ -32,9 +32,9 @@ pub record Checked (g : Graph) (labels name : List ℕ) (lentWork : ℕ) : Type 
   pub work : 8 * length g ≤ lentWork
 
 pub checked : (g : Graph) (labels name : List ℕ) (lentWork : ℕ)
-    → firstOf (checkRow g labels name lentWork) ≡ none → Checked g labels name lentWork
+    → firstOf (macondoChecks g labels name lentWork) ≡ none → MacondoChecked g labels name lentWork
 checked g labels name lentWork e =
-    let rest = drop 3 (checkRow g labels name lentWork) in
+    let rest = drop 3 (macondoChecks g labels name lentWork) in
     let sound = rows-passed (graphRow g) rest e in
     let c18 = row-passed _ _ _ (sym (rows-pass (graphRow g) rest sound) ∙ e) in
     let c19 = row-passed _ _ _ (c18 .1) in
@@ -55,14 +55,14 @@ checked g labels name lentWork e =
     }
 
 -- those of the walk, the letters and the sizes
-pub record Walked (g : Graph) (labels name : List ℕ) (f : Format) (lentFile : ℕ) : Type 0 where
-  pub shallow : deeper g 64 (start g (marks f .root)) ≡ false
+pub record MacondoWalked (g : Graph) (labels name : List ℕ) (f : Format) (lentFile : ℕ) : Type 0 where
+  pub shallow : deeper g 64 (startNode g (marks f .root)) ≡ false
   pub code-points : someOf noCodePoint (drop 1 labels) ≡ false
   pub few : length (macondoNodes g labels f) ≤ 2 ^ 24
   pub room : length (macondoFile g labels f name) ≤ lentFile
 
 pub walked : (g : Graph) (labels name : List ℕ) (f : Format) (lentFile : ℕ)
-    → firstOf (walkRow g labels name f lentFile) ≡ none → Walked g labels name f lentFile
+    → firstOf (macondoWalkRow g labels name f lentFile) ≡ none → MacondoWalked g labels name f lentFile
 walked g labels name f lentFile e =
     let c22 = row-passed _ _ _ e in
     let c23 = row-passed _ _ _ (c22 .1) in
@@ -77,15 +77,15 @@ walked g labels name f lentFile e =
 
 module _ (g : Graph) (labels name : List ℕ) (f : Format) (lentWork lentFile : ℕ)
     (e : firstOf (macondoRow g labels name f lentWork lentFile) ≡ none) where
-  passed-checks : firstOf (checkRow g labels name lentWork) ≡ none
+  passed-checks : firstOf (macondoChecks g labels name lentWork) ≡ none
   unfolding macondoRow
-  passed-checks = rows-passed (checkRow g labels name lentWork) (walkRow g labels name f lentFile) e
+  passed-checks = rows-passed (macondoChecks g labels name lentWork) (macondoWalkRow g labels name f lentFile) e
 
-  pub accepted-checks : Checked g labels name lentWork
+  pub accepted-checks : MacondoChecked g labels name lentWork
   accepted-checks = checked g labels name lentWork passed-checks
 
-  pub accepted-walk : Walked g labels name f lentFile
+  pub accepted-walk : MacondoWalked g labels name f lentFile
   unfolding macondoRow
   accepted-walk =
       walked g labels name f lentFile
-      (sym (rows-pass (checkRow g labels name lentWork) (walkRow g labels name f lentFile) passed-checks) ∙ e)
+      (sym (rows-pass (macondoChecks g labels name lentWork) (macondoWalkRow g labels name f lentFile) passed-checks) ∙ e)

@@ -10,14 +10,13 @@ use lib.Dec.{eqb}
 use lib.ListN.{length, getD}
 use Rattle.laws.specs.Lists.{kept}
 use Rattle.laws.specs.NoRepeats.{NoRepeats}
-use Rattle.node.specs.Answers.{firstOf}
+use Rattle.answers.specs.Answers.{firstOf}
 use Rattle.node.specs.Nodes.{KBWG}
-use Rattle.graph.specs.Runs.{Graph}
+use Rattle.graph.specs.Runs.{Graph, startNode}
 use Rattle.graph.specs.Words.{Word, words}
-use Rattle.export.specs.Starts.{start}
 use Rattle.macondo_file.specs.Alphabet.{codePoint, letterOf}
 use Rattle.macondo_file.specs.File.{Format, marks, macondoFile}
-use Rattle.macondo_file.specs.Reading.{countAt, lettersIn, setsIn, nodesIn, macondoWords, codePointIn, wordsInCodePoints}
+use Rattle.macondo_file.specs.Reading.{countAt, lettersIn, setsRead, nodesIn, macondoWords, codePointIn, wordsInCodePoints}
 use Rattle.macondo_file.specs.Row.{macondoRow}
 
 abbrev pub endsInZero : Word → Bool
@@ -31,7 +30,7 @@ renamed labels = map (letterOf labels)
 
 -- the words that the file should spell: those of the start node, less those ending in tile 0
 abbrev pub endingInLetters : Graph → Format → List Word
-endingInLetters g f = kept (λ w. not (endsInZero w)) (words KBWG g (start g (marks f .root)))
+endingInLetters g f = kept (λ w. not (endsInZero w)) (words KBWG g (startNode g (marks f .root)))
 
 -- the file spells the words of tiles with these labels
 pub record Spells (file labels : List ℕ) (ws : List Word) : Type 0 where
@@ -47,7 +46,7 @@ pub record Spells (file labels : List ℕ) (ws : List Word) : Type 0 where
   -- a code point for each tile from 1 up; and name and sections, as long as their counts say, fill the file to its last byte
   pub letters-told : countAt (lettersIn file) ≡ length labels - 1
   pub bytes-told : length file
-      ≡ 5 + getD file 4 0 + (4 + 4 * countAt (lettersIn file)) + (4 + 8 * countAt (setsIn file)) + (4 + 4 * countAt (nodesIn file))
+      ≡ 5 + getD file 4 0 + (4 + 4 * countAt (lettersIn file)) + (4 + 8 * countAt (setsRead file)) + (4 + 4 * countAt (nodesIn file))
 
 -- every file that the writer accepts
 abbrev pub MacondoSpells : Type 0

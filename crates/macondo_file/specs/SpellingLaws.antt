@@ -9,21 +9,21 @@ use lib.ListN.{length, drop, length-map}
 use Rattle.laws.specs.Lists.{All, someOf}
 use Rattle.laws.specs.Members.{in-map, map-in}
 use Rattle.laws.specs.NoRepeats.{same-length}
-use Rattle.graph.specs.Runs.{Graph}
+use Rattle.graph.specs.Runs.{Graph, startNode}
 use Rattle.graph.specs.Words.{Word}
-use Rattle.export.specs.Starts.{start, deeper}
+use Rattle.export.specs.Starts.{deeper}
 use Rattle.macondo_file.specs.Alphabet.{codePoint}
 use Rattle.macondo_file.specs.File.{Format, marks, macondoNodes, macondoFile}
 use Rattle.macondo_file.specs.Reading.{macondoWords, codePointIn, wordsInCodePoints}
 use Rattle.macondo_file.specs.Row.{noCodePoint}
-use Rattle.macondo_file.specs.RowLaws.{Checked, accepted-checks, accepted-walk}
+use Rattle.macondo_file.specs.RowLaws.{MacondoChecked, accepted-checks, accepted-walk}
 use Rattle.macondo_file.specs.ReadingLaws.{letters-told, bytes-told, labels-read, tile-read}
 use Rattle.macondo_file.specs.WordLaws.{words-read}
-use Rattle.macondo_file.specs.OnceLaws.{words-once, spelt-labelled, renamed-once}
+use Rattle.macondo_file.specs.OnceLaws.{words-once, spelled-labelled, renamed-once}
 use Rattle.macondo_file.specs.Spelling.{renamed, endingInLetters, MacondoSpells}
 
-module _ {g : Graph} {labels name : List ℕ} {lentWork : ℕ} (c : Checked g labels name lentWork) (f : Format)
-    (few : length (macondoNodes g labels f) ≤ 2 ^ 24) (shallow : deeper g 64 (start g (marks f .root)) ≡ false)
+module _ {g : Graph} {labels name : List ℕ} {lentWork : ℕ} (c : MacondoChecked g labels name lentWork) (f : Format)
+    (few : length (macondoNodes g labels f) ≤ 2 ^ 24) (shallow : deeper g 64 (startNode g (marks f .root)) ≡ false)
     (ok : someOf noCodePoint (drop 1 labels) ≡ false) where
   abbrev file : List ℕ
   file = macondoFile g labels f name
@@ -38,11 +38,11 @@ module _ {g : Graph} {labels name : List ℕ} {lentWork : ℕ} (c : Checked g la
         (λ m.
             let x = in-map (map (codePointIn file)) (macondoWords file) w m in
             let u = in-map (renamed labels) ws (x .0) (words-read c f few shallow (x .0) .0 (x .1)) in
-            let e = x .2 ∙ ap (map (codePointIn file)) (u .2) ∙ word-shown (u .0) (spelt-labelled c f (u .0) (u .1)) in
+            let e = x .2 ∙ ap (map (codePointIn file)) (u .2) ∙ word-shown (u .0) (spelled-labelled c f (u .0) (u .1)) in
             Memᴰ·cast e (map-in (map (codePoint labels)) ws (u .0) (u .1))),
         (λ m.
             let u = in-map (map (codePoint labels)) ws w m in
-            let e = u .2 ∙ sym (word-shown (u .0) (spelt-labelled c f (u .0) (u .1))) in
+            let e = u .2 ∙ sym (word-shown (u .0) (spelled-labelled c f (u .0) (u .1))) in
             let x = words-read c f few shallow (renamed labels (u .0)) .1 (map-in (renamed labels) ws (u .0) (u .1)) in
             Memᴰ·cast e (map-in (map (codePointIn file)) (macondoWords file) (renamed labels (u .0)) x)),
       )

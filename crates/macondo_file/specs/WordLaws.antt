@@ -3,7 +3,9 @@
 use mathlib.Core.Path.{_≡_, refl, sym, ap, ap₂, _∙_, subst}
 use mathlib.Core.Bool.{Bool, true, false, not}
 use mathlib.Core.Logic.{_⊎_, inl, inr, ⊎-elim, _↔_}
-use mathlib.Core.List.{List, [], _∷_, _++_, map, List·Memᴰ, List·Memᴰ·head, List·Memᴰ·not-nil, List·Memᴰ·eq-of-singleton, List·Memᴰ·append-cases, Memᴰ·append-left, Memᴰ·append-right, Memᴰ·cast}
+use mathlib.Core.List.{List, [], _∷_, _++_, map}
+use mathlib.Core.List.{List·Memᴰ, List·Memᴰ·head, List·Memᴰ·not-nil, List·Memᴰ·eq-of-singleton, List·Memᴰ·append-cases}
+use mathlib.Core.List.{Memᴰ·append-left, Memᴰ·append-right, Memᴰ·cast}
 use Prim.Native.Nat.{ℕ, zero, suc, _/_, _%_, _^_, _≤_, _<_}
 use native.Mathlib.Omega.{arith}
 use lib.Dec.{eqb}
@@ -14,17 +16,17 @@ use Rattle.laws.specs.Cases.{split, and-left, and-right}
 use Rattle.laws.specs.Lists.{kept, joinAll, all-mem}
 use Rattle.laws.specs.Members.{in-map, map-in, in-kept, kept-in, in-join, join-in}
 use Rattle.node.specs.Nodes.{KBWG, tile, arc, accepts}
-use Rattle.graph.specs.Runs.{Graph, ascends}
+use Rattle.graph.specs.Runs.{Graph, ascends, startNode}
 use Rattle.graph.specs.Words.{Word, inOrder, spelled, wordsWithin, words}
 use Rattle.graph.specs.WordsAscend.{From, both}
-use Rattle.export.specs.Starts.{start, runOf, hasArc, deeper}
+use Rattle.export.specs.Starts.{runOf, hasArc, deeper}
 use Rattle.export.specs.ChainLaws.{arcsFrom, arc-from, shallow-closed, shallow-within, words-within}
 use Rattle.macondo_file.specs.Alphabet.{letterOf}
 use Rattle.macondo_file.specs.AlphabetLaws.{letter-most}
-use Rattle.macondo_file.specs.File.{Format, marks, arcsOf, endsInLetter, setOf, blocks, sets, blockNumber, macondoNodes, macondoFile}
+use Rattle.macondo_file.specs.File.{Format, marks, arcsOf, endsInLetter, setOf, blocks, letterSets, blockNumber, macondoNodes, macondoFile}
 use Rattle.macondo_file.specs.Reading.{setWords, arcWords, blockWords, macondoWords}
 use Rattle.macondo_file.specs.Spelling.{endsInZero, renamed, endingInLetters}
-use Rattle.macondo_file.specs.RowLaws.{Checked}
+use Rattle.macondo_file.specs.RowLaws.{MacondoChecked}
 use Rattle.macondo_file.specs.ArcLaws.{in-arcs, arcs-in}
 use Rattle.macondo_file.specs.SetLaws.{in-set, set-in, in-set-words, set-words-in}
 use Rattle.macondo_file.specs.BlockLaws.{arcNode, number-within, heads-few, start-number, start-inside, start-block, child-block}
@@ -77,12 +79,12 @@ module _ (g : Graph) (labels : List ℕ) where
   abbrev letterAt : ℕ → ℕ
   letterAt v = letterOf labels (tile KBWG v)
 
-  pub data Made (from : ℕ → Word → Type 0) (p : ℕ) (w : Word) : Type 0 where
-    ends : (v : ℕ) → List·Memᴰ v (runOf g p) → endsInLetter v ≡ true → w ≡ letterAt v ∷ [] → Made from p w
-    goes : (v : ℕ) (u : Word) → List·Memᴰ v (runOf g p) → hasArc v ≡ true → from (arc KBWG v) u → w ≡ letterAt v ∷ u → Made from p w
+  pub data MadeOf (from : ℕ → Word → Type 0) (p : ℕ) (w : Word) : Type 0 where
+    ends : (v : ℕ) → List·Memᴰ v (runOf g p) → endsInLetter v ≡ true → w ≡ letterAt v ∷ [] → MadeOf from p w
+    goes : (v : ℕ) (u : Word) → List·Memᴰ v (runOf g p) → hasArc v ≡ true → from (arc KBWG v) u → w ≡ letterAt v ∷ u → MadeOf from p w
 
   made-of : (from to : ℕ → Word → Type 0) (p : ℕ) → ((q : ℕ) (u : Word) → List·Memᴰ q (arcsFrom g p) → from q u → to q u)
-      → (w : Word) → Made from p w → Made to p w
+      → (w : Word) → MadeOf from p w → MadeOf to p w
   made-of from to p f w (ends v m e i) = ends v m e i
   made-of from to p f w (goes v u m h n i) = goes v u m h (f (arc KBWG v) u (arc-from g p v m h) n) i
 
@@ -120,7 +122,7 @@ module _ (g : Graph) (labels : List ℕ) where
     heard-more k p t [] m = absurd (all-mem (From 0) (W k p) [] (both KBWG g up k .0 p) m)
     heard-more k p t (x ∷ u) m = refl
 
-    made-heard : (k p : ℕ) (w : Word) → Made (Heard k) p w → Heard (suc k) p w
+    made-heard : (k p : ℕ) (w : Word) → MadeOf (Heard k) p w → Heard (suc k) p w
     made-heard k p w (ends v m e i) =
         let a = and-left (accepts KBWG v) (not (eqb (tile KBWG v) 0)) e in
         let n = and-right (accepts KBWG v) (not (eqb (tile KBWG v) 0)) e in
@@ -135,7 +137,7 @@ module _ (g : Graph) (labels : List ℕ) where
 
     -- the letter and the word after it, of a word of node v
     node-made : (k p v : ℕ) (u : Word) → List·Memᴰ v (runOf g p) → List·Memᴰ u (spelled KBWG (W k) v) → heard u ≡ true
-        → Made (Heard k) p (renamed labels u)
+        → MadeOf (Heard k) p (renamed labels u)
     node-made k p v u m n h =
         ⊎-elim
         (λ i.
@@ -147,23 +149,23 @@ module _ (g : Graph) (labels : List ℕ) where
         goes v (renamed labels (i .0)) m (i .1) (renamed-in k q (i .0) (i .2) end) (ap (renamed labels) (i .3)))
         (in-spelled (W k) v u n)
 
-    heard-made : (k p : ℕ) (w : Word) → Heard (suc k) p w → Made (Heard k) p w
+    heard-made : (k p : ℕ) (w : Word) → Heard (suc k) p w → MadeOf (Heard k) p w
     heard-made k p w n =
         let r = in-renamed (suc k) p w n in
         let j = word-node k p (r .0) (r .1) in
         rw (r .3) (node-made k p (j .0) (r .0) (j .1) (j .2) (r .2))
 
 -- ---- so are the words from a block of the file
-module _ {g : Graph} {labels name : List ℕ} {lentWork : ℕ} (c : Checked g labels name lentWork) (f : Format)
-    (few : length (macondoNodes g labels f) ≤ 2 ^ 24) (shallow : deeper g 64 (start g (marks f .root)) ≡ false) where
+module _ {g : Graph} {labels name : List ℕ} {lentWork : ℕ} (c : MacondoChecked g labels name lentWork) (f : Format)
+    (few : length (macondoNodes g labels f) ≤ 2 ^ 24) (shallow : deeper g 64 (startNode g (marks f .root)) ≡ false) where
   abbrev nodes : List ℕ
   nodes = macondoNodes g labels f
 
   abbrev entry : ℕ → ℕ
   entry v = arcNode g labels f v
 
-  abbrev Read : ℕ → ℕ → Word → Type 0
-  Read k p w = List·Memᴰ w (blockWords (sets g labels f) nodes k (blockNumber g labels f p))
+  abbrev ReadsBack : ℕ → ℕ → Word → Type 0
+  ReadsBack k p w = List·Memᴰ w (blockWords (letterSets g labels f) nodes k (blockNumber g labels f p))
 
   -- an arc's node says its letter and the block that it leads to
   pub arc-read : (p v : ℕ) → List·Memᴰ p (blocks g labels f) → List·Memᴰ v (runOf g p) → hasArc v ≡ true
@@ -175,20 +177,20 @@ module _ {g : Graph} {labels name : List ℕ} {lentWork : ℕ} (c : Checked g la
 
   module _ (k p : ℕ) (m : List·Memᴰ p (blocks g labels f)) where
     abbrev from : ℕ → List Word
-    from = blockWords (sets g labels f) nodes k
+    from = blockWords (letterSets g labels f) nodes k
 
     abbrev entries : List ℕ
     entries = map entry (arcsOf g labels p)
 
     -- the words of the block's set, and those of its arcs
-    pub block-words : blockWords (sets g labels f) nodes (suc k) (blockNumber g labels f p)
+    pub block-words : blockWords (letterSets g labels f) nodes (suc k) (blockNumber g labels f p)
         ≡ setWords 64 (setOf g labels p) ++ inOrder (arcWords from) entries
     unfolding blockWords
     block-words =
         let r = block-read c f p m in
         ap₂ (λ s l. setWords 64 s ++ inOrder (arcWords from) l) (r .set-read) (r .arcs-read)
 
-    made-read : (w : Word) → Made g labels (Read k) p w → Read (suc k) p w
+    made-read : (w : Word) → MadeOf g labels (ReadsBack k) p w → ReadsBack (suc k) p w
     made-read w (ends v n e i) =
         let small = letter-most labels (c .fifty) (tile KBWG v) in
         let here = set-words-in 64 (setOf g labels p) (letterOf labels (tile KBWG v)) (omega arith) (set-in g labels p v n e) in
@@ -200,7 +202,7 @@ module _ {g : Graph} {labels name : List ℕ} {lentWork : ℕ} (c : Checked g la
         let here = in-order-in (arcWords from) entries (entry v) ((entry v / 2 ^ 24) ∷ u) at word in
         rw block-words (Memᴰ·append-right (setWords 64 (setOf g labels p)) (Memᴰ·cast (i ∙ ap (_∷ u) (sym (r .0))) here))
 
-    pub read-made : (w : Word) → Read (suc k) p w → Made g labels (Read k) p w
+    pub read-made : (w : Word) → ReadsBack (suc k) p w → MadeOf g labels (ReadsBack k) p w
     read-made w n =
         ⊎-elim
         (λ i.
@@ -219,32 +221,32 @@ module _ {g : Graph} {labels name : List ℕ} {lentWork : ℕ} (c : Checked g la
         (List·Memᴰ·append-cases (setWords 64 (setOf g labels p)) (rw block-words at n))
 
   -- ---- so they are the same
-  read-heard : (k p : ℕ) → List·Memᴰ p (blocks g labels f) → (w : Word) → Read k p w ↔ Heard g labels k p w
+  read-heard : (k p : ℕ) → List·Memᴰ p (blocks g labels f) → (w : Word) → ReadsBack k p w ↔ Heard g labels k p w
   unfolding blockWords wordsWithin
   read-heard zero p m w = ((λ n. n), (λ n. n))
   read-heard (suc k) p m w =
-      let heard-of = made-of g labels (Read k) (Heard g labels k) p (λ q u n. read-heard k q (child-block c f shallow p q m n) u .0) w in
-      let read-of = made-of g labels (Heard g labels k) (Read k) p (λ q u n. read-heard k q (child-block c f shallow p q m n) u .1) w in (
+      let heard-of = made-of g labels (ReadsBack k) (Heard g labels k) p (λ q u n. read-heard k q (child-block c f shallow p q m n) u .0) w in
+      let read-of = made-of g labels (Heard g labels k) (ReadsBack k) p (λ q u n. read-heard k q (child-block c f shallow p q m n) u .1) w in (
         (λ n. made-heard g labels (c .ascending) k p w (heard-of (read-made k p m w n))),
         (λ n. made-read k p m w (read-of (heard-made g labels (c .ascending) k p w n))),
       )
 
   -- as many turns as there are nodes give all words from the start
-  all-words : wordsWithin KBWG (length nodes) g (start g (marks f .root)) ≡ words KBWG g (start g (marks f .root))
+  all-words : wordsWithin KBWG (length nodes) g (startNode g (marks f .root)) ≡ words KBWG g (startNode g (marks f .root))
   all-words =
-      let s = start g (marks f .root) in
+      let s = startNode g (marks f .root) in
       let d = shallow-closed g (blocks g labels f) (child-block c f shallow) 64 s (start-block c f shallow) shallow in
       words-within g (c .sound .steps) (length nodes) s (start-inside c f)
       (shallow-within g (length (blocks g labels f)) (length nodes) s (heads-few g labels f) d)
 
   -- block 0's words are those of the start's block
   pub start-read : macondoWords (macondoFile g labels f name)
-      ≡ blockWords (sets g labels f) nodes (length nodes) (blockNumber g labels f (start g (marks f .root)))
-  start-read = file-read c f few ∙ sym (ap (blockWords (sets g labels f) nodes (length nodes)) (start-number g labels f))
+      ≡ blockWords (letterSets g labels f) nodes (length nodes) (blockNumber g labels f (startNode g (marks f .root)))
+  start-read = file-read c f few ∙ sym (ap (blockWords (letterSets g labels f) nodes (length nodes)) (start-number g labels f))
 
   pub words-read : (w : Word) → List·Memᴰ w (macondoWords (macondoFile g labels f name)) ↔ List·Memᴰ w (map (renamed labels) (endingInLetters g f))
   words-read w =
-      let s = start g (marks f .root) in
+      let s = startNode g (marks f .root) in
       let n = length nodes in
       let same = read-heard n s (start-block c f shallow) w in
-      rw start-read (subst (λ ws. Read n s w ↔ List·Memᴰ w (map (renamed labels) (kept (heard g labels) ws))) all-words same)
+      rw start-read (subst (λ ws. ReadsBack n s w ↔ List·Memᴰ w (map (renamed labels) (kept (heard g labels) ws))) all-words same)

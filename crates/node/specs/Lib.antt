@@ -1,5 +1,3 @@
-pub mod Answers
-pub mod RowLaws
 pub mod Nodes
 pub mod PackingLaws
 pub mod Said

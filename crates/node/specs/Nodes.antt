@@ -1,6 +1,7 @@
 -- A node's fields, the layouts that keep them in 32 bits, and packing; from document 01, "Nodes and words".
-use mathlib.Core.Bool.{Bool, true, false, _&&_}
+use mathlib.Core.Bool.{Bool, _&&_}
 use mathlib.Core.List.{List, [], _∷_}
+use Rattle.base.specs.Numbers.{flag}
 use Prim.Native.Nat.{ℕ, suc, _+_, _-_, _*_, _/_, _%_, _^_}
 use lib.Dec.{eqb, ltb}
 
@@ -19,7 +20,7 @@ abbrev pub width : Bits → ℕ
 width b = suc (b .last) - b .first
 
 -- Where a layout keeps each field, and its fields from the lowest bit up.
-pub record Places : Type 0 where
+pub record BitLayout : Type 0 where
   pub tile : Bits
   pub accepts : Bits
   pub end : Bits
@@ -27,7 +28,7 @@ pub record Places : Type 0 where
   pub upward : List Field
 
 -- "KWG (`Node22`): tile bits 24–31, accepts 23, end 22, arc 0–21."
-abbrev pub KWG : Places
+abbrev pub KWG : BitLayout
 KWG =
     record {
       tile = bits 24 31;
@@ -38,7 +39,7 @@ KWG =
     }
 
 -- "KBWG (`Node24`): arc bits 8–31, accepts 7, end 6, tile 0–5."
-abbrev pub KBWG : Places
+abbrev pub KBWG : BitLayout
 KBWG =
     record {
       arc = bits 8 31;
@@ -48,7 +49,7 @@ KBWG =
       upward = Tile ∷ End ∷ Accepts ∷ Arc ∷ [];
     }
 
-abbrev pub at : Places → Field → Bits
+abbrev pub at : BitLayout → Field → Bits
 at y Tile = y .tile
 at y Accepts = y .accepts
 at y End = y .end
@@ -59,7 +60,7 @@ abbrev pub Values : Type 0
 Values = Field → ℕ
 
 -- ---- reading a node in the layout y
-module _ (y : Places) where
+module _ (y : BitLayout) where
   abbrev pub fields : ℕ → Values
   fields v f = v / 2 ^ at y f .first % 2 ^ width (at y f)
 
@@ -83,24 +84,20 @@ module _ (y : Places) where
   isEnd v = eqb (endBit v) 1
 
 -- ---- making a node in the layout y
-abbrev pub flag : Bool → ℕ
-flag true = 1
-flag false = 0
-
 abbrev pub values : ℕ → Bool → Bool → ℕ → Values
 values t a e r Tile = t
 values t a e r Accepts = flag a
 values t a e r End = flag e
 values t a e r Arc = r
 
-module _ (y : Places) where
+module _ (y : BitLayout) where
   -- each value at its field's place
-  abbrev pub placed : List Field → Values → ℕ
-  placed [] x = 0
-  placed (f ∷ fs) x = x f * 2 ^ at y f .first + placed fs x
+  abbrev pub fieldSum : List Field → Values → ℕ
+  fieldSum [] x = 0
+  fieldSum (f ∷ fs) x = x f * 2 ^ at y f .first + fieldSum fs x
 
   abbrev pub packed : Values → ℕ
-  packed x = placed (y .upward) x
+  packed x = fieldSum (y .upward) x
 
   -- "node doesn't fit": a flag always does
   unfoldable pub fits : Values → Bool

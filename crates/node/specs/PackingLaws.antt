@@ -4,25 +4,27 @@ use mathlib.Core.Path.{_≡_, refl, sym, ap, _∙_}
 use mathlib.Core.Bool.{Bool, true, _&&_}
 use mathlib.Core.Logic.{⊎-elim}
 use mathlib.Core.List.{List, [], _∷_, List·Memᴰ, List·Memᴰ·head, List·Memᴰ·tail, List·Memᴰ·not-nil, List·Memᴰ·cases-cons}
-use Prim.Native.Nat.{ℕ, zero, suc, _+_, _-_, _*_, _/_, _%_, _^_, _<_, _≤_}
-use native.Mathlib.Nat.{zero-add, add-assoc, add-mul, mul-assoc, mul-comm, mul-le-mul-right, suc-mul, add-mul-div-right, add-mul-mod-self-right, div-eq-of-lt, mod-eq-of-lt, mod-lt, zero-mul, div-one, mul-one, mod-add-div'}
+use Prim.Native.Nat.{ℕ, suc, _+_, _-_, _*_, _/_, _%_, _^_, _<_, _≤_}
+use native.Mathlib.Nat.{zero-add, add-assoc, add-mul, mul-assoc, mul-comm, mul-le-mul-right, suc-mul, zero-mul, mul-one}
+use native.Mathlib.Nat.{add-mul-div-right, add-mul-mod-self-right, div-eq-of-lt, mod-eq-of-lt, mod-lt, div-one, mod-add-div'}
 use native.Mathlib.Omega.{arith}
 use borrow.Author.Tests.{eqb-true, leb-true, lt-ltb}
 use lib.Dec.{eqb, leb}
 use lib.Pow.{pow-add, pow-pos, shr-shr}
 use Rattle.laws.specs.Cases.{and-left, and-right}
-use Rattle.node.specs.Nodes.{Field, Tile, Accepts, End, Arc, Bits, width, Places, KWG, KBWG, at, Values, fields, tile, accepts, isEnd, arc, flag, values, placed, packed, fits}
+use Rattle.node.specs.Nodes.{Field, Tile, Accepts, End, Arc, width, BitLayout, KWG, KBWG, at}
+use Rattle.node.specs.Nodes.{Values, fields, tile, arc, fieldSum, packed, fits}
 
 -- the fields stand one above the other, from the bit `from` to the top of 32
-abbrev pub chained : Places → ℕ → List Field → Bool
+abbrev pub chained : BitLayout → ℕ → List Field → Bool
 chained y from [] = eqb from 32
 chained y from (f ∷ fs) = eqb (at y f .first) from && leb from (at y f .last) && chained y (suc (at y f .last)) fs
 
-pub record Whole (y : Places) : Type 0 where
+pub record FillsNode (y : BitLayout) : Type 0 where
   pub chain : chained y 0 (y .upward) ≡ true
   pub each : (f : Field) → List·Memᴰ f (y .upward)
 
-pub whole-KWG : Whole KWG
+pub whole-KWG : FillsNode KWG
 whole-KWG = record { chain = refl; each = present }
   where
     present : (f : Field) → List·Memᴰ f (KWG .upward)
@@ -31,7 +33,7 @@ whole-KWG = record { chain = refl; each = present }
     present Accepts = List·Memᴰ·tail (List·Memᴰ·tail (List·Memᴰ·head refl))
     present Tile = List·Memᴰ·tail (List·Memᴰ·tail (List·Memᴰ·tail (List·Memᴰ·head refl)))
 
-pub whole-KBWG : Whole KBWG
+pub whole-KBWG : FillsNode KBWG
 whole-KBWG = record { chain = refl; each = present }
   where
     present : (f : Field) → List·Memᴰ f (KBWG .upward)
@@ -60,7 +62,7 @@ field-below r d a w hr hd =
     let m : suc d * 2 ^ a ≤ 2 ^ w * 2 ^ a = mul-le-mul-right (2 ^ a) hd in
     rw (pow-add 2 a w, mul-comm (2 ^ a) (2 ^ w)) (omega (arith, suc-mul d (2 ^ a)))
 
-module _ (y : Places) where
+module _ (y : BitLayout) where
   -- the first field of a chain, and the chain above it
   record Above (from : ℕ) (f : Field) (fs : List Field) : Type 0 where
     first : at y f .first ≡ from
@@ -77,7 +79,7 @@ module _ (y : Places) where
       record { first = a; rest = rw n at (and-right (l && m) (chained y (suc (at y f .last)) fs) c) }
 
   -- ---- packing after unpacking
-  unpacked-from : (v from : ℕ) (fs : List Field) → chained y from fs ≡ true → v < 2 ^ 32 → placed y fs (fields y v) ≡ v / 2 ^ from * 2 ^ from
+  unpacked-from : (v from : ℕ) (fs : List Field) → chained y from fs ≡ true → v < 2 ^ 32 → fieldSum y fs (fields y v) ≡ v / 2 ^ from * 2 ^ from
   unpacked-from v from [] c h = rw (eqb-true from 32 c) (rw (div-eq-of-lt h) refl)
   unpacked-from v from (f ∷ fs) c h =
       let a = above from f fs c in
@@ -87,17 +89,20 @@ module _ (y : Places) where
       ∙ field-split v p w
       ∙ ap (λ b. v / 2 ^ b * 2 ^ b) (a .first)
 
-  pub pack-unpack : Whole y → (v : ℕ) → v < 2 ^ 32 → packed y (fields y v) ≡ v
+  pub pack-unpack : FillsNode y → (v : ℕ) → v < 2 ^ 32 → packed y (fields y v) ≡ v
   pack-unpack s v h = unpacked-from v 0 (y .upward) (s .chain) h ∙ mul-one (v / 1) ∙ div-one v
 
   -- so a layout repacked to itself changes nothing
   pub fields-fit : (v : ℕ) → fits y (fields y v) ≡ true
   unfolding fits
-  fields-fit v = rw (lt-ltb _ _ (mod-lt (v / 2 ^ y .tile .first) (pow-pos (width (y .tile)))), lt-ltb _ _ (mod-lt (v / 2 ^ y .arc .first) (pow-pos (width (y .arc)))), fits)
+  fields-fit v =
+      let t = lt-ltb _ _ (mod-lt (v / 2 ^ y .tile .first) (pow-pos (width (y .tile)))) in
+      let r = lt-ltb _ _ (mod-lt (v / 2 ^ y .arc .first) (pow-pos (width (y .arc)))) in
+      rw (t, r, fits)
 
   -- ---- unpacking after packing
   module _ (x : Values) (small : (f : Field) → x f < 2 ^ width (at y f)) where
-    multiple : (from : ℕ) (fs : List Field) → chained y from fs ≡ true → (k : ℕ) × (placed y fs x ≡ k * 2 ^ from)
+    multiple : (from : ℕ) (fs : List Field) → chained y from fs ≡ true → (k : ℕ) × (fieldSum y fs x ≡ k * 2 ^ from)
     multiple from [] c = (0, sym (zero-mul (2 ^ from)))
     multiple from (f ∷ fs) c =
         let a = above from f fs c in
@@ -109,7 +114,7 @@ module _ (y : Places) where
 
     -- below the fields lies some r, made of the fields further down
     packed-above : (from : ℕ) (fs : List Field) → chained y from fs ≡ true → (r : ℕ) → r < 2 ^ from
-        → (f : Field) → List·Memᴰ f fs → fields y (r + placed y fs x) f ≡ x f
+        → (f : Field) → List·Memᴰ f fs → fields y (r + fieldSum y fs x) f ≡ x f
     packed-above from [] c r h f m = absurd (List·Memᴰ·not-nil m)
     packed-above from (g ∷ fs) c r h f m =
         let a = above from g fs c in
@@ -120,28 +125,9 @@ module _ (y : Places) where
         ⊎-elim
         (λ i. rw i (ap (λ n. fields y (r + n) g) (ap (λ n. x g * 2 ^ p + n) (k .1) ∙ field-join (x g) (k .0) p w)
         ∙ field-read r (x g) (k .0) p w hr (small g)))
-        (λ t. ap (λ n. fields y n f) (sym (add-assoc r (x g * 2 ^ p) (placed y fs x)))
+        (λ t. ap (λ n. fields y n f) (sym (add-assoc r (x g * 2 ^ p) (fieldSum y fs x)))
         ∙ packed-above (p + w) fs (a .rest) (r + x g * 2 ^ p) (field-below r (x g) p w hr (small g)) f t)
         (List·Memᴰ·cases-cons m)
 
-    pub unpack-pack : Whole y → (f : Field) → fields y (packed y x) f ≡ x f
+    pub unpack-pack : FillsNode y → (f : Field) → fields y (packed y x) f ≡ x f
     unpack-pack s f = ap (λ n. fields y n f) (sym (zero-add (packed y x))) ∙ packed-above 0 (y .upward) (s .chain) 0 (omega arith) f (s .each f)
-
--- ---- a node's own fields, its flags taken as tests
-flag-read : (b : ℕ) → b < 2 → flag (eqb b 1) ≡ b
-flag-read zero h = refl
-flag-read (suc zero) h = refl
-flag-read (suc (suc b)) h = absurd (omega arith)
-
-module _ (y : Places) (one-bit : (width (y .accepts) ≡ 1) × (width (y .end) ≡ 1)) (v : ℕ) where
-  flag-field : (b : Bits) → width b ≡ 1 → flag (eqb (v / 2 ^ b .first % 2 ^ width b) 1) ≡ v / 2 ^ b .first % 2 ^ width b
-  flag-field b h = flag-read (v / 2 ^ b .first % 2 ^ width b) (rw h (mod-lt (v / 2 ^ b .first) (omega arith)))
-
-  value-field : (f : Field) → values (tile y v) (accepts y v) (isEnd y v) (arc y v) f ≡ fields y v f
-  value-field Tile = refl
-  value-field Accepts = flag-field (y .accepts) (one-bit .0)
-  value-field End = flag-field (y .end) (one-bit .1)
-  value-field Arc = refl
-
-  pub values-fields : {t r : ℕ} {a e : Bool} → t ≡ tile y v → a ≡ accepts y v → e ≡ isEnd y v → r ≡ arc y v → values t a e r ≡ fields y v
-  values-fields pt pa pe pr = (λ i. values (pt i) (pa i) (pe i) (pr i)) ∙ (λ i f. value-field f i)

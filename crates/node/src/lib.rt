@@ -1,8 +1,8 @@
 // A node of a word graph: 32 bits that hold a tile, two flags and an arc, in one of two layouts.
 ghost use mathlib.Core.Path.{_≡_};
-ghost use Prim.Native.Nat.{_≤_};
-ghost use Rattle.node.specs.Nodes.{KWG, KBWG, tile, accepts, isEnd, arc, flag, values};
-ghost use Rattle.node.specs.Said.{placesOf, said, packAnswer, repackNodeAnswer};
+ghost use Rattle.node.specs.Nodes.{KWG, KBWG, tile, accepts, acceptsBit, isEnd, arc, values};
+ghost use Rattle.node.specs.Said.{bitLayout, saidNode, packAnswer, repackNodeAnswer};
+use base::bit;
 
 pub enum Layout {
     Kwg,
@@ -12,13 +12,6 @@ pub enum Layout {
 pub enum Packed {
     Node(u32),
     DoesNotFit { tile: u8, arc_index: u32 },
-}
-
-// A flag as a number.
-pub fn bit(b: bool) -> u32
-    ensures { λ r. ⌜ (r ≡ flag b) × (r ≤ 1) ⌝ }
-{
-    if b { 1 } else { 0 }
 }
 
 // A KWG node.
@@ -50,7 +43,7 @@ impl Node22 {
     }
 
     pub fn pack(tile: u8, accepts: bool, is_end: bool, arc_index: u32) -> Packed
-        ensures { λ r. ⌜ said r ≡ packAnswer KWG (values tile accepts «is_end» «arc_index») ⌝ }
+        ensures { λ r. ⌜ saidNode r ≡ packAnswer KWG (values tile accepts «is_end» «arc_index») ⌝ }
     {
         if 0x400000 <= arc_index {
             return Packed::DoesNotFit { tile, arc_index };
@@ -77,6 +70,13 @@ impl Node24 {
         self.0 / 0x80 % 2 == 1
     }
 
+    // The flag as the number that word numbers go on by.
+    pub fn accepts_bit(self) -> u32
+        ensures { λ r. ⌜ r ≡ acceptsBit KBWG (self .0) ⌝ }
+    {
+        self.0 / 0x80 % 2
+    }
+
     pub fn is_end(self) -> bool
         ensures { λ r. ⌜ r ≡ isEnd KBWG (self .0) ⌝ }
     {
@@ -90,7 +90,7 @@ impl Node24 {
     }
 
     pub fn pack(tile: u8, accepts: bool, is_end: bool, arc_index: u32) -> Packed
-        ensures { λ r. ⌜ said r ≡ packAnswer KBWG (values tile accepts «is_end» «arc_index») ⌝ }
+        ensures { λ r. ⌜ saidNode r ≡ packAnswer KBWG (values tile accepts «is_end» «arc_index») ⌝ }
     {
         if 0x40 <= tile {
             return Packed::DoesNotFit { tile, arc_index };
@@ -104,7 +104,7 @@ impl Node24 {
 
 // A node with these fields.
 pub fn pack(layout: Layout, tile: u8, accepts: bool, is_end: bool, arc_index: u32) -> Packed
-    ensures { λ r. ⌜ said r ≡ packAnswer (placesOf layout) (values tile accepts «is_end» «arc_index») ⌝ }
+    ensures { λ r. ⌜ saidNode r ≡ packAnswer (bitLayout layout) (values tile accepts «is_end» «arc_index») ⌝ }
 {
     match layout {
         Layout::Kwg => Node22::pack(tile, accepts, is_end, arc_index),
@@ -114,7 +114,7 @@ pub fn pack(layout: Layout, tile: u8, accepts: bool, is_end: bool, arc_index: u3
 
 // A node of one layout in the other: the same tile, flags and arc.
 pub fn repack_node(from: Layout, to: Layout, node: u32) -> Packed
-    ensures { λ r. ⌜ said r ≡ repackNodeAnswer (placesOf from) (placesOf to) node ⌝ }
+    ensures { λ r. ⌜ saidNode r ≡ repackNodeAnswer (bitLayout from) (bitLayout to) node ⌝ }
 {
     match from {
         Layout::Kwg => {

@@ -2,7 +2,7 @@
 use mathlib.Core.Path.{_≡_, refl, sym, ap, _∙_, subst}
 use mathlib.Core.Bool.{true, false, _&&_, true≢false}
 use mathlib.Core.Logic.{_≢_}
-use mathlib.Core.List.{List, [], _∷_, _++_, head-eq-of-cons-eq, tail-eq-of-cons-eq}
+use mathlib.Core.List.{List, [], _∷_, _++_, map, head-eq-of-cons-eq, tail-eq-of-cons-eq}
 use Prim.Native.Nat.{ℕ, zero, suc, _+_, _-_, _≤_, _<_}
 use native.Mathlib.Nat.{zero-add}
 use native.Mathlib.Omega.{arith}
@@ -12,14 +12,16 @@ use lib.ListN.{length, getD, drop, length-drop, length-append, length-map}
 use lib.Seq.{drop-cons}
 use Rattle.laws.specs.Members.{getD-map-in}
 use Rattle.laws.specs.Cases.{split, and-left, and-right}
-use Rattle.node.specs.Answers.{gives, nothing}
+use Rattle.answers.specs.Answers.{gives, nothing}
 use Rattle.lookup.specs.Steps.{Try, on, stop, _>>=_}
 use Rattle.node.specs.Nodes.{tile, arc, accepts, acceptsBit, KBWG, isEnd}
 use Rattle.graph.specs.Runs.{Graph, node, run}
 use Rattle.graph.specs.Words.{Word, spelled, words, count}
-use Rattle.lookup.specs.WalkLaws.{difference-on}
+use Rattle.lookup.specs.StepsLaws.{difference-on}
 use Rattle.lookup.specs.Walks.{Turn, last, down, wordsHere, turnIn, wordFrom}
-use Rattle.numbers.specs.RunWords.{own-leaf, own-arc, no-leaf, no-arc, own-word, words-end, words-on, first-word, total, at-later, accepts-one, accepts-zero}
+use Rattle.numbers.specs.RunWords.{accepts-one, accepts-zero, own-leaf, own-arc, no-leaf, no-arc, own-word}
+use Rattle.numbers.specs.RunWords.{words-end, words-on, first-word, total, at-later}
+use Rattle.numbers.specs.SomeTile.{some-tile}
 use Rattle.numbers.specs.Walkable.{Walkable}
 
 module _ (g : Graph) (nodes counted : List ℕ) (walk : Walkable g nodes counted) where
@@ -43,18 +45,23 @@ module _ (g : Graph) (nodes counted : List ℕ) (walk : Walkable g nodes counted
     left : idx - acceptsBit KBWG v < count KBWG g (arc KBWG v)
     is : getD (spelled KBWG W v) idx [] ≡ tile KBWG v ∷ getD (W (arc KBWG v)) (idx - acceptsBit KBWG v) []
 
+  -- the word with the number is one of the arc's, after the node's tile
+  down-arc : (v idx j : ℕ) → idx - acceptsBit KBWG v ≡ j → eqb (arc KBWG v) 0 ≡ false → j < length (map (tile KBWG v ∷_) (W (arc KBWG v)))
+      → getD (spelled KBWG W v) idx [] ≡ getD (map (tile KBWG v ∷_) (W (arc KBWG v))) j [] → Down v idx
+  down-arc v idx j e z h is =
+      let l = length-map (W (arc KBWG v)) (tile KBWG v ∷_) in
+      record {
+        some-arc = eqb-false (arc KBWG v) 0 z;
+        left = omega arith;
+        is = is ∙ rw e (getD-map-in (tile KBWG v ∷_) (W (arc KBWG v)) j [] [] (omega arith));
+      }
+
   down-own : (v : ℕ) (idx : ℕ) → idx < size v → idx ≢ 0 → accepts KBWG v ≡ true → eqb (arc KBWG v) 0 ≡ false → Down v idx
   down-own v zero h n a z = absurd (n refl)
   down-own v (suc j) h n a z =
       let one = accepts-one v a in
-      let e : suc j - acceptsBit KBWG v ≡ j = omega arith in
-      let l = length-map (W (arc KBWG v)) (tile KBWG v ∷_) in
       let h′ = rw (own-arc g v a z) at h in
-      record {
-        some-arc = eqb-false (arc KBWG v) 0 z;
-        left = omega arith;
-        is = rw (own-arc g v a z, e) (getD-map-in (tile KBWG v ∷_) (W (arc KBWG v)) j [] [] (omega arith));
-      }
+      down-arc v (suc j) j (omega arith) z (omega arith) (rw (own-arc g v a z))
 
   down-word : (v : ℕ) (idx : ℕ) → idx < size v → (eqb idx 0 && accepts KBWG v) ≡ false → Down v idx
   down-word v idx h n =
@@ -65,16 +72,7 @@ module _ (g : Graph) (nodes counted : List ℕ) (walk : Walkable g nodes counted
       (λ z. down-own v idx h k a z))
       (λ a. split (eqb (arc KBWG v) 0)
       (λ z. let h′ = rw (no-leaf g v a z) at h in absurd (omega arith))
-      (λ z.
-      let o = accepts-zero v a in
-      let e : idx - acceptsBit KBWG v ≡ idx = omega arith in
-      let l = length-map (W (arc KBWG v)) (tile KBWG v ∷_) in
-      let h′ = rw (no-arc g v a z) at h in
-      record {
-        some-arc = eqb-false (arc KBWG v) 0 z;
-        left = omega arith;
-        is = rw (no-arc g v a z, e) (getD-map-in (tile KBWG v ∷_) (W (arc KBWG v)) idx [] [] (omega arith));
-      }))
+      (λ z. let o = accepts-zero v a in down-arc v idx idx (omega arith) z (rw (no-arc g v a z) at h) (rw (no-arc g v a z))))
 
   -- what the walk along a run comes to
   data TurnIs (p idx : ℕ) : Try Turn → Type 0 where
@@ -85,7 +83,8 @@ module _ (g : Graph) (nodes counted : List ℕ) (walk : Walkable g nodes counted
 
   later : (p idx : ℕ) (v : ℕ) → W p ≡ spelled KBWG W v ++ W (suc p) → size v ≤ idx → {t : Try Turn} → TurnIs (suc p) (idx - size v) t → TurnIs p idx t
   later p idx v b k (ends l e) = ends (omega (arith, total g (walk .steps) (walk .loopless) p v b)) (at-later g (walk .steps) (walk .loopless) p idx v b k ∙ e)
-  later p idx v b k (goes l a m e) = goes (omega (arith, total g (walk .steps) (walk .loopless) p v b)) a m (at-later g (walk .steps) (walk .loopless) p idx v b k ∙ e)
+  later p idx v b k (goes l a m e) =
+      goes (omega (arith, total g (walk .steps) (walk .loopless) p v b)) a m (at-later g (walk .steps) (walk .loopless) p idx v b k ∙ e)
   later p idx v b k (past l) = past (omega (arith, total g (walk .steps) (walk .loopless) p v b))
 
   turn : (l : Graph) (p idx : ℕ) → drop p nodes ≡ l → p < length g → TurnIs p idx (turnIn counted l p idx)
@@ -122,36 +121,35 @@ module _ (g : Graph) (nodes counted : List ℕ) (walk : Walkable g nodes counted
   abbrev pub wordAt : ℕ → ℕ → Word
   wordAt p i = getD (W p) i []
 
-  module _ (nonempty : (q i : ℕ) → i < count KBWG g q → 0 < length (wordAt q i)) where
-    abbrev Names : ℕ → ℕ → ℕ → ℕ → Type 0
-    Names room n p i = wordFrom counted nodes room n p i ≡ (wordAt p i, gives ((n + length (wordAt p i)) ∷ []))
+  abbrev Names : ℕ → ℕ → ℕ → ℕ → Type 0
+  Names room n p i = wordFrom counted nodes room n p i ≡ (wordAt p i, gives ((n + length (wordAt p i)) ∷ []))
 
-    named-turn : (room n p i : ℕ) → i < count KBWG g p → length (wordAt p i) ≤ suc room
-        → ((m q j : ℕ) → q < length g → j < count KBWG g q → length (wordAt q j) ≤ room → Names room m q j)
-        → (t : Try Turn) → turnIn counted (drop p nodes) p i ≡ t → TurnIs p i t → Names (suc room) n p i
-    unfolding wordFrom
-    named-turn room n p i k r ih t e (ends {v} l w) = rw (e, wordFrom) (rw w (let o : suc n ≡ n + 1 = omega arith in rw o))
-    named-turn room n p i k r ih t e (goes {v} {left} l a m w) =
-        rw (e, wordFrom) (rw w (rw (ih (suc n) (arc KBWG v) left a m (let r′ = rw w at r in omega arith))
-        (let o : suc n + length (wordAt (arc KBWG v) left) ≡ n + suc (length (wordAt (arc KBWG v) left)) = omega arith in rw o)))
-    named-turn room n p i k r ih t e (past l) = absurd (omega arith)
+  named-turn : (room n p i : ℕ) → i < count KBWG g p → length (wordAt p i) ≤ suc room
+      → ((m q j : ℕ) → q < length g → j < count KBWG g q → length (wordAt q j) ≤ room → Names room m q j)
+      → (t : Try Turn) → turnIn counted (drop p nodes) p i ≡ t → TurnIs p i t → Names (suc room) n p i
+  unfolding wordFrom
+  named-turn room n p i k r ih t e (ends {v} l w) = rw (e, wordFrom) (rw w (let o : suc n ≡ n + 1 = omega arith in rw o))
+  named-turn room n p i k r ih t e (goes {v} {left} l a m w) =
+      rw (e, wordFrom) (rw w (rw (ih (suc n) (arc KBWG v) left a m (let r′ = rw w at r in omega arith))
+      (let o : suc n + length (wordAt (arc KBWG v) left) ≡ n + suc (length (wordAt (arc KBWG v) left)) = omega arith in rw o)))
+  named-turn room n p i k r ih t e (past l) = absurd (omega arith)
 
-    named-from : (room n p i : ℕ) → p < length g → i < count KBWG g p → length (wordAt p i) ≤ room → Names room n p i
-    named-from zero n p i h k r = absurd (let e = nonempty p i k in omega arith)
-    named-from (suc room) n p i h k r =
-        named-turn room n p i k r (named-from room) (turnIn counted (drop p nodes) p i) refl (turn (drop p nodes) p i refl h)
+  named-from : (room n p i : ℕ) → p < length g → i < count KBWG g p → length (wordAt p i) ≤ room → Names room n p i
+  named-from zero n p i h k r = absurd (let e = some-tile g p i k in omega arith)
+  named-from (suc room) n p i h k r =
+      named-turn room n p i k r (named-from room) (turnIn counted (drop p nodes) p i) refl (turn (drop p nodes) p i refl h)
 
-    pub named : (room p i : ℕ) → p < length g → i < count KBWG g p → length (wordAt p i) ≤ room
-        → wordFrom counted nodes room 0 p i ≡ (wordAt p i, gives (length (wordAt p i) ∷ []))
-    named room p i h k r = named-from room 0 p i h k r ∙ rw zero-add
+  pub named : (room p i : ℕ) → p < length g → i < count KBWG g p → length (wordAt p i) ≤ room
+      → wordFrom counted nodes room 0 p i ≡ (wordAt p i, gives (length (wordAt p i) ∷ []))
+  named room p i h k r = named-from room 0 p i h k r ∙ rw zero-add
 
-    past-turn : (room p i : ℕ) → count KBWG g p ≤ i → (t : Try Turn) → turnIn counted (drop p nodes) p i ≡ t → TurnIs p i t
-        → wordFrom counted nodes room 0 p i ≡ ([], nothing)
-    unfolding wordFrom
-    past-turn room p i k t e (ends l w) = absurd (omega arith)
-    past-turn room p i k t e (goes l a m w) = absurd (omega arith)
-    past-turn zero p i k t e (past l) = rw (e, wordFrom)
-    past-turn (suc room) p i k t e (past l) = rw (e, wordFrom)
+  past-turn : (room p i : ℕ) → count KBWG g p ≤ i → (t : Try Turn) → turnIn counted (drop p nodes) p i ≡ t → TurnIs p i t
+      → wordFrom counted nodes room 0 p i ≡ ([], nothing)
+  unfolding wordFrom
+  past-turn room p i k t e (ends l w) = absurd (omega arith)
+  past-turn room p i k t e (goes l a m w) = absurd (omega arith)
+  past-turn zero p i k t e (past l) = rw (e, wordFrom)
+  past-turn (suc room) p i k t e (past l) = rw (e, wordFrom)
 
-    pub other-numbers : (room p i : ℕ) → p < length g → count KBWG g p ≤ i → wordFrom counted nodes room 0 p i ≡ ([], nothing)
-    other-numbers room p i h k = past-turn room p i k (turnIn counted (drop p nodes) p i) refl (turn (drop p nodes) p i refl h)
+  pub other-numbers : (room p i : ℕ) → p < length g → count KBWG g p ≤ i → wordFrom counted nodes room 0 p i ≡ ([], nothing)
+  other-numbers room p i h k = past-turn room p i k (turnIn counted (drop p nodes) p i) refl (turn (drop p nodes) p i refl h)

@@ -11,14 +11,14 @@ use lib.ListN.{length, getD, drop, length-append, length-map}
 use lib.Seq.{getD-append-add}
 use Rattle.laws.specs.Members.{getD-map-in}
 use Rattle.laws.specs.Cases.{split}
-use Rattle.node.specs.Answers.{Answer, gives, nothing}
+use Rattle.answers.specs.Answers.{Answer, gives, nothing}
 use Rattle.lookup.specs.Steps.{Try, on, stop, _>>=_, answer, lent, difference, sum}
 use Rattle.node.specs.Nodes.{tile, arc, accepts, acceptsBit, KBWG}
 use Rattle.graph.specs.Runs.{Graph, node, ascends}
 use Rattle.graph.specs.Words.{Word, spelled, words, count}
 use Rattle.laws.specs.Lists.{all-mem}
 use Rattle.graph.specs.WordsAscend.{From}
-use Rattle.lookup.specs.WalkLaws.{lent-on, difference-on, sum-on}
+use Rattle.lookup.specs.StepsLaws.{lent-on, difference-on, sum-on}
 use Rattle.lookup.specs.Walks.{findIn, passed, indexFrom}
 use Rattle.numbers.specs.RunWords.{own-arc, no-arc, own-word, own-fits, first-word, size-fits, accepts-one, accepts-zero}
 use Rattle.numbers.specs.Walkable.{Walkable}
@@ -44,7 +44,8 @@ module _ (g : Graph) (nodes counted : List ℕ) (walk : Walkable g nodes counted
       → PassedIs p base t (r >>= λ q. lent counted q >>= λ c. difference (base + count KBWG g p) c >>= λ before. on (before, node nodes q))
   pass-found p base t k r (found {q} l e front f n) =
       let c = ap length f ∙ length-append front (W q) in
-      rw (walk .count-lent q l) (rw (difference-on (base + count KBWG g p) (count KBWG g q) (omega arith)) (let b : base + count KBWG g p - count KBWG g q ≡ base + length front = omega arith in rw (walk .same q l .1) (reaches l e front f n b)))
+      let b : base + count KBWG g p - count KBWG g q ≡ base + length front = omega arith in
+      rw (walk .count-lent q l) (rw (difference-on (base + count KBWG g p) (count KBWG g q) (omega arith)) (rw (walk .same q l .1) (reaches l e front f n b)))
   pass-found p base t k r (absent n) = ends-none n
 
   pass : (p base t : ℕ) → p < length g → p ≢ 0 → base + count KBWG g p ≤ limit → PassedIs p base t (passed limit nodes counted p base t)
@@ -97,11 +98,11 @@ module _ (g : Graph) (nodes counted : List ℕ) (walk : Walkable g nodes counted
   at-zero base u [] = refl
   at-zero base u (x ∷ xs) = refl
 
-  abbrev lastAnswer : ℕ → ℕ → Try Answer
-  lastAnswer before v = elim (accepts KBWG v && not (eqb before limit)) [ true ↦ on (gives (before ∷ [])) | false ↦ on nothing ]
+  abbrev answerAtLast : ℕ → ℕ → Try Answer
+  answerAtLast before v = elim (accepts KBWG v && not (eqb before limit)) [ true ↦ on (gives (before ∷ [])) | false ↦ on nothing ]
 
   last-found : (p base q : ℕ) (front : List Word) → q < length g → W p ≡ front ++ W q → NotIn (tile KBWG (node g q)) front → base + count KBWG g p ≤ limit
-      → (before : ℕ) → before ≡ base + length front → IndexIs p base (tile KBWG (node g q) ∷ []) (answer (lastAnswer before (node g q)))
+      → (before : ℕ) → before ≡ base + length front → IndexIs p base (tile KBWG (node g q) ∷ []) (answer (answerAtLast before (node g q)))
   last-found p base q front l f n k before b =
       split (accepts KBWG (node g q))
       (λ a.
@@ -110,15 +111,23 @@ module _ (g : Graph) (nodes counted : List ℕ) (walk : Walkable g nodes counted
       let lt = w .0 in
       let ne : eqb before limit ≡ false = ne-eqb before limit (λ x. omega arith) in
       let nb : before ≡ base + (length front + 0) = omega arith in
-      rw (a, ne, lastAnswer) (number lt (w .1 ∙ o .1) nb))
-      (λ a. rw (a, lastAnswer) (no-word (λ m. alone g nodes counted walk up (node g q) a (in-found g nodes counted walk up p q front [] l f n m))))
+      rw (a, ne, answerAtLast) (number lt (w .1 ∙ o .1) nb))
+      (λ a. rw (a, answerAtLast) (no-word (λ m. alone g nodes counted walk up (node g q) a (in-found g nodes counted walk up p q front [] l f n m))))
 
   last-tile : (p base t : ℕ) → base + count KBWG g p ≤ limit → (r : Try (ℕ × ℕ)) → PassedIs p base t r
-      → IndexIs p base (t ∷ []) (answer (r >>= λ (before, v). lastAnswer before v))
+      → IndexIs p base (t ∷ []) (answer (r >>= λ (before, v). answerAtLast before v))
   last-tile p base t k r (reaches {q} {before} l e front f n b) =
-      subst (λ x. IndexIs p base (x ∷ []) (answer (lastAnswer before (node g q)))) e
+      subst (λ x. IndexIs p base (x ∷ []) (answer (answerAtLast before (node g q)))) e
       (last-found p base q front l f (subst (λ x. NotIn x front) (sym e) n) k before b)
   last-tile p base t k r (ends-none n) = no-word (n [])
+
+  -- the walk finds the number of the word, from every node
+  abbrev Indexed : Word → Type 0
+  Indexed w = (p base : ℕ) → p < length g → p ≢ 0 → base + count KBWG g p ≤ limit → IndexIs p base w (indexFrom limit nodes counted p base w)
+
+  -- what the walk gives for a tile before others
+  abbrev moreAnswer : Word → ℕ → ℕ → Try Answer
+  moreAnswer w before v = sum limit before (acceptsBit KBWG v) >>= λ next. on (indexFrom limit nodes counted (arc KBWG v) next w)
 
   -- one tile more, by what the words of the arc come to
   more-arc : (p base q : ℕ) (front : List Word) (u : ℕ) (us : Word) → q < length g → W p ≡ front ++ W q → NotIn (tile KBWG (node g q)) front
@@ -134,9 +143,7 @@ module _ (g : Graph) (nodes counted : List ℕ) (walk : Walkable g nodes counted
 
   more-found : (p base q : ℕ) (front : List Word) (u : ℕ) (us : Word) → q < length g → W p ≡ front ++ W q → NotIn (tile KBWG (node g q)) front
       → base + count KBWG g p ≤ limit → (before : ℕ) → before ≡ base + length front
-      → ((p′ base′ : ℕ) → p′ < length g → p′ ≢ 0 → base′ + count KBWG g p′ ≤ limit → IndexIs p′ base′ (u ∷ us) (indexFrom limit nodes counted p′ base′ (u ∷ us)))
-      → IndexIs p base (tile KBWG (node g q) ∷ u ∷ us)
-      (answer (sum limit before (acceptsBit KBWG (node g q)) >>= λ next. on (indexFrom limit nodes counted (arc KBWG (node g q)) next (u ∷ us))))
+      → Indexed (u ∷ us) → IndexIs p base (tile KBWG (node g q) ∷ u ∷ us) (answer (moreAnswer (u ∷ us) before (node g q)))
   more-found p base q front u us l f n k before b ih =
       let s = size-fits g (walk .steps) (walk .loopless) q l in
       let o = own-fits g (node g q) in
@@ -154,18 +161,16 @@ module _ (g : Graph) (nodes counted : List ℕ) (walk : Walkable g nodes counted
       (ih (arc KBWG v) (before + acceptsBit KBWG v) (walk .steps .arcs q l) nz (omega arith))))
 
   more-tile : (p base t u : ℕ) (us : Word) → base + count KBWG g p ≤ limit
-      → ((p′ base′ : ℕ) → p′ < length g → p′ ≢ 0 → base′ + count KBWG g p′ ≤ limit → IndexIs p′ base′ (u ∷ us) (indexFrom limit nodes counted p′ base′ (u ∷ us)))
-      → (r : Try (ℕ × ℕ)) → PassedIs p base t r
-      → IndexIs p base (t ∷ u ∷ us)
-      (answer (r >>= λ (before, v). sum limit before (acceptsBit KBWG v) >>= λ next. on (indexFrom limit nodes counted (arc KBWG v) next (u ∷ us))))
+      → Indexed (u ∷ us) → (r : Try (ℕ × ℕ)) → PassedIs p base t r
+      → IndexIs p base (t ∷ u ∷ us) (answer (r >>= λ (before, v). moreAnswer (u ∷ us) before v))
   more-tile p base t u us k ih r (reaches {q} {before} l e front f n b) =
-      subst (λ x. IndexIs p base (x ∷ u ∷ us) (answer (sum limit before (acceptsBit KBWG (node g q)) >>= λ next. on (indexFrom limit nodes counted (arc KBWG (node g q)) next (u ∷ us))))) e
+      subst (λ x. IndexIs p base (x ∷ u ∷ us) (answer (moreAnswer (u ∷ us) before (node g q)))) e
       (more-found p base q front u us l f (subst (λ x. NotIn x front) (sym e) n) k before b ih)
   more-tile p base t u us k ih r (ends-none n) = no-word (n (u ∷ us))
 
-  pub index : (w : Word) (p base : ℕ) → p < length g → p ≢ 0 → base + count KBWG g p ≤ limit → IndexIs p base w (indexFrom limit nodes counted p base w)
+  pub index : (w : Word) → Indexed w
   unfolding indexFrom
   index [] p base h n k = no-word (no-empty p)
   index (t ∷ []) p base h n k = last-tile p base t k (passed limit nodes counted p base t) (pass p base t h n k)
   index (t ∷ u ∷ us) p base h n k =
-      more-tile p base t u us k (λ p′ base′ h′ n′ k′. index (u ∷ us) p′ base′ h′ n′ k′) (passed limit nodes counted p base t) (pass p base t h n k)
+      more-tile p base t u us k (index (u ∷ us)) (passed limit nodes counted p base t) (pass p base t h n k)

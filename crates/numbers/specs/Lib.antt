@@ -1,7 +1,9 @@
-pub mod Numbered
+pub mod WordNumbers
 pub mod Walkable
+pub mod LentLaws
+pub mod SomeTile
 pub mod RunWords
 pub mod ByNumber
 pub mod TileSearch
 pub mod ByWord
-pub mod NumberedLaws
+pub mod WordNumbersLaws

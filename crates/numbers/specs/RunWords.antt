@@ -10,7 +10,7 @@ use borrow.Author.Tests.{eqb-true, eqb-false}
 use lib.ListN.{length, getD, drop, length-append, List·getD-append}
 use lib.Seq.{getD-append-add}
 use Rattle.laws.specs.Cases.{split}
-use Rattle.node.specs.Answers.{nothing}
+use Rattle.answers.specs.Answers.{nothing}
 use Rattle.node.specs.Nodes.{tile, arc, accepts, acceptsBit, KBWG, isEnd}
 use Rattle.graph.specs.Runs.{Graph, node, run}
 use Rattle.graph.specs.Words.{Word, spelled, inOrder, words, count}

@@ -2,7 +2,8 @@
 use mathlib.Core.Path.{_≡_, refl, sym, ap, _∙_, subst}
 use mathlib.Core.Bool.{true, false}
 use mathlib.Core.Logic.{_≢_, _⊎_, ⊎-elim}
-use mathlib.Core.List.{List, [], _∷_, _++_, map, append-assoc, List·Memᴰ, List·Memᴰ·head, List·Memᴰ·tail, List·Memᴰ·not-nil, List·Memᴰ·cases-cons, List·Memᴰ·append-cases, head-eq-of-cons-eq, cons≢nil, Memᴰ·cast, List·Memᴰ·eq-of-singleton, tail-eq-of-cons-eq}
+use mathlib.Core.List.{List, [], _∷_, _++_, map, append-assoc, head-eq-of-cons-eq, tail-eq-of-cons-eq, cons≢nil}
+use mathlib.Core.List.{List·Memᴰ, List·Memᴰ·not-nil, List·Memᴰ·cases-cons, List·Memᴰ·append-cases, List·Memᴰ·eq-of-singleton, Memᴰ·cast}
 use Prim.Native.Nat.{ℕ, suc, _+_, _-_, _≤_, _<_}
 use native.Mathlib.Omega.{arith}
 use lib.Dec.{eqb}
@@ -10,14 +11,15 @@ use borrow.Author.Tests.{eqb-true, eqb-false}
 use lib.ListN.{length, getD, drop, length-drop}
 use lib.Seq.{drop-cons}
 use Rattle.laws.specs.Cases.{split}
-use Rattle.node.specs.Answers.{nothing}
+use Rattle.laws.specs.Members.{in-map}
+use Rattle.answers.specs.Answers.{nothing}
 use Rattle.lookup.specs.Steps.{Try, on, stop}
 use Rattle.node.specs.Nodes.{tile, arc, accepts, KBWG, isEnd}
 use Rattle.graph.specs.Runs.{Graph, node, run, ascends}
 use Rattle.graph.specs.Words.{Word, spelled, inOrder, words}
 use Rattle.graph.specs.Order.{Ascending}
 use Rattle.laws.specs.Lists.{All, all-mem}
-use Rattle.graph.specs.WordsAscend.{both, words-ascend, From, Begins, ascends-head, ascends-drop, spelled-begins, heads}
+use Rattle.graph.specs.WordsAscend.{both, words-ascend, From, BeginsWith, ascends-head, ascends-drop, spelled-begins, heads}
 use Rattle.lookup.specs.Walks.{findIn}
 use Rattle.numbers.specs.RunWords.{own-leaf, own-arc, no-leaf, no-arc, words-run, words-end, words-on}
 use Rattle.numbers.specs.Walkable.{Walkable}
@@ -26,7 +28,7 @@ use Rattle.numbers.specs.Walkable.{Walkable}
 abbrev pub NotIn : ℕ → List Word → Type 0
 NotIn t l = (u : Word) → List·Memᴰ (t ∷ u) l → ⊥
 
-pub not-in-append : (t : ℕ) (a b : List Word) → NotIn t a → NotIn t b → NotIn t (a ++ b)
+not-in-append : (t : ℕ) (a b : List Word) → NotIn t a → NotIn t b → NotIn t (a ++ b)
 not-in-append t a b h k u m = ⊎-elim (λ i. h u i) (λ i. k u i) (List·Memᴰ·append-cases a m)
 
 module _ (g : Graph) (nodes counted : List ℕ) (walk : Walkable g nodes counted) (up : ascends KBWG g ≡ true) where
@@ -40,8 +42,8 @@ module _ (g : Graph) (nodes counted : List ℕ) (walk : Walkable g nodes counted
   sorted : (q : ℕ) → Ascending (W q)
   sorted = words-ascend KBWG g up
 
-  pub spelled-other : (v : ℕ) (t : ℕ) → tile KBWG v ≢ t → NotIn t (spelled KBWG W v)
-  spelled-other v t n u m = n (sym (all-mem (Begins (tile KBWG v)) (spelled KBWG W v) (t ∷ u) (spelled-begins KBWG W nonempty sorted v) m))
+  spelled-other : (v : ℕ) (t : ℕ) → tile KBWG v ≢ t → NotIn t (spelled KBWG W v)
+  spelled-other v t n u m = n (sym (all-mem (BeginsWith (tile KBWG v)) (spelled KBWG W v) (t ∷ u) (spelled-begins KBWG W nonempty sorted v) m))
 
   pub data FoundIs (p t : ℕ) : Try ℕ → Type 0 where
     found : {q : ℕ} → q < length g → tile KBWG (node g q) ≡ t → (front : List Word) → W p ≡ front ++ W q → NotIn t front → FoundIs p t (on q)
@@ -49,7 +51,8 @@ module _ (g : Graph) (nodes counted : List ℕ) (walk : Walkable g nodes counted
 
   found-later : (p t : ℕ) (v : ℕ) → W p ≡ spelled KBWG W v ++ W (suc p) → NotIn t (spelled KBWG W v) → {r : Try ℕ} → FoundIs (suc p) t r → FoundIs p t r
   found-later p t v b n (found {q} l e front f k) =
-      found l e (spelled KBWG W v ++ front) (b ∙ ap (spelled KBWG W v ++_) f ∙ sym (append-assoc (spelled KBWG W v) front (W q))) (not-in-append t (spelled KBWG W v) front n k)
+      found l e (spelled KBWG W v ++ front) (b ∙ ap (spelled KBWG W v ++_) f ∙ sym (append-assoc (spelled KBWG W v) front (W q)))
+      (not-in-append t (spelled KBWG W v) front n k)
   found-later p t v b n (absent k) = absent (subst (NotIn t) (sym b) (not-in-append t (spelled KBWG W v) (W (suc p)) n k))
 
   pub find : (l : Graph) (p t : ℕ) → drop p nodes ≡ l → p < length g → FoundIs p t (findIn l p t)
@@ -76,7 +79,8 @@ module _ (g : Graph) (nodes counted : List ℕ) (walk : Walkable g nodes counted
       let d : drop q g ≡ node g q ∷ node g (suc q) ∷ drop (suc (suc q)) g = drop-cons g q 0 h ∙ ap (node g q ∷_) (drop-cons g (suc q) 0 k) in
       ascends-head KBWG (node g q) (node g (suc q)) (drop (suc (suc q)) g) (subst (λ l. ascends KBWG l ≡ true) d (ascends-drop KBWG q g up)) e
 
-  pub only-here : (q : ℕ) → q < length g → (u : Word) → List·Memᴰ (tile KBWG (node g q) ∷ u) (W q) → List·Memᴰ (tile KBWG (node g q) ∷ u) (spelled KBWG W (node g q))
+  pub only-here : (q : ℕ) → q < length g → (u : Word) → List·Memᴰ (tile KBWG (node g q) ∷ u) (W q)
+      → List·Memᴰ (tile KBWG (node g q) ∷ u) (spelled KBWG W (node g q))
   only-here q h u m =
       split (isEnd KBWG (node g q))
       (λ e. rw (words-end g (walk .steps) (walk .loopless) q h e) at m)
@@ -85,8 +89,10 @@ module _ (g : Graph) (nodes counted : List ℕ) (walk : Walkable g nodes counted
       let k = walk .steps .runs q h e in
       let lt = next-tile q h e in
       let first : getD (drop (suc q) g) 0 0 ≡ node g (suc q) = ap (λ l. getD l 0 0) (drop-cons g (suc q) 0 k) in
-      let a = heads KBWG W nonempty sorted (drop (suc q) g) (suc (tile KBWG (node g q))) (ascends-drop KBWG (suc q) g up) (subst (λ w. suc (tile KBWG (node g q)) ≤ tile KBWG w) (sym first) lt) in
-      let b = all-mem (From (suc (tile KBWG (node g q)))) (inOrder (spelled KBWG W) (run KBWG (drop (suc q) g))) _ a (rw (words-run g (walk .steps) (walk .loopless) (suc q) k) at i) in
+      let t = suc (tile KBWG (node g q)) in
+      let a = heads KBWG W nonempty sorted (drop (suc q) g) t (ascends-drop KBWG (suc q) g up) (subst (λ w. t ≤ tile KBWG w) (sym first) lt) in
+      let later = rw (words-run g (walk .steps) (walk .loopless) (suc q) k) at i in
+      let b = all-mem (From t) (inOrder (spelled KBWG W) (run KBWG (drop (suc q) g))) _ a later in
       absurd (omega arith))
       (List·Memᴰ·append-cases (spelled KBWG W (node g q)) (rw (words-on g (walk .steps) (walk .loopless) q h e) at m)))
 
@@ -95,23 +101,18 @@ module _ (g : Graph) (nodes counted : List ℕ) (walk : Walkable g nodes counted
       → List·Memᴰ (tile KBWG (node g q) ∷ u) (W p) → List·Memᴰ (tile KBWG (node g q) ∷ u) (spelled KBWG W (node g q))
   in-found p q front u l f n m = ⊎-elim (λ i. absurd (n u i)) (λ i. only-here q l u i) (List·Memᴰ·append-cases front (rw f at m))
 
-  map-tail : (t : ℕ) (ws : List Word) (w : Word) → List·Memᴰ w (map (t ∷_) ws) → (u : Word) × List·Memᴰ u ws × (w ≡ t ∷ u)
-  map-tail t [] w m = absurd (List·Memᴰ·not-nil m)
-  map-tail t (x ∷ ws) w m =
-      ⊎-elim (λ i. (x, List·Memᴰ·head refl, i)) (λ k. let r = map-tail t ws w k in (r .0, List·Memᴰ·tail (r .1), r .2)) (List·Memᴰ·cases-cons m)
-
   -- "its tile alone" is spelled only by a node that accepts
   pub alone : (v : ℕ) → accepts KBWG v ≡ false → List·Memᴰ (tile KBWG v ∷ []) (spelled KBWG W v) → ⊥
   alone v a m =
       split (eqb (arc KBWG v) 0)
       (λ z. List·Memᴰ·not-nil (rw (no-leaf g v a z) at m))
       (λ z.
-      let r = map-tail (tile KBWG v) (W (arc KBWG v)) (tile KBWG v ∷ []) (rw (no-arc g v a z) at m) in
+      let r = in-map (tile KBWG v ∷_) (W (arc KBWG v)) (tile KBWG v ∷ []) (rw (no-arc g v a z) at m) in
       let e = all-mem (From 0) (W (arc KBWG v)) (r .0) (nonempty (arc KBWG v)) (r .1) in
       subst (From 0) (sym (tail-eq-of-cons-eq (r .2))) e)
 
   under : (v : ℕ) (w : Word) → List·Memᴰ (tile KBWG v ∷ w) (map (tile KBWG v ∷_) (W (arc KBWG v))) → List·Memᴰ w (W (arc KBWG v))
-  under v w m = let r = map-tail (tile KBWG v) (W (arc KBWG v)) (tile KBWG v ∷ w) m in Memᴰ·cast (tail-eq-of-cons-eq (r .2)) (r .1)
+  under v w m = let r = in-map (tile KBWG v ∷_) (W (arc KBWG v)) (tile KBWG v ∷ w) m in Memᴰ·cast (tail-eq-of-cons-eq (r .2)) (r .1)
 
   -- a longer word is spelled by the arc
   pub longer : (v : ℕ) (u : ℕ) (us : Word) → List·Memᴰ (tile KBWG v ∷ u ∷ us) (spelled KBWG W v) → (arc KBWG v ≢ 0) × List·Memᴰ (u ∷ us) (W (arc KBWG v))

@@ -8,14 +8,15 @@ use native.Mathlib.Nat.{add-zero, zero-add}
 use native.Mathlib.Omega.{arith}
 use lib.ListN.{length, take, drop, length-append}
 use Rattle.laws.specs.Cases.{split, some≢none}
-use Rattle.laws.specs.Sets.{sets-append}
-use Rattle.node.specs.Nodes.{Places, KBWG, fields, fits}
-use Rattle.node.specs.Said.{placesOf}
+use Rattle.laws.specs.ListWrites.{sets-append}
+use Rattle.node.specs.Nodes.{BitLayout, KBWG, fields, fits}
+use Rattle.node.specs.Said.{bitLayout}
 use Rattle.node.specs.declared.Layout.{Layout}
 use Rattle.graph.specs.Runs.{Graph}
 use Rattle.endian.specs.Bytes.{wholeNodes, partNode}
 use Rattle.endian.specs.BytesLaws.{length-whole, length-part}
-use Rattle.load.specs.Repacking.{Misfit, firstMisfit, fitting}
+use Rattle.load.specs.Repacking.{firstMisfit, fitting}
+use Rattle.load.specs.declared.repack.Misfit.{Misfit}
 use Rattle.load.specs.RepackingLaws.{fitting-next, fitting-stops, misfit-later, misfit-here}
 use Rattle.load.specs.Loading.{places, zeros, holding, misfitIn, stateAt, stateAfter, nodesAfter}
 use Rattle.load.specs.StateLaws.{state-stopped}
@@ -53,12 +54,19 @@ part-zeros (x ∷ y ∷ []) = refl
 part-zeros (x ∷ y ∷ z ∷ []) = refl
 part-zeros (x ∷ y ∷ z ∷ w ∷ r) = part-zeros r
 
-module _ (old new : Places) where
-  misfit-append : (xs ys : List ℕ) (i : ℕ) → firstMisfit old new i xs ≡ none → firstMisfit old new i (xs ++ ys) ≡ firstMisfit old new (i + length xs) ys
+module _ (old new : BitLayout) where
+  misfit-after : (x : ℕ) (xs : List ℕ) (i : ℕ) {o : Option Misfit} → firstMisfit old new i (x ∷ xs) ≡ o → fits new (fields old x) ≡ true
+      → firstMisfit old new (suc i) xs ≡ o
+  misfit-after x xs i e f = sym (misfit-later old new x xs i f) ∙ e
+
+  misfit-append : (xs ys : List ℕ) (i : ℕ) → firstMisfit old new i xs ≡ none
+      → firstMisfit old new i (xs ++ ys) ≡ firstMisfit old new (i + length xs) ys
   misfit-append [] ys i e = rw add-zero
   misfit-append (x ∷ xs) ys i e =
       split (fits new (fields old x))
-      (λ f. misfit-later old new x (xs ++ ys) i f ∙ misfit-append xs ys (suc i) (sym (misfit-later old new x xs i f) ∙ e) ∙ ap (λ k. firstMisfit old new k ys) (omega arith))
+      (λ f. misfit-later old new x (xs ++ ys) i f
+      ∙ misfit-append xs ys (suc i) (misfit-after x xs i e f)
+      ∙ ap (λ k. firstMisfit old new k ys) (omega arith))
       (λ f. some≢none (sym (misfit-here old new x xs i f) ∙ e))
 
   misfit-stays : (xs ys : List ℕ) (i : ℕ) {m : Misfit} → firstMisfit old new i xs ≡ some m → firstMisfit old new i (xs ++ ys) ≡ some m
@@ -66,23 +74,25 @@ module _ (old new : Places) where
   misfit-stays [] ys i e = some≢none (sym e)
   misfit-stays (x ∷ xs) ys i e =
       split (fits new (fields old x))
-      (λ f. misfit-later old new x (xs ++ ys) i f ∙ misfit-stays xs ys (suc i) (sym (misfit-later old new x xs i f) ∙ e))
+      (λ f. misfit-later old new x (xs ++ ys) i f ∙ misfit-stays xs ys (suc i) (misfit-after x xs i e f))
       (λ f. misfit-here old new x (xs ++ ys) i f ∙ sym (misfit-here old new x xs i f) ∙ e)
 
-  fitting-append : (xs ys : List ℕ) (i : ℕ) → firstMisfit old new i xs ≡ none → fitting old new (xs ++ ys) ≡ fitting old new xs ++ fitting old new ys
+  fitting-append : (xs ys : List ℕ) (i : ℕ) → firstMisfit old new i xs ≡ none
+      → fitting old new (xs ++ ys) ≡ fitting old new xs ++ fitting old new ys
   unfolding fitting
   fitting-append [] ys i e = refl
   fitting-append (x ∷ xs) ys i e =
       split (fits new (fields old x))
-      (λ f. rw (fitting-next old new x (xs ++ ys) f, fitting-next old new x xs f, fitting-append xs ys (suc i) (sym (misfit-later old new x xs i f) ∙ e)))
+      (λ f. rw (fitting-next old new x (xs ++ ys) f, fitting-next old new x xs f, fitting-append xs ys (suc i) (misfit-after x xs i e f)))
       (λ f. some≢none (sym (misfit-here old new x xs i f) ∙ e))
 
-  fitting-stays : (xs ys : List ℕ) (i : ℕ) {m : Misfit} → firstMisfit old new i xs ≡ some m → fitting old new (xs ++ ys) ≡ fitting old new xs
+  fitting-stays : (xs ys : List ℕ) (i : ℕ) {m : Misfit} → firstMisfit old new i xs ≡ some m
+      → fitting old new (xs ++ ys) ≡ fitting old new xs
   unfolding firstMisfit
   fitting-stays [] ys i e = some≢none (sym e)
   fitting-stays (x ∷ xs) ys i e =
       split (fits new (fields old x))
-      (λ f. rw (fitting-next old new x (xs ++ ys) f, fitting-next old new x xs f, fitting-stays xs ys (suc i) (sym (misfit-later old new x xs i f) ∙ e)))
+      (λ f. rw (fitting-next old new x (xs ++ ys) f, fitting-next old new x xs f, fitting-stays xs ys (suc i) (misfit-after x xs i e f)))
       (λ f. fitting-stops old new x (xs ++ ys) f ∙ sym (fitting-stops old new x xs f))
 
   fitting-length : (xs : List ℕ) (i : ℕ) → firstMisfit old new i xs ≡ none → length (fitting old new xs) ≡ length xs
@@ -90,7 +100,7 @@ module _ (old new : Places) where
   fitting-length [] i e = refl
   fitting-length (x ∷ xs) i e =
       split (fits new (fields old x))
-      (λ f. ap length (fitting-next old new x xs f) ∙ ap suc (fitting-length xs (suc i) (sym (misfit-later old new x xs i f) ∙ e)))
+      (λ f. ap length (fitting-next old new x xs f) ∙ ap suc (fitting-length xs (suc i) (misfit-after x xs i e f)))
       (λ f. some≢none (sym (misfit-here old new x xs i f) ∙ e))
 
 -- ---- the bytes b, then the piece p
@@ -101,13 +111,14 @@ module _ (announced : ℕ) (layout : Layout) (nodes : Graph) (b p : List ℕ) wh
 
     pub misfit-joined : misfitIn layout (length b / 4) (partNode b ++ p) ≡ misfitIn layout 0 (b ++ p)
     misfit-joined =
-        sym (ap (firstMisfit (placesOf layout) KBWG 0) (whole-append b p)
-        ∙ misfit-append (placesOf layout) KBWG (wholeNodes b) (wholeNodes (partNode b ++ p)) 0 e
+        sym (ap (firstMisfit (bitLayout layout) KBWG 0) (whole-append b p)
+        ∙ misfit-append (bitLayout layout) KBWG (wholeNodes b) (wholeNodes (partNode b ++ p)) 0 e
         ∙ ap (λ k. misfitIn layout k (partNode b ++ p)) (zero-add (length (wholeNodes b)) ∙ quarter))
 
     state-on : (o : Option Misfit) → stateAt o announced layout (length b / 4) (partNode b ++ p) ≡ stateAt o announced layout 0 (b ++ p)
     state-on none =
-        let n : 4 * (length b / 4) + length (partNode b ++ p) ≡ 4 * 0 + length (b ++ p) = let l = length-part b in rw (length-append, length-append) (omega arith) in
+        let l = length-part b in
+        let n : 4 * (length b / 4) + length (partNode b ++ p) ≡ 4 * 0 + length (b ++ p) = rw (length-append, length-append) (omega arith) in
         rw (part-append b p) (ap (λ t. holding announced layout t (partNode (partNode b ++ p))) n)
     state-on (some m) = refl
 
@@ -118,18 +129,20 @@ module _ (announced : ℕ) (layout : Layout) (nodes : Graph) (b p : List ℕ) wh
     pub nodes-joined : nodesAfter layout (length b / 4) (partNode b ++ p) (nodesAfter layout 0 b nodes) ≡ nodesAfter layout 0 (b ++ p) nodes
     unfolding nodesAfter
     nodes-joined =
-        let f = fitting-append (placesOf layout) KBWG (wholeNodes b) (wholeNodes (partNode b ++ p)) 0 e in
-        let l = fitting-length (placesOf layout) KBWG (wholeNodes b) 0 e ∙ quarter in
+        let f = fitting-append (bitLayout layout) KBWG (wholeNodes b) (wholeNodes (partNode b ++ p)) 0 e in
+        let l = fitting-length (bitLayout layout) KBWG (wholeNodes b) 0 e ∙ quarter in
         sym (rw (whole-append b p, f, sets-append, zero-add, l))
 
   -- a misfit met before makes later bytes idle
   module _ {m : Misfit} (e : misfitIn layout 0 b ≡ some m) where
     pub misfit-kept : misfitIn layout 0 (b ++ p) ≡ some m
-    misfit-kept = ap (firstMisfit (placesOf layout) KBWG 0) (whole-append b p) ∙ misfit-stays (placesOf layout) KBWG (wholeNodes b) (wholeNodes (partNode b ++ p)) 0 e
+    misfit-kept =
+        ap (firstMisfit (bitLayout layout) KBWG 0) (whole-append b p)
+        ∙ misfit-stays (bitLayout layout) KBWG (wholeNodes b) (wholeNodes (partNode b ++ p)) 0 e
 
     pub state-stays : stateAfter announced layout 0 (b ++ p) ≡ stateAfter announced layout 0 b
     state-stays = state-stopped announced layout 0 (b ++ p) misfit-kept ∙ sym (state-stopped announced layout 0 b e)
 
     pub nodes-stay : nodesAfter layout 0 (b ++ p) nodes ≡ nodesAfter layout 0 b nodes
     unfolding nodesAfter
-    nodes-stay = rw (whole-append b p, fitting-stays (placesOf layout) KBWG (wholeNodes b) (wholeNodes (partNode b ++ p)) 0 e)
+    nodes-stay = rw (whole-append b p, fitting-stays (bitLayout layout) KBWG (wholeNodes b) (wholeNodes (partNode b ++ p)) 0 e)

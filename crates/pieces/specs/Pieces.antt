@@ -6,10 +6,11 @@ use mathlib.Core.Option.{Option, none, some}
 use Prim.Native.Nat.{ℕ, _+_}
 use lib.Dec.{ltb}
 use lib.ListN.{length, take, drop}
-use Rattle.node.specs.Answers.{Answer, refused, firstOf}
+use Rattle.answers.specs.Answers.{Answer, refused, firstOf}
 use Rattle.node.specs.declared.Layout.{Layout}
 use Rattle.graph.specs.Runs.{Graph}
-use Rattle.load.specs.Repacking.{Misfit, misfitAnswer}
+use Rattle.load.specs.Repacking.{misfitAnswer}
+use Rattle.load.specs.declared.repack.Misfit.{Misfit}
 use Rattle.load.specs.Loading.{beginRow, begin, Feeds, feed, finish, misfitIn, stateAfter, nodesAfter}
 use Rattle.load.specs.declared.loader.Loader.{Loader}
 
@@ -63,24 +64,31 @@ module _ (announced : ℕ) (layout : Layout) (nodes : Graph) (pieces : List (Lis
         | none ↦ feedAnswers announced layout [] pieces
       ]
 
+module _ (announced : ℕ) (layout : Layout) (nodes : Graph) where
   -- begin, and the feeds of the pieces
-  unfoldable pub fedPieces : FedAll
-  fedPieces = feedAll (begin announced layout (length nodes) .state) nodes pieces
+  unfoldable pub fedPieces : List (List ℕ) → FedAll
+  fedPieces pieces = feedAll (begin announced layout (length nodes) .state) nodes pieces
 
-  -- begin, and one feed of the joined bytes
-  unfoldable pub fedWhole : Feeds
-  fedWhole = feed (begin announced layout (length nodes) .state) nodes joined
+  -- begin, and one feed of the bytes
+  unfoldable pub oneFeed : List ℕ → Feeds
+  oneFeed bytes = feed (begin announced layout (length nodes) .state) nodes bytes
 
-  -- the claim about the whole list
-  pub record LoadsAsWhole : Type 0 where
-    pub state : fedPieces .state ≡ fedWhole .state
-    pub table : fedPieces .nodes ≡ fedWhole .nodes
-    pub finished : finish (fedPieces .state) (fedPieces .nodes) ≡ finish (fedWhole .state) (fedWhole .nodes)
-    pub answered : fedPieces .answers ≡ answers
-    -- "With no such node all joined bytes are taken, those after the last whole node are held, and the whole nodes stand in the
-    -- table; with one, the nodes before it."
-    pub taken : firstOf (beginRow announced (length nodes)) ≡ none → fedPieces .state ≡ stateAfter announced layout 0 joined
-    pub placed : fedPieces .nodes ≡ nodesAfter layout 0 joined nodes
+  -- the feeds of the pieces end as one feed of the bytes
+  pub record EndsAsOneFeed (pieces : List (List ℕ)) (bytes : List ℕ) : Type 0 where
+    pub state : fedPieces pieces .state ≡ oneFeed bytes .state
+    pub table : fedPieces pieces .nodes ≡ oneFeed bytes .nodes
+    pub finished :
+        finish (fedPieces pieces .state) (fedPieces pieces .nodes) ≡ finish (oneFeed bytes .state) (oneFeed bytes .nodes)
+
+-- the claim about every list of calls
+pub record LoadsAsWhole (announced : ℕ) (layout : Layout) (nodes : Graph) (pieces : List (List ℕ)) : Type 0 where
+  pub ends : EndsAsOneFeed announced layout nodes pieces (joined announced layout nodes pieces)
+  pub answered : fedPieces announced layout nodes pieces .answers ≡ answers announced layout nodes pieces
+  -- "With no such node all joined bytes are taken, those after the last whole node are held, and the whole nodes stand in the
+  -- table; with one, the nodes before it."
+  pub taken : firstOf (beginRow announced (length nodes)) ≡ none
+      → fedPieces announced layout nodes pieces .state ≡ stateAfter announced layout 0 (joined announced layout nodes pieces)
+  pub placed : fedPieces announced layout nodes pieces .nodes ≡ nodesAfter layout 0 (joined announced layout nodes pieces) nodes
 
 -- ---- a file of the announced length, cut into pieces anyhow
 -- the bytes up to the end of each piece, after those that came before
@@ -88,31 +96,22 @@ unfoldable pub upToEach : List ℕ → List (List ℕ) → List (List ℕ)
 upToEach before [] = []
 upToEach before (p ∷ ps) = (before ++ p) ∷ upToEach (before ++ p) ps
 
--- what one feed of some bytes answers after the same begin
-unfoldable pub oneFeed : ℕ → Layout → Graph → List ℕ → Feeds
-oneFeed announced layout nodes bytes = feed (begin announced layout (length nodes) .state) nodes bytes
-
 pub record LoadsHoweverCut (layout : Layout) (nodes : Graph) (file : List ℕ) (pieces : List (List ℕ)) : Type 0 where
-  pub state : fedPieces (length file) layout nodes pieces .state ≡ oneFeed (length file) layout nodes file .state
-  pub table : fedPieces (length file) layout nodes pieces .nodes ≡ oneFeed (length file) layout nodes file .nodes
-  pub finished :
-      let cut = fedPieces (length file) layout nodes pieces in
-      let whole = oneFeed (length file) layout nodes file in
-      finish (cut .state) (cut .nodes) ≡ finish (whole .state) (whole .nodes)
+  pub ends : EndsAsOneFeed (length file) layout nodes pieces file
   -- each feed answers as one feed of all the bytes up to its end
   pub answered : fedPieces (length file) layout nodes pieces .answers
       ≡ map (λ bytes. oneFeed (length file) layout nodes bytes .answer) (upToEach [] pieces)
 
 -- ---- begin, feeds and finish together
 -- What begin, each feed and finish answer, the state after the last feed, and the nodes after finish.
-pub record Loads : Type 0 where
+pub record LoadOutcome : Type 0 where
   pub begun : Answer
   pub fed : List Answer
   pub state : Loader
   pub finished : Answer
   pub nodes : Graph
 
-unfoldable pub loadPieces : ℕ → Layout → Graph → List (List ℕ) → Loads
+unfoldable pub loadPieces : ℕ → Layout → Graph → List (List ℕ) → LoadOutcome
 loadPieces announced layout nodes pieces =
     let all = fedPieces announced layout nodes pieces in
     let last = finish (all .state) (all .nodes) in
@@ -125,7 +124,7 @@ loadPieces announced layout nodes pieces =
     }
 
 -- all bytes as one piece
-abbrev pub loadWhole : ℕ → Layout → Graph → List ℕ → Loads
+abbrev pub loadWhole : ℕ → Layout → Graph → List ℕ → LoadOutcome
 loadWhole announced layout nodes bytes = loadPieces announced layout nodes (bytes ∷ [])
 
 -- pieces of so many bytes each, and the rest as a last one; a piece past the end has the bytes that are there

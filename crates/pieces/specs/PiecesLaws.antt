@@ -7,25 +7,27 @@ use native.Mathlib.Nat.{zero-add, le-trans, le-refl}
 use native.Mathlib.Omega.{arith}
 use borrow.Author.Tests.{ltb-true, ltb-false, le-ltb}
 use lib.Dec.{ltb}
-use lib.ListN.{length, length-append}
+use lib.ListN.{length, take, drop, length-append, take-append-drop}
 use lib.Seq.{length-sets}
 use Rattle.laws.specs.Lists.{joinAll}
 use Rattle.laws.specs.Cases.{split, split-option, some≢none}
-use Rattle.node.specs.Answers.{Answer, refused, firstOf}
+use Rattle.answers.specs.Answers.{Answer, refused, firstOf}
 use Rattle.node.specs.Nodes.{KBWG}
-use Rattle.node.specs.Said.{placesOf}
+use Rattle.node.specs.Said.{bitLayout}
 use Rattle.node.specs.declared.Layout.{Layout}
 use Rattle.graph.specs.Runs.{Graph}
 use Rattle.endian.specs.Bytes.{wholeNodes, partNode}
 use Rattle.endian.specs.BytesLaws.{length-whole, length-part}
-use Rattle.load.specs.Repacking.{Misfit, firstMisfit, fitting, misfitAnswer}
+use Rattle.load.specs.Repacking.{firstMisfit, fitting, misfitAnswer}
+use Rattle.load.specs.declared.repack.Misfit.{Misfit}
 use Rattle.load.specs.RepackingLaws.{misfit-within}
-use Rattle.load.specs.Loading.{beginRow, soundRow, begin, start, Feeds, feed, zeros, holding, stopped, misfitIn, stateAfter, nodesAfter}
+use Rattle.load.specs.Loading.{beginRow, soundRow, begin, freshLoader, Feeds, feed, zeros, holding, stopped, misfitIn, stateAfter, nodesAfter}
 use Rattle.load.specs.StateLaws.{sound-state, bad-length, state-holding, state-stopped, state-keeps}
 use Rattle.load.specs.BeginLaws.{begin-empty}
-use Rattle.load.specs.CallLaws.{feed-unsound, feed-kept, feed-long, feed-reads}
+use Rattle.load.specs.FeedLaws.{feed-unsound, feed-kept, feed-long, feed-reads}
 use Rattle.pieces.specs.JoinLaws.{part-places, part-zeros, misfit-joined, state-joined, nodes-joined, misfit-kept, state-stays, nodes-stay}
-use Rattle.pieces.specs.Pieces.{feedAll, joinedOnto, joinedFrom, pieceAnswer, feedAnswers, joined, answers, fedPieces, fedWhole, LoadsAsWhole, upToEach, oneFeed, LoadsHoweverCut}
+use Rattle.pieces.specs.Pieces.{feedAll, joinedOnto, joinedFrom, pieceAnswer, feedAnswers, joined, answers, cutAt}
+use Rattle.pieces.specs.Pieces.{fedPieces, oneFeed, EndsAsOneFeed, LoadsAsWhole, upToEach, LoadsHoweverCut}
 use Rattle.load.specs.declared.loader.Loader.{Loader}
 
 module _ (announced : ℕ) (layout : Layout) (nodes : Graph) (ok : firstOf (beginRow announced (length nodes)) ≡ none) where
@@ -41,7 +43,7 @@ module _ (announced : ℕ) (layout : Layout) (nodes : Graph) (ok : firstOf (begi
 
   nodes-length : (b : List ℕ) → length (Nd b) ≡ length nodes
   unfolding nodesAfter
-  nodes-length b = length-sets nodes 0 (fitting (placesOf layout) KBWG (wholeNodes b))
+  nodes-length b = length-sets nodes 0 (fitting (bitLayout layout) KBWG (wholeNodes b))
 
   still-ok : (b : List ℕ) → firstOf (beginRow announced (length (Nd b))) ≡ none
   still-ok b = ap (λ n. firstOf (beginRow announced n)) (nodes-length b) ∙ ok
@@ -57,7 +59,7 @@ module _ (announced : ℕ) (layout : Layout) (nodes : Graph) (ok : firstOf (begi
   unfolding stopped zeros
   sound-stopped b h {m} e =
       let l = length-whole b in
-      let w = misfit-within (placesOf layout) KBWG (wholeNodes b) 0 e in
+      let w = misfit-within (bitLayout layout) KBWG (wholeNodes b) 0 e in
       sound-state (stopped announced layout m) _ (still-ok b) (omega arith) (omega arith) refl
 
   -- ---- one feed after the bytes b
@@ -121,103 +123,98 @@ module _ (announced : ℕ) (layout : Layout) (nodes : Graph) (ok : firstOf (begi
 
 -- ---- after a refused begin
 module _ (layout : Layout) where
-  no-length : (nodes : Graph) → firstOf (soundRow (start 0 layout) (length nodes)) ≡ some (refused 4 [])
+  no-length : (nodes : Graph) → firstOf (soundRow (freshLoader 0 layout) (length nodes)) ≡ some (refused 4 [])
   unfolding holding
-  no-length nodes = bad-length (start 0 layout) (length nodes) (rw (begin-empty 0 (length nodes) refl))
+  no-length nodes = bad-length (freshLoader 0 layout) (length nodes) (rw (begin-empty 0 (length nodes) refl))
 
   refused-all : (nodes : Graph) (ps : List (List ℕ))
-      → feedAll (start 0 layout) nodes ps ≡ record { answers = map (λ p. refused 4 []) ps; state = start 0 layout; nodes = nodes }
+      → feedAll (freshLoader 0 layout) nodes ps ≡ record { answers = map (λ p. refused 4 []) ps; state = freshLoader 0 layout; nodes = nodes }
   unfolding feedAll
   refused-all nodes [] = refl
-  refused-all nodes (p ∷ ps) = rw (feed-unsound (start 0 layout) nodes p (no-length nodes)) (rw (refused-all nodes ps))
+  refused-all nodes (p ∷ ps) = rw (feed-unsound (freshLoader 0 layout) nodes p (no-length nodes)) (rw (refused-all nodes ps))
+
+-- ---- begin, and one feed
+module _ (announced : ℕ) (layout : Layout) (nodes : Graph) where
+  started : freshLoader announced layout ≡ stateAfter announced layout 0 []
+  unfolding stateAfter partNode wholeNodes firstMisfit
+  started = refl
+
+  refused-one : {r : Answer} → firstOf (beginRow announced (length nodes)) ≡ some r → (bytes : List ℕ)
+      → oneFeed announced layout nodes bytes ≡ record { answer = refused 4 []; state = freshLoader 0 layout; nodes = nodes }
+  unfolding oneFeed begin
+  refused-one e bytes = rw (e, oneFeed) (feed-unsound (freshLoader 0 layout) nodes bytes (no-length layout nodes))
+
+  one-fed : firstOf (beginRow announced (length nodes)) ≡ none → (bytes : List ℕ) → length bytes ≤ announced
+      → oneFeed announced layout nodes bytes
+      ≡ record { answer = misfitAnswer (misfitIn layout 0 bytes); state = stateAfter announced layout 0 bytes; nodes = nodesAfter layout 0 bytes nodes }
+  unfolding oneFeed begin nodesAfter wholeNodes fitting firstMisfit
+  one-fed ok bytes h = rw (ok, oneFeed) (rw started (step-joined announced layout nodes ok [] bytes zero-le refl (omega arith)))
 
 -- ---- the claim
 module _ (announced : ℕ) (layout : Layout) (nodes : Graph) (pieces : List (List ℕ)) where
-  -- from the value of each of the four
-  claim : (s : Loader) (after : Graph) (a : Answer) (bytes : List ℕ) (said : List Answer)
-      → joined announced layout nodes pieces ≡ bytes → answers announced layout nodes pieces ≡ said
+  -- from the values of the calls in pieces and of the one feed
+  ends : (s : Loader) (after : Graph) (a : Answer) (bytes : List ℕ) (said : List Answer)
       → fedPieces announced layout nodes pieces ≡ record { answers = said; state = s; nodes = after }
-      → fedWhole announced layout nodes pieces ≡ record { answer = a; state = s; nodes = after }
-      → (firstOf (beginRow announced (length nodes)) ≡ none → s ≡ stateAfter announced layout 0 bytes)
-      → after ≡ nodesAfter layout 0 bytes nodes
-      → LoadsAsWhole announced layout nodes pieces
-  claim s after a bytes said j n p w st nd = record {
-    state = rw (p, w);
-    table = rw (p, w);
-    finished = rw (p, w);
-    answered = rw (p, n);
-    taken = λ o. rw (p, j) (st o);
-    placed = rw (p, j) nd;
-  }
+      → oneFeed announced layout nodes bytes ≡ record { answer = a; state = s; nodes = after }
+      → EndsAsOneFeed announced layout nodes pieces bytes
+  ends s after a bytes said p w = record { state = rw (p, w); table = rw (p, w); finished = rw (p, w) }
 
   pieces-refused : {r : Answer} → firstOf (beginRow announced (length nodes)) ≡ some r
-      → fedPieces announced layout nodes pieces ≡ record { answers = map (λ p. refused 4 []) pieces; state = start 0 layout; nodes = nodes }
+      → fedPieces announced layout nodes pieces ≡ record { answers = map (λ p. refused 4 []) pieces; state = freshLoader 0 layout; nodes = nodes }
   unfolding fedPieces begin
   pieces-refused e = rw (e, fedPieces) (refused-all layout nodes pieces)
 
   refused-begin : {r : Answer} → firstOf (beginRow announced (length nodes)) ≡ some r → LoadsAsWhole announced layout nodes pieces
-  unfolding joined answers fedWhole begin nodesAfter wholeNodes fitting
+  unfolding joined answers nodesAfter wholeNodes fitting
   refused-begin e =
-      claim (start 0 layout) nodes (refused 4 []) [] (map (λ p. refused 4 []) pieces)
-      (rw (e, joined)) (rw (e, answers))
-      (pieces-refused e)
-      (rw (e, fedWhole) (feed-unsound (start 0 layout) nodes _ (no-length layout nodes)))
-      (λ o. some≢none (sym e ∙ o)) refl
-
-  started : start announced layout ≡ stateAfter announced layout 0 []
-  unfolding stateAfter partNode wholeNodes firstMisfit
-  started = refl
-
-  none-joined : (b : List ℕ) → length b ≤ announced → joinedOnto announced [] b ≡ b
-  unfolding joinedOnto
-  none-joined b h = rw (le-ltb announced (0 + length b) (omega arith), joinedOnto)
+      let p = pieces-refused e in
+      let none-joined : joined announced layout nodes pieces ≡ [] = rw (e, joined) in
+      record {
+        ends = rw none-joined (ends _ _ _ [] _ p (refused-one announced layout nodes e []));
+        answered = rw p (rw (e, answers));
+        taken = λ o. some≢none (sym e ∙ o);
+        placed = rw (p, none-joined);
+      }
 
   pieces-fed : firstOf (beginRow announced (length nodes)) ≡ none
       → let bytes = joinedFrom announced [] pieces in
       fedPieces announced layout nodes pieces
       ≡ record { answers = feedAnswers announced layout [] pieces; state = stateAfter announced layout 0 bytes; nodes = nodesAfter layout 0 bytes nodes }
   unfolding fedPieces begin nodesAfter wholeNodes fitting
-  pieces-fed e = rw (e, fedPieces) (rw started (all-fed announced layout nodes e [] pieces zero-le))
+  pieces-fed e = rw (e, fedPieces) (rw (started announced layout nodes) (all-fed announced layout nodes e [] pieces zero-le))
 
   accepted-begin : firstOf (beginRow announced (length nodes)) ≡ none → LoadsAsWhole announced layout nodes pieces
-  unfolding joined answers fedWhole begin nodesAfter wholeNodes fitting
+  unfolding joined answers
   accepted-begin e =
+      let p = pieces-fed e in
       let bytes = joinedFrom announced [] pieces in
+      let all-joined : joined announced layout nodes pieces ≡ bytes = rw (e, joined) in
       let short = all-short announced layout nodes e [] pieces zero-le in
-      claim (stateAfter announced layout 0 bytes) (nodesAfter layout 0 bytes nodes) (pieceAnswer (misfitIn layout 0 []) announced layout [] bytes) bytes (feedAnswers announced layout [] pieces)
-      (rw (e, joined)) (rw (e, answers))
-      (pieces-fed e)
-      (rw (e, fedWhole, joined) (rw started (rw (none-joined bytes short) at (step announced layout nodes e [] bytes zero-le))))
-      (λ o. refl) refl
+      record {
+        ends = rw all-joined (ends _ _ _ bytes _ p (one-fed announced layout nodes e bytes short));
+        answered = rw p (rw (e, answers));
+        taken = λ o. rw (p, all-joined);
+        placed = rw (p, all-joined);
+      }
 
 pub loads-as-whole : (announced : ℕ) (layout : Layout) (nodes : Graph) (pieces : List (List ℕ)) → LoadsAsWhole announced layout nodes pieces
 loads-as-whole announced layout nodes pieces =
-    split-option (firstOf (beginRow announced (length nodes))) (accepted-begin announced layout nodes pieces) (λ r e. refused-begin announced layout nodes pieces e)
+    split-option (firstOf (beginRow announced (length nodes)))
+    (accepted-begin announced layout nodes pieces)
+    (λ r e. refused-begin announced layout nodes pieces e)
 
 -- ---- a file of the announced length, cut anyhow
 length-of-first : (x y : List ℕ) → length x ≤ length (x ++ y)
 length-of-first x y = rw length-append (omega arith)
 
 module _ (announced : ℕ) (layout : Layout) (nodes : Graph) where
-  refused-one : {r : Answer} → firstOf (beginRow announced (length nodes)) ≡ some r → (bytes : List ℕ)
-      → oneFeed announced layout nodes bytes ≡ record { answer = refused 4 []; state = start 0 layout; nodes = nodes }
-  unfolding oneFeed begin
-  refused-one e bytes = rw (e, oneFeed) (feed-unsound (start 0 layout) nodes bytes (no-length layout nodes))
-
   refused-each : {r : Answer} → firstOf (beginRow announced (length nodes)) ≡ some r → (b : List ℕ) (ps : List (List ℕ))
       → map (λ bytes. oneFeed announced layout nodes bytes .answer) (upToEach b ps) ≡ map (λ p. refused 4 []) ps
   unfolding upToEach
   refused-each e b [] = refl
-  refused-each e b (p ∷ ps) = ap₂ _∷_ (ap (λ (f : Feeds). f .answer) (refused-one e (b ++ p))) (refused-each e (b ++ p) ps)
+  refused-each e b (p ∷ ps) = ap₂ _∷_ (ap (λ (f : Feeds). f .answer) (refused-one announced layout nodes e (b ++ p))) (refused-each e (b ++ p) ps)
 
   module _ (ok : firstOf (beginRow announced (length nodes)) ≡ none) where
-    one-fed : (bytes : List ℕ) → length bytes ≤ announced
-        → oneFeed announced layout nodes bytes
-        ≡ record { answer = misfitAnswer (misfitIn layout 0 bytes); state = stateAfter announced layout 0 bytes; nodes = nodesAfter layout 0 bytes nodes }
-    unfolding oneFeed begin nodesAfter wholeNodes fitting firstMisfit
-    one-fed bytes h =
-        rw (ok, oneFeed) (rw (started announced layout nodes []) (step-joined announced layout nodes ok [] bytes zero-le refl (omega arith)))
-
     joined-is : (b : List ℕ) (ps : List (List ℕ)) → length (b ++ joinAll ps) ≤ announced → joinedFrom announced b ps ≡ b ++ joinAll ps
     unfolding joinedFrom joinedOnto
     joined-is b [] h = sym (append-nil b)
@@ -230,9 +227,10 @@ module _ (announced : ℕ) (layout : Layout) (nodes : Graph) where
     piece-fed : (b p : List ℕ) → length (b ++ p) ≤ announced
         → pieceAnswer (misfitIn layout 0 b) announced layout b p ≡ oneFeed announced layout nodes (b ++ p) .answer
     piece-fed b p h =
+        let one = ap (λ (f : Feeds). f .answer) (one-fed announced layout nodes ok (b ++ p) h) in
         split-option (misfitIn layout 0 b)
-        (λ e. rw e (rw (le-ltb announced (length b + length p) (rw length-append at h), pieceAnswer) (sym (ap (λ (f : Feeds). f .answer) (one-fed (b ++ p) h)))))
-        (λ m e. rw e (ap misfitAnswer (sym (misfit-kept announced layout nodes b p e)) ∙ sym (ap (λ (f : Feeds). f .answer) (one-fed (b ++ p) h))))
+        (λ e. rw e (rw (le-ltb announced (length b + length p) (rw length-append at h), pieceAnswer) (sym one)))
+        (λ m e. rw e (ap misfitAnswer (sym (misfit-kept announced layout nodes b p e)) ∙ sym one))
 
     each-fed : (b : List ℕ) (ps : List (List ℕ)) → length (b ++ joinAll ps) ≤ announced
         → feedAnswers announced layout b ps ≡ map (λ bytes. oneFeed announced layout nodes bytes .answer) (upToEach b ps)
@@ -243,27 +241,31 @@ module _ (announced : ℕ) (layout : Layout) (nodes : Graph) where
         let f = le-trans (length-of-first (b ++ p) (joinAll ps)) l in
         ap₂ _∷_ (piece-fed b p f) (rw (le-ltb announced (length b + length p) (rw length-append at f), joinedOnto) (each-fed (b ++ p) ps l))
 
-module _ (layout : Layout) (nodes : Graph) (pieces : List (List ℕ)) where
-  -- from the values of the calls in pieces and of the one feed
-  cut : (s : Loader) (after : Graph) (a : Answer) (said : List Answer)
-      → fedPieces (length (joinAll pieces)) layout nodes pieces ≡ record { answers = said; state = s; nodes = after }
-      → oneFeed (length (joinAll pieces)) layout nodes (joinAll pieces) ≡ record { answer = a; state = s; nodes = after }
-      → said ≡ map (λ bytes. oneFeed (length (joinAll pieces)) layout nodes bytes .answer) (upToEach [] pieces)
-      → LoadsHoweverCut layout nodes (joinAll pieces) pieces
-  cut s after a said p w n = record { state = rw (p, w); table = rw (p, w); finished = rw (p, w); answered = rw p n }
+-- however a graph file is cut, it ends as in one piece
+pub loads-however-cut : (layout : Layout) (nodes : Graph) (pieces : List (List ℕ)) → LoadsHoweverCut layout nodes (joinAll pieces) pieces
+loads-however-cut layout nodes pieces =
+    let announced = length (joinAll pieces) in
+    let whole = le-refl announced in
+    split-option (firstOf (beginRow announced (length nodes)))
+    (λ e.
+    let p = rw (joined-is announced layout nodes e [] pieces whole) at (pieces-fed announced layout nodes pieces e) in
+    record {
+      ends = ends announced layout nodes pieces _ _ _ _ _ p (one-fed announced layout nodes e (joinAll pieces) whole);
+      answered = rw p (each-fed announced layout nodes e [] pieces whole);
+    })
+    (λ r e.
+    let p = pieces-refused announced layout nodes pieces e in
+    record {
+      ends = ends announced layout nodes pieces _ _ _ _ _ p (refused-one announced layout nodes e (joinAll pieces));
+      answered = rw p (sym (refused-each announced layout nodes e [] pieces));
+    })
 
-  -- however a graph file is cut, it ends as in one piece
-  pub loads-however-cut : LoadsHoweverCut layout nodes (joinAll pieces) pieces
-  loads-however-cut =
-      let announced = length (joinAll pieces) in
-      split-option (firstOf (beginRow announced (length nodes)))
-      (λ e.
-      cut _ _ _ _
-      (rw (joined-is announced layout nodes e [] pieces (le-refl announced)) at (pieces-fed announced layout nodes pieces e))
-      (one-fed announced layout nodes e (joinAll pieces) (le-refl announced))
-      (each-fed announced layout nodes e [] pieces (le-refl announced)))
-      (λ r e.
-      cut _ _ _ _
-      (pieces-refused announced layout nodes pieces e)
-      (refused-one announced layout nodes e (joinAll pieces))
-      (sym (refused-each announced layout nodes e [] pieces)))
+-- ---- cut at given lengths
+pub cut-joins : (cuts bytes : List ℕ) → joinAll (cutAt cuts bytes) ≡ bytes
+unfolding cutAt
+cut-joins [] bytes = append-nil bytes
+cut-joins (c ∷ cuts) bytes = ap (λ r. take c bytes ++ r) (cut-joins cuts (drop c bytes)) ∙ take-append-drop c bytes
+
+-- a file of the announced length loads as in one piece, wherever it is cut
+pub cut-anywhere : (layout : Layout) (nodes : Graph) (cuts bytes : List ℕ) → LoadsHoweverCut layout nodes bytes (cutAt cuts bytes)
+cut-anywhere layout nodes cuts bytes = rw (cut-joins cuts bytes) at (loads-however-cut layout nodes (cutAt cuts bytes))

@@ -33,16 +33,12 @@ fn feed_refusal(answer: FeedAnswer) -> u32
         FeedAnswer::Taken => 0,
         FeedAnswer::BadState => 4,
         FeedAnswer::TooLong => 5,
-        FeedAnswer::DoesNotFit {
-            node: _,
-            tile: _,
-            arc_index: _,
-        } => 6,
+        FeedAnswer::DoesNotFit(_) => 6,
     }
 }
 
 // Puts a feed's answer at its place, if the list has that place.
-fn tell(answers: &mut [u32], place: usize, answer: FeedAnswer)
+fn store_answer(answers: &mut [u32], place: usize, answer: FeedAnswer)
     ensures { λ r. ⌜ now (answers .exit) ≡ set (now (answers .entry)) place (refusalIn (saidFeed answer)) ⌝ }
 {
     let number = feed_refusal(answer);
@@ -52,7 +48,7 @@ fn tell(answers: &mut [u32], place: usize, answer: FeedAnswer)
 }
 
 // Feeds the bytes in pieces of the lengths in cuts and then the rest; a cut past the end takes what is there. Each feed's answer goes
-// to answers, in order: its refusal's number, or 0. Where answers is shorter than the feeds are many, the later ones are not told.
+// to answers, in order: its refusal's number, or 0. Where answers is shorter than the feeds are many, the later ones are not stored.
 pub fn load_in_pieces(
     announced: usize,
     layout: Layout,
@@ -61,7 +57,8 @@ pub fn load_in_pieces(
     answers: &mut [u32],
     nodes: &mut [u32],
 ) -> Loaded
-    ensures { λ r. ⌜ loadedAs r (now (answers .exit)) (now (nodes .exit)) ≡ loadLeaves (now (answers .entry)) (loadPieces announced layout (now (nodes .entry)) (cutAt (now (cuts .entry)) (now (bytes .entry)))) ⌝ }
+    ensures { λ r. ⌜ loadedAs r (now (answers .exit)) (now (nodes .exit))
+        ≡ loadLeaves (now (answers .entry)) (loadPieces announced layout (now (nodes .entry)) (cutAt (now (cuts .entry)) (now (bytes .entry)))) ⌝ }
 {
     let begun = Loader::begin(announced, layout, nodes);
     let begin_answer = begun.answer;
@@ -72,14 +69,14 @@ pub fn load_in_pieces(
         let end = piece_end(from, cuts[i], bytes.len());
         let fed = loader.feed(&bytes[from..end], nodes);
         let answer = fed.answer;
-        tell(answers, i, answer);
+        store_answer(answers, i, answer);
         loader = fed.loader;
         from = end;
         i += 1;
     }
     let fed = loader.feed(&bytes[from..], nodes);
     let answer = fed.answer;
-    tell(answers, i, answer);
+    store_answer(answers, i, answer);
     let last = fed.loader;
     let finished = last.finish(nodes);
     Loaded {

@@ -1,5 +1,7 @@
 // Loads document 01's five nodes in pieces, and prints in hexadecimal what each load leaves: the answers of begin, of every feed and of
 // finish, the bytes taken, and the nodes. Lent entries that no call may write are 9 among the answers and 7 among the nodes.
+use base::MOST;
+use base::widened;
 use load::BeginAnswer;
 use load::Finished;
 use node::Layout;
@@ -95,26 +97,23 @@ fn print_finished(answer: Finished) {
     match answer {
         Finished::Nodes(count) => print_line(b"finish", &[0, capped(count)]),
         Finished::BadState => print_line(b"finish", &[4]),
-        Finished::DoesNotFit {
-            node,
-            tile,
-            arc_index,
-        } => print_line(b"finish", &[6, capped(node), wide(tile), arc_index]),
+        Finished::DoesNotFit(m) => {
+            print_line(
+                b"finish",
+                &[6, capped(m.node), widened(m.tile), m.arc_index],
+            )
+        }
         Finished::Missing => print_line(b"finish", &[7]),
         Finished::ArcPastEnd(arc) => print_line(b"finish", &[8, arc]),
         Finished::NoEnd => print_line(b"finish", &[9]),
     }
 }
 
-fn wide(tile: u8) -> u32 {
-    tile as u32
-}
-
 fn capped(number: usize) -> u32 {
-    if number < 4294967295 {
+    if number < MOST as usize {
         number as u32
     } else {
-        4294967295
+        MOST
     }
 }
 

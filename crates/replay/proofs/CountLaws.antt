@@ -4,15 +4,14 @@ use mathlib.Core.Bool.{Bool}
 use mathlib.Core.List.{List, [], _∷_, _++_}
 use Prim.Native.Nat.{ℕ}
 use lib.ListN.{length, take}
-use Rattle.graph.specs.Counting.{Counted}
-use Rattle.count.specs.Said.{limit}
+use Rattle.graph.specs.Counting.{IsCounted, countLimit}
 use Rattle.flat.specs.FlatCounts.{countedOf, flatCounted}
 use Rattle.flat.specs.declared.counting.FlatCounted.{FlatCounted}
 use Rattle.stored.specs.Answers.{same}
 use Rattle.replay.specs.Counts.{countReply, CountReplied, replied}
 
 pub count-replies : (nodes lent stored : List ℕ) (work : ℕ) (r : FlatCounted) (counts xs : List ℕ) {b : Bool}
-    → Counted limit nodes lent work (countedOf r) counts → r ≡ flatCounted (countedOf r) → xs ≡ take (length nodes) counts
+    → IsCounted countLimit nodes lent work (countedOf r) counts → r ≡ flatCounted (countedOf r) → xs ≡ take (length nodes) counts
     → b ≡ same stored ((r .refusal ∷ r .arc ∷ []) ++ xs) → CountReplied nodes lent work stored b
 unfolding countReply
 count-replies nodes lent stored work r counts xs counted flat ex eb =

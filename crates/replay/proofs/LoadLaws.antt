@@ -4,8 +4,8 @@ use mathlib.Core.List.{List, [], _∷_, _++_}
 use Prim.Native.Nat.{ℕ}
 use borrow.Author.Tests.{eq-eqb, ne-eqb}
 use lib.ListN.{length, getD, take, drop}
-use Rattle.node.specs.Answers.{gives}
-use Rattle.node.specs.Said.{placesOf}
+use Rattle.answers.specs.Answers.{gives}
+use Rattle.node.specs.Said.{bitLayout}
 use Rattle.node.specs.declared.Layout.{Layout}
 use Rattle.load.specs.Repacking.{repackAnswer, repackedBytes}
 use Rattle.load.specs.Loading.{begin, feed, finish}
@@ -20,12 +20,13 @@ use Rattle.replay.specs.Loads.{repackedFields, finishedFields, repackRep
 use Rattle.replay.proofs.SetLaws.{plain-refusal}
 
 pub repack-replies : (ws bytes after : List ℕ) (r : FlatRepacked) (n m : ℕ) → n ≡ getD ws 0 0 → m ≡ getD ws 1 0
-    → repackedOf r ≡ repackAnswer (placesOf (layoutOf n)) (placesOf (layoutOf m)) bytes
-    → after ≡ repackedBytes (placesOf (layoutOf n)) (placesOf (layoutOf m)) bytes → r ≡ flatRepacked (repackedOf r)
+    → repackedOf r ≡ repackAnswer (bitLayout (layoutOf n)) (bitLayout (layoutOf m)) bytes
+    → after ≡ repackedBytes (bitLayout (layoutOf n)) (bitLayout (layoutOf m)) bytes → r ≡ flatRepacked (repackedOf r)
     → repackedFields r ++ after ≡ repackReply ws bytes
 unfolding repackReply
 repack-replies ws bytes after r n m en em said ea flat =
-    rw (← en, ← em, ea) (ap (λ (x : FlatRepacked). repackedFields x ++ repackedBytes (placesOf (layoutOf n)) (placesOf (layoutOf m)) bytes) (flat ∙ ap flatRepacked said))
+    rw (← en, ← em, ea)
+    (ap (λ (x : FlatRepacked). repackedFields x ++ repackedBytes (bitLayout (layoutOf n)) (bitLayout (layoutOf m)) bytes) (flat ∙ ap flatRepacked said))
 
 -- ---- a load in two pieces
 module _ (announced : ℕ) (layout : Layout) (lent p q : List ℕ) (b : FlatBegun) (eb : begunOf b ≡ begin announced layout (length lent)) where

@@ -6,8 +6,8 @@ use Prim.Native.Nat.{ℕ}
 use borrow.Author.Tests.{eqb-true}
 use lib.Dec.{eqb}
 use lib.ListN.{length, take}
-use Rattle.node.specs.Answers.{gives, refused}
-use Rattle.node.specs.Nodes.{flag}
+use Rattle.base.specs.Numbers.{flag}
+use Rattle.answers.specs.Answers.{gives, refused}
 use Rattle.letters.specs.LetterBits.{letterBits}
 use Rattle.letters.specs.AlphaSets.{acceptsAlpha, crossSet}
 use Rattle.flat.specs.Flat.{refusalIn, plainly}

@@ -9,7 +9,7 @@ use borrow.Author.Tests.{eq-eqb, ne-eqb}
 use lib.ListN.{length, getD, take, drop, replicate, length-replicate, drop-of-length-le}
 use lib.Seq.{drop-cons, take-suc, take-all, append-snoc}
 use Rattle.laws.specs.Lists.{All}
-use Rattle.node.specs.Answers.{Answer, gives}
+use Rattle.answers.specs.Answers.{Answer, gives}
 use Rattle.node.specs.Nodes.{tile, arc, KBWG}
 use Rattle.graph.specs.Runs.{Graph}
 use Rattle.graph.specs.Words.{Word}

@@ -1,4 +1,4 @@
--- A call's reply, told of its number; and the verdict on a case, by how much of it could be read.
+-- A call's reply by its number; and the verdict on a case, by how much of it could be read.
 use mathlib.Core.Path.{_≡_, refl, sym, ap, subst, _∙_}
 use mathlib.Core.Bool.{Bool}
 use mathlib.Core.List.{List}
@@ -41,7 +41,8 @@ counted none n e = absurd (let z : _≡_ {A = ℕ} 0 1 = cc in omega arith)
 counted (some l) n e = (l, refl, cc)
 
 -- what was copied, of a lent list
-pub copied-front : (lent : List ℕ) (o : Option (List ℕ)) (l : List ℕ) (n : ℕ) (after : List ℕ) → o ≡ some l → length l ≡ n → after ≡ copiedTo lent o → take n after ≡ l
+pub copied-front : (lent : List ℕ) (o : Option (List ℕ)) (l : List ℕ) (n : ℕ) (after : List ℕ)
+    → o ≡ some l → length l ≡ n → after ≡ copiedTo lent o → take n after ≡ l
 copied-front lent o l n after e s c = rw (c, e, ← s) (take-append-seam l (drop (length l) lent))
 
 module _ (wr br call : ℕ) (case : List ℕ) where
@@ -53,7 +54,8 @@ module _ (wr br call : ℕ) (case : List ℕ) where
     no-bytes f =
         let (ws, is, sized) = counted (listIn 4294967295 wr case) n e in
         let at : rest ≡ drop (length ws + 1) case = er ∙ ap (λ (k : ℕ). drop (k + 1) case) (sym sized) in
-        unread (ap (afterWords br case) is ∙ ap (λ (r : List ℕ). afterBytes ws r (listIn 255 br r)) (sym at) ∙ ap (afterBytes ws rest) (not-counted (listIn 255 br rest) f))
+        unread (ap (afterWords br case) is ∙ ap (λ (r : List ℕ). afterBytes ws r (listIn 255 br r)) (sym at)
+        ∙ ap (afterBytes ws rest) (not-counted (listIn 255 br rest) f))
 
     pub judged : (m : ℕ) (words bytes afterWords′ afterBytes′ stored part : List ℕ) {b : Bool} → countOf (listIn 255 br rest) ≡ Count.Are m
         → wr ≡ length words → br ≡ length bytes → afterWords′ ≡ copiedTo words (listIn 4294967295 wr case)

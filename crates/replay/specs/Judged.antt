@@ -6,9 +6,8 @@ use mathlib.Core.Option.{Option, none, some}
 use Prim.Native.Nat.{ℕ, _+_}
 use lib.Dec.{leb}
 use lib.ListN.{length, drop, replicate}
-use Rattle.node.specs.Answers.{Answer}
-use Rattle.graph.specs.Counting.{Counted}
-use Rattle.count.specs.Said.{limit}
+use Rattle.answers.specs.Answers.{Answer}
+use Rattle.graph.specs.Counting.{IsCounted, countLimit}
 use Rattle.stored.specs.Answers.{same, verdictOf}
 use Rattle.stored.specs.Inputs.{listIn}
 use Rattle.stored.specs.declared.answers.Verdict.{Verdict}
@@ -44,7 +43,7 @@ pub data Reply (ws bs : List ℕ) : ℕ → List ℕ → Type 0 where
   repack-node : Reply ws bs 3 (repackNodeReply ws)
   repack-in-place : Reply ws bs 4 (repackReply ws bs)
   load : Reply ws bs 5 (loadReply ws bs (replicate 8192 0))
-  counting : {a : Answer} {counts : List ℕ} → Counted limit ws (replicate 512 0) 1024 a counts → Reply ws bs 6 (countReply ws a counts)
+  counting : {a : Answer} {counts : List ℕ} → IsCounted countLimit ws (replicate 512 0) 1024 a counts → Reply ws bs 6 (countReply ws a counts)
   word-to-number : Reply ws bs 7 (indexReply ws bs)
   number-to-word : Reply ws bs 8 (wordReply ws)
   run-lookup : Reply ws bs 9 (seekReply ws)

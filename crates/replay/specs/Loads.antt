@@ -3,9 +3,9 @@ use mathlib.Core.List.{List, [], _∷_, _++_}
 use Prim.Native.Nat.{ℕ}
 use lib.Dec.{eqb}
 use lib.ListN.{length, getD, take, drop}
-use Rattle.node.specs.Said.{placesOf}
+use Rattle.node.specs.Said.{bitLayout}
 use Rattle.load.specs.Repacking.{repackAnswer, repackedBytes}
-use Rattle.pieces.specs.Pieces.{Loads, loadPieces}
+use Rattle.pieces.specs.Pieces.{LoadOutcome, loadPieces}
 use Rattle.stored.specs.Inputs.{pick}
 use Rattle.flat.specs.Flat.{layoutOf, refusalIn}
 use Rattle.flat.specs.FlatLoads.{flatRepacked, flatFinished}
@@ -21,12 +21,12 @@ finishedFields r = r .refusal ∷ r .arc ∷ r .nodes ∷ r .node ∷ r .tile �
 -- FROM TO; the bytes
 unfoldable pub repackReply : List ℕ → List ℕ → List ℕ
 repackReply ws bytes =
-    let old = placesOf (layoutOf (getD ws 0 0)) in
-    let new = placesOf (layoutOf (getD ws 1 0)) in
+    let old = bitLayout (layoutOf (getD ws 0 0)) in
+    let new = bitLayout (layoutOf (getD ws 1 0)) in
     repackedFields (flatRepacked (repackAnswer old new bytes)) ++ repackedBytes old new bytes
 
 -- begin's refusal, or else what finish answers and the nodes that it counts
-unfoldable pub loaded : Loads → List ℕ
+unfoldable pub loaded : LoadOutcome → List ℕ
 loaded r =
     pick (eqb (refusalIn (r .begun)) 0)
     (finishedFields (flatFinished (r .finished)) ++ take (flatFinished (r .finished) .nodes) (r .nodes))

@@ -1,11 +1,12 @@
 -- What lookups reply to the words and the bytes of a case: the fields of the flat answer, and then the tiles put.
 use mathlib.Core.List.{List, [], _∷_, _++_}
-use Prim.Native.Nat.{ℕ, _-_, _%_, _^_}
+use Prim.Native.Nat.{ℕ, _%_}
 use lib.Dec.{eqb}
 use lib.ListN.{length, getD, take, drop}
-use Rattle.node.specs.Answers.{Answer}
-use Rattle.node.specs.Nodes.{flag}
+use Rattle.base.specs.Numbers.{flag}
+use Rattle.answers.specs.Answers.{Answer}
 use Rattle.graph.specs.Words.{Word}
+use Rattle.graph.specs.Counting.{countLimit}
 use Rattle.lookup.specs.Walks.{seek, wordIndex, wordByIndex}
 use Rattle.cursor.specs.RunSteps.{moves}
 use Rattle.stored.specs.Inputs.{pick}
@@ -42,7 +43,7 @@ unfoldable pub indexReply : List ℕ → List ℕ → List ℕ
 indexReply ws tiles =
     let n = getD ws 1 0 in
     let graph = drop 2 ws in
-    indexFields (flatIndex (wordIndex (2 ^ 32 - 1) (take n graph) (drop n graph) (getD ws 0 0) tiles))
+    indexFields (flatIndex (wordIndex countLimit (take n graph) (drop n graph) (getD ws 0 0) tiles))
 
 -- the walk for P INDEX N, N nodes and the counts, and room for so many tiles
 unfoldable pub wordWalk : List ℕ → ℕ → Word × Answer

@@ -4,9 +4,10 @@ use mathlib.Core.List.{List, [], _∷_}
 use Prim.Native.Nat.{ℕ, _%_}
 use lib.Dec.{eqb}
 use lib.ListN.{getD}
-use Rattle.node.specs.Answers.{Answer, gives, nothing, refused}
-use Rattle.node.specs.Nodes.{Places, tile, accepts, isEnd, arc, flag, values}
-use Rattle.node.specs.Said.{placesOf, packAnswer, repackNodeAnswer}
+use Rattle.base.specs.Numbers.{flag}
+use Rattle.answers.specs.Answers.{Answer, gives, nothing, refused}
+use Rattle.node.specs.Nodes.{BitLayout, tile, accepts, isEnd, arc, values}
+use Rattle.node.specs.Said.{bitLayout, packAnswer, repackNodeAnswer}
 use Rattle.flat.specs.Flat.{layoutOf}
 
 -- an answer in numbers: 0 and its values, 1 for none, or the number of the refusal and what it carries
@@ -15,10 +16,10 @@ flat (gives vs) = 0 ∷ vs
 flat nothing = 1 ∷ []
 flat (refused n vs) = n ∷ vs
 
-abbrev pub layoutAt : List ℕ → ℕ → Places
-layoutAt ws i = placesOf (layoutOf (getD ws i 0))
+abbrev pub layoutAt : List ℕ → ℕ → BitLayout
+layoutAt ws i = bitLayout (layoutOf (getD ws i 0))
 
-unfoldable pub fieldsOf : Places → ℕ → List ℕ
+unfoldable pub fieldsOf : BitLayout → ℕ → List ℕ
 fieldsOf y v = tile y v ∷ flag (accepts y v) ∷ flag (isEnd y v) ∷ arc y v ∷ []
 
 -- LAYOUT WORD

@@ -2,7 +2,7 @@
 use mathlib.Core.List.{List, [], _∷_, _++_}
 use Prim.Native.Nat.{ℕ}
 use lib.ListN.{length, take}
-use Rattle.node.specs.Nodes.{flag}
+use Rattle.base.specs.Numbers.{flag}
 use Rattle.letters.specs.LetterBits.{letterBits}
 use Rattle.letters.specs.AlphaSets.{acceptsAlpha, crossSet}
 use Rattle.flat.specs.Flat.{refusalIn}

@@ -1,5 +1,5 @@
 // Run lookup, the run cursor, and words and their numbers.
-use node::bit;
+use base::bit;
 use stored::byte_at;
 use stored::same_then_bytes;
 use stored::same_words;
@@ -7,7 +7,6 @@ use stored::word_at;
 use stored::words_from;
 use stored::words_to;
 ghost use mathlib.Core.Path.{_≡_};
-ghost use Prim.Native.Nat.{_-_};
 ghost use Rattle.stored.specs.Answers.{same};
 ghost use Rattle.replay.specs.Lookups.{seekReply, stepReply, indexReply, wordReply, wordReplyIn, unmarked};
 

@@ -1,16 +1,16 @@
 // The calls on single nodes, which the C interface has not.
+use base::bit;
 use flat::layout_of;
 use node::Layout;
 use node::Node22;
 use node::Node24;
 use node::Packed;
-use node::bit;
 use stored::byte_at;
 use stored::same_words;
 use stored::word_at;
 ghost use mathlib.Core.Path.{_≡_};
 ghost use Rattle.node.specs.Nodes.{KWG, KBWG};
-ghost use Rattle.node.specs.Said.{said, placesOf};
+ghost use Rattle.node.specs.Said.{saidNode, bitLayout};
 ghost use Rattle.stored.specs.Answers.{same};
 ghost use Rattle.replay.specs.Nodes.{flat, fieldsOf, fieldsReply, packReply, repackNodeReply};
 
@@ -23,7 +23,7 @@ pub(crate) fn node_fields(stored: &[u64], words: &[u32]) -> bool
 }
 
 fn same_fields(stored: &[u64], layout: Layout, word: u32) -> bool
-    ensures { λ r. ⌜ r ≡ same (now (stored .entry)) (fieldsOf (placesOf layout) word) ⌝ }
+    ensures { λ r. ⌜ r ≡ same (now (stored .entry)) (fieldsOf (bitLayout layout) word) ⌝ }
 {
     match layout {
         Layout::Kwg => same_kwg(stored, Node22(word)),
@@ -88,7 +88,7 @@ pub(crate) fn repack_node(stored: &[u64], words: &[u32]) -> bool
 }
 
 fn same_packed(stored: &[u64], packed: Packed) -> bool
-    ensures { λ r. ⌜ r ≡ same (now (stored .entry)) (flat (said packed)) ⌝ }
+    ensures { λ r. ⌜ r ≡ same (now (stored .entry)) (flat (saidNode packed)) ⌝ }
 {
     match packed {
         Packed::Node(node) => same_words(stored, &[0, node]),

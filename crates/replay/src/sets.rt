@@ -1,10 +1,11 @@
 // Letter bits and alpha sets.
-use node::bit;
+use base::bit;
 use stored::numbers_from;
 use stored::numbers_to;
 use stored::same_numbers;
 use stored::same_then_numbers;
 use stored::same_words;
+use stored::starts_with;
 ghost use mathlib.Core.Path.{_≡_};
 ghost use mathlib.Core.List.{_∷_, _++_};
 ghost use lib.ListN.{replicate};
@@ -36,7 +37,7 @@ fn letter_bits_in(stored: &[u64], nodes: &[u32], all: &mut [u64], accepting: &mu
 fn same_then_both(stored: &[u64], refusal: u32, all: &[u64], accepting: &[u64]) -> bool
     ensures { λ r. ⌜ r ≡ same (now (stored .entry)) (refusal ∷ now (all .entry) ++ now (accepting .entry)) ⌝ }
 {
-    same_words(numbers_to(stored, 1), &[refusal])
+    starts_with(stored, &[refusal as u64])
         && same_then_numbers(numbers_from(stored, 1), all, accepting)
 }
 

@@ -1,17 +1,17 @@
 // Replays the stored answers of a Rust program, which stand on standard input a case to a line, and
 // says which lines our calls answer otherwise.
 use stored::CALLS;
+use stored::CaseTally;
 use stored::Ended;
 use stored::Line;
 use stored::ROOM;
-use stored::Tally;
 use stored::print_cases;
 ghost use Prim.Native.Nat.{_≤_};
 ghost use lib.ListN.{length};
 
 struct Progress {
     line: Line,
-    tally: Tally,
+    tally: CaseTally,
     goes_on: bool,
 }
 
@@ -33,7 +33,7 @@ fn main() {
 fn read_all(numbers: &mut [u64]) -> Progress {
     let mut progress = Progress {
         line: stored::empty(),
-        tally: Tally::new(),
+        tally: CaseTally::new(),
         goes_on: true,
     };
     let mut turns = u64::MAX;
@@ -84,7 +84,7 @@ fn add_bytes(progress: Progress, bytes: &[u8], numbers: &mut [u64]) -> Progress 
     }
 }
 
-fn end_line(line: Line, tally: Tally, numbers: &mut [u64]) -> Tally {
+fn end_line(line: Line, tally: CaseTally, numbers: &mut [u64]) -> CaseTally {
     match stored::end(line, numbers) {
         Ended::Comment => tally.next_line(),
         Ended::Malformed => tally.malformed().next_line(),
@@ -93,14 +93,14 @@ fn end_line(line: Line, tally: Tally, numbers: &mut [u64]) -> Tally {
 }
 
 // The first of a line's numbers is the call's.
-fn judged(tally: Tally, numbers: &[u64], count: usize) -> Tally
+fn judged(tally: CaseTally, numbers: &[u64], count: usize) -> CaseTally
     requires { ⌜ (1 ≤ count) × (count ≤ length (now numbers)) ⌝ }
 {
     let call = numbers[0];
     tally.judged(call, replay::judge(call, &numbers[1..count]))
 }
 
-fn print(tally: Tally) {
+fn print(tally: CaseTally) {
     let cases = tally.cases;
     print_calls(cases);
     tally.print_findings();

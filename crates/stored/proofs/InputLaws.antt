@@ -8,9 +8,9 @@ use mathlib.Core.List.{List, [], _∷_, _++_}
 use mathlib.Core.Option.{Option, none, some}
 use borrow.Author.Tests.{leb-true, le-leb, lt-leb}
 use lib.Dec.{leb}
-use lib.ListN.{length, getD, set, take, drop, drop-of-length-le}
+use lib.ListN.{length, getD, set, take, drop, length-drop, length-set, drop-of-length-le}
 use lib.Seq.{sets, drop-cons, length-take-le}
-use Rattle.laws.specs.Sets.{sets-front}
+use Rattle.laws.specs.ListWrites.{sets-front, sets-done}
 use Rattle.laws.specs.Cases.{and-left, and-right}
 use Rattle.stored.specs.Inputs.{pick, allWithin, listIn, countOf, copiedTo}
 use Rattle.stored.specs.declared.inputs.Count.{Count}
@@ -35,53 +35,69 @@ module _ (most : ℕ) where
     unfolding allWithin
     no-more h = rw (drop-of-length-le ns h)
 
--- ---- stores one after the other
-pub store-next : (l xs : List ℕ) (i : ℕ) → i < length xs → sets (set l i (getD xs i 0)) (i + 1) (drop (i + 1) xs) ≡ sets l i (drop i xs)
-store-next l xs i h = rw (drop-cons xs i 0 h, add-one)
+-- ---- stores one after the other: what is left to store makes the same list as all of them
+module _ (numbers lent₀ : List ℕ) where
+  abbrev pub LeftToStore : List ℕ → ℕ → Type 0
+  LeftToStore lent i = (i ≤ length numbers) × (length lent ≡ length lent₀) × (sets lent i (drop i numbers) ≡ sets lent₀ 0 numbers)
+
+  module _ (lent : List ℕ) (i : ℕ) (k : LeftToStore lent i) where
+    store-next : i < length numbers → sets (set lent i (getD numbers i 0)) (i + 1) (drop (i + 1) numbers) ≡ sets lent i (drop i numbers)
+    store-next h = rw (drop-cons numbers i 0 h, add-one)
+
+    pub stored-one : i < length numbers → LeftToStore (set lent i (getD numbers i 0)) (i + 1)
+    stored-one h = (omega arith, simp length-set (k .1), store-next h ∙ k .2)
+
+    pub all-stored : length numbers ≤ i → lent ≡ sets lent₀ 0 numbers
+    all-stored h = sym (sets-done lent numbers i i h) ∙ k .2
 
 -- ---- the list that a case starts with
-listIn-is : (most room : ℕ) (case : List ℕ) → 0 < length case
-    → listIn most room case
-    ≡ (let n = getD case 0 0 in let rest = drop 1 case in
-    pick (leb n (length rest) && (leb n room && allWithin most (take n rest))) (some (take n rest)) none)
-unfolding listIn
-listIn-is most room [] h = absurd (omega arith)
-listIn-is most room (n ∷ ns) h = refl
-
--- once its length n and the rest of the case are read
-module _ (most room : ℕ) (case rest : List ℕ) (n : ℕ) (h : 0 < length case) (first : n ≡ getD case 0 0) (e : rest ≡ drop 1 case) where
-  read : listIn most room case ≡ pick (leb n (length rest) && (leb n room && allWithin most (take n rest))) (some (take n rest)) none
-  read = rw (first, e) (listIn-is most room case h)
-
-  pub missing : length rest < n → Count.Malformed ≡ countOf (listIn most room case)
-  missing l = rw (read, lt-leb n (length rest) l)
-
-  pub no-room : n ≤ length rest → room < n → Count.Malformed ≡ countOf (listIn most room case)
-  no-room l r = rw (read, le-leb n (length rest) l, lt-leb n room r)
-
-  pub too-high : n ≤ length rest → n ≤ room → allWithin most (take n rest) ≡ false → Count.Malformed ≡ countOf (listIn most room case)
-  too-high l r w = rw (read, le-leb n (length rest) l, le-leb n room r, w)
-
-  pub there : n ≤ length rest → n ≤ room → allWithin most (take n rest) ≡ true → Count.Are n ≡ countOf (listIn most room case)
-  there l r w = rw (read, le-leb n (length rest) l, le-leb n room r, w) (ap Count.Are (sym (length-take-le n rest l)))
-
 pub empty-case : (most room : ℕ) (case : List ℕ) → length case ≡ 0 → Count.Malformed ≡ countOf (listIn most room case)
 unfolding listIn
 empty-case most room [] h = refl
 empty-case most room (n ∷ ns) h = absurd (omega arith)
 
-pub unlisted : (lent : List ℕ) (o : Option (List ℕ)) → countOf o ≡ Count.Malformed → lent ≡ copiedTo lent o
-unlisted lent none e = refl
-unlisted lent (some l) e = absurd (let z : _≡_ {A = ℕ} 0 1 = cc in omega arith)
+-- its length is read first
+abbrev first : List ℕ → ℕ
+first case = getD case 0 0
+
+abbrev list : List ℕ → List ℕ
+list case = take (first case) (drop 1 case)
+
+read : (most room : ℕ) (case : List ℕ) → (length case ≡ 0 → ⊥)
+    → listIn most room case ≡ pick (leb (first case) (length (drop 1 case)) && (leb (first case) room && allWithin most (list case))) (some (list case)) none
+unfolding listIn
+read most room [] h = absurd (h refl)
+read most room (n ∷ ns) h = refl
+
+-- and then looked at test by test
+module _ (most room : ℕ) (case : List ℕ) (h : length case ≡ 0 → ⊥) where
+  pub missing : length case ≤ first case → Count.Malformed ≡ countOf (listIn most room case)
+  missing l = rw (read most room case h, lt-leb (first case) (length (drop 1 case)) (simp length-drop (omega (arith, h))))
+
+  module _ (l : first case < length case) where
+    all-there : first case ≤ length (drop 1 case)
+    all-there = simp length-drop (omega arith)
+
+    pub no-room : room < first case → Count.Malformed ≡ countOf (listIn most room case)
+    no-room r = rw (read most room case h, le-leb _ _ all-there, lt-leb (first case) room r)
+
+    module _ (r : first case ≤ room) {xs : List ℕ} (e : xs ≡ list case) {within : Bool} (w : within ≡ allWithin most xs) where
+      pub too-high : within ≡ false → Count.Malformed ≡ countOf (listIn most room case)
+      too-high t = rw (read most room case h, le-leb _ _ all-there, le-leb _ _ r, ← e, ← w, t)
+
+      pub there : within ≡ true → Count.Are (first case) ≡ countOf (listIn most room case)
+      there t =
+          rw (read most room case h, le-leb _ _ all-there, le-leb _ _ r, ← e, ← w, t, e)
+          (ap Count.Are (sym (length-take-le (first case) (drop 1 case) all-there)))
 
 -- what is known of it where it has n numbers
-pub record Listed (most room : ℕ) (case : List ℕ) (n : ℕ) : Type 0 where
-  pub is : listIn most room case ≡ some (take n (drop 1 case))
-  pub sized : length (take n (drop 1 case)) ≡ n
-  pub fits : n ≤ room
-  pub within : allWithin most (take n (drop 1 case)) ≡ true
+record Listed (most room : ℕ) (case : List ℕ) (n : ℕ) : Type 0 where
+  is : listIn most room case ≡ some (take n (drop 1 case))
+  sized : length (take n (drop 1 case)) ≡ n
+  fits : n ≤ room
+  within : allWithin most (take n (drop 1 case)) ≡ true
 
-pub listed : (most room : ℕ) (case : List ℕ) (n : ℕ) → countOf (listIn most room case) ≡ Count.Are n → Listed most room case n
+listed : (most room : ℕ) (case : List ℕ) (n : ℕ) → countOf (listIn most room case) ≡ Count.Are n → Listed most room case n
 unfolding listIn
 listed most room [] n e = absurd (let z : _≡_ {A = ℕ} 0 1 = cc in omega arith)
 listed most room (x ∷ xs) n e = chosen (leb x (length xs)) (leb x room) (allWithin most (take x xs)) refl refl refl e
@@ -103,10 +119,24 @@ listed most room (x ∷ xs) n e = chosen (leb x (length xs)) (leb x room) (allWi
     chosen true false d p q r f = absurd (let z : _≡_ {A = ℕ} 0 1 = cc in omega arith)
     chosen false b d p q r f = absurd (let z : _≡_ {A = ℕ} 0 1 = cc in omega arith)
 
--- the numbers read, copied to the front of a lent list
-module _ (most : ℕ) (case lent : List ℕ) (n : ℕ) (l : Listed most (length lent) case n) (xs : List ℕ) (e : xs ≡ take n (drop 1 case)) where
-  pub can-copy : (length xs ≤ length lent) × (allWithin most xs ≡ true)
-  can-copy = rw e (rw (l .sized) (l .fits), l .within)
+-- ---- the list read, copied to the front of a lent one
+unlisted : (lent : List ℕ) (o : Option (List ℕ)) → countOf o ≡ Count.Malformed → lent ≡ copiedTo lent o
+unlisted lent none e = refl
+unlisted lent (some l) e = absurd (let z : _≡_ {A = ℕ} 0 1 = cc in omega arith)
 
-  pub copied : (after : List ℕ) → after ≡ sets lent 0 xs → after ≡ copiedTo lent (listIn most (length lent) case)
-  copied after s = s ∙ sets-front lent xs (can-copy .0) ∙ ap (λ (ys : List ℕ). ys ++ drop (length ys) lent) e ∙ ap (copiedTo lent) (sym (l .is))
+module _ (most : ℕ) (case lent : List ℕ) {count : Count} (c : count ≡ countOf (listIn most (length lent) case)) where
+  pub not-copied : count ≡ Count.Malformed
+      → (Count.Malformed ≡ countOf (listIn most (length lent) case)) × (lent ≡ copiedTo lent (listIn most (length lent) case))
+  not-copied m = (sym m ∙ c, unlisted lent (listIn most (length lent) case) (sym c ∙ m))
+
+  module _ {n : ℕ} (are : count ≡ Count.Are n) {xs : List ℕ} (e : xs ≡ take n (drop 1 case)) where
+    known : Listed most (length lent) case n
+    known = listed most (length lent) case n (sym c ∙ are)
+
+    pub can-copy : (length xs ≤ length lent) × (allWithin most xs ≡ true)
+    can-copy = rw e (rw (known .sized) (known .fits), known .within)
+
+    pub copied : {after : List ℕ} → after ≡ sets lent 0 xs
+        → (Count.Are n ≡ countOf (listIn most (length lent) case)) × (after ≡ copiedTo lent (listIn most (length lent) case))
+    copied s =
+        (sym are ∙ c, s ∙ sets-front lent xs (can-copy .0) ∙ ap (λ (ys : List ℕ). ys ++ drop (length ys) lent) e ∙ ap (copiedTo lent) (sym (known .is)))

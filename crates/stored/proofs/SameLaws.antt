@@ -1,39 +1,43 @@
--- Lists compared entry by entry: what is left of them compares as the whole.
-use Prim.Native.Nat.{ℕ, _+_, _-_, _≤_, _<_}
+-- Lists of one length compared entry by entry: what is left of them compares as the whole.
+use Prim.Native.Nat.{ℕ, _+_, _≤_, _<_}
 use native.Mathlib.Numerals.{add-one}
 use native.Mathlib.Omega.{arith}
-use mathlib.Core.Path.{_≡_, sym, _∙_}
-use mathlib.Core.Bool.{false}
-use mathlib.Core.List.{List, [], _∷_}
-use borrow.Author.Tests.{eqb-true, eqb-false, eq-eqb, ne-eqb}
-use lib.Dec.{eqb}
-use lib.ListN.{length, getD, drop, length-drop, drop-of-length-le}
+use mathlib.Core.Path.{_≡_, sym, ap, _∙_}
+use mathlib.Core.Bool.{true, false}
+use mathlib.Core.List.{List}
+use borrow.Author.Tests.{eq-eqb, ne-eqb}
+use lib.ListN.{length, getD, drop, drop-of-length-le}
 use lib.Seq.{drop-cons}
 use Rattle.laws.specs.Cases.{split}
-use Rattle.stored.specs.Answers.{same}
+use Rattle.stored.specs.Answers.{same, same-equal}
 
-none-left : (xs : List ℕ) (n : ℕ) → length xs ≡ n → same xs [] ≡ eqb n 0
-unfolding same
-none-left [] n h = sym (eq-eqb n 0 (omega (arith, h)))
-none-left (x ∷ xs) n h = sym (ne-eqb n 0 (λ e. omega (arith, h)))
+module _ (left right : List ℕ) where
+  pub other-length : (length left ≡ length right → ⊥) → false ≡ same left right
+  other-length n = split (same left right) (λ t. absurd (n (ap length (same-equal left right t)))) (λ t. sym t)
 
-module _ (left right : List ℕ) (i : ℕ) where
-  pub short : length left ≤ i → i < length right → false ≡ same (drop i left) (drop i right)
-  unfolding same
-  short h l = rw (drop-of-length-le left h, drop-cons right i 0 l)
+  abbrev pub LeftSame : ℕ → Type 0
+  LeftSame i = (i ≤ length right) × (same (drop i left) (drop i right) ≡ same left right)
 
-  pub other : i < length left → i < length right → (getD left i 0 ≡ getD right i 0 → ⊥) → false ≡ same (drop i left) (drop i right)
-  unfolding same
-  other h l n = rw (drop-cons left i 0 h, drop-cons right i 0 l, ne-eqb (getD left i 0) (getD right i 0) n)
+  module _ (h : length left ≡ length right) (i : ℕ) (k : LeftSame i) where
+    none-left : length right ≤ i → true ≡ same (drop i left) (drop i right)
+    unfolding same
+    none-left l = rw (drop-of-length-le left {i = i} (omega arith), drop-of-length-le right {i = i} l)
 
-  pub next : i < length left → i < length right → getD left i 0 ≡ getD right i 0
-      → same (drop (i + 1) left) (drop (i + 1) right) ≡ same (drop i left) (drop i right)
-  unfolding same
-  next h l e = rw (drop-cons left i 0 h, drop-cons right i 0 l, eq-eqb (getD left i 0) (getD right i 0) e, add-one)
+    pub all-same : length right ≤ i → true ≡ same left right
+    all-same l = none-left l ∙ k .1
 
-  pub over : i ≤ length left → length right ≡ i → eqb (length left) (length right) ≡ same (drop i left) (drop i right)
-  over h l =
-      rw (drop-of-length-le right {i = i} (omega arith), none-left (drop i left) (length left - i) (length-drop i left))
-      (split (eqb (length left - i) 0)
-      (λ t. let e = eqb-true (length left - i) 0 t in eq-eqb (length left) (length right) (omega arith) ∙ sym t)
-      (λ t. let n = eqb-false (length left - i) 0 t in ne-eqb (length left) (length right) (λ e. n (omega arith)) ∙ sym t))
+    -- the entry on the right, read as the number n
+    module _ (l : i < length right) (n : ℕ) (e : n ≡ getD right i 0) where
+      apart : (getD left i 0 ≡ n → ⊥) → false ≡ same (drop i left) (drop i right)
+      unfolding same
+      apart d = rw (drop-cons left i 0 (omega arith), drop-cons right i 0 l, ne-eqb (getD left i 0) (getD right i 0) (λ q. d (q ∙ sym e)))
+
+      passed : getD left i 0 ≡ n → same (drop (i + 1) left) (drop (i + 1) right) ≡ same (drop i left) (drop i right)
+      unfolding same
+      passed q = rw (drop-cons left i 0 (omega arith), drop-cons right i 0 l, eq-eqb (getD left i 0) (getD right i 0) (q ∙ e), add-one)
+
+      pub differs : (getD left i 0 ≡ n → ⊥) → false ≡ same left right
+      differs d = apart d ∙ k .1
+
+      pub agrees : getD left i 0 ≡ n → LeftSame (i + 1)
+      agrees q = (omega arith, passed q ∙ k .1)

@@ -45,9 +45,9 @@ same-append [] (x ∷ xs) ys = refl
 same-append (s ∷ ss) (x ∷ xs) ys = after (eqb s x) _ (same (take (length xs) ss) xs) (same (drop (length xs) ss) ys) (same-append ss xs ys)
 
 -- so it is compared by its front and the rest
-module _ (stored xs ys front : List ℕ) (f : front ≡ take (length xs) stored) where
-  pub then-rest : (back : List ℕ) → back ≡ drop (length xs) stored → same front xs ≡ true → same back ys ≡ same stored (xs ++ ys)
-  then-rest back b t = rw (b, same-append stored xs ys, ← f, t)
+module _ (stored xs ys : List ℕ) {starts : Bool} (s : starts ≡ same (take (length xs) stored) xs) where
+  pub then-rest : {back : List ℕ} {r : Bool} → starts ≡ true → back ≡ drop (length xs) stored → r ≡ same back ys → r ≡ same stored (xs ++ ys)
+  then-rest t b e = rw (same-append stored xs ys, ← s, t, ← b) e
 
-  pub not-front : same front xs ≡ false → false ≡ same stored (xs ++ ys)
-  not-front t = rw (same-append stored xs ys, ← f, t)
+  pub not-front : starts ≡ false → starts ≡ same stored (xs ++ ys)
+  not-front t = rw (same-append stored xs ys, ← s, t)

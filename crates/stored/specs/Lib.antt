@@ -2,4 +2,4 @@ pub mod Lines
 pub mod LineLaws
 pub mod Inputs
 pub mod Answers
-pub mod Tally
+pub mod CaseTally

@@ -8,24 +8,24 @@ use borrow.Author.Tests.{ltb-true}
 use lib.ListN.{length, set, length-set}
 use lib.Dec.{ltb}
 use Rattle.stored.specs.Inputs.{pick}
-use Rattle.stored.specs.Lines.{ended, completed}
+use Rattle.stored.specs.Lines.{ended, lineCompleted}
 use Rattle.stored.specs.declared.lines.Line.{Line}
 use Rattle.stored.specs.declared.lines.Part.{Part}
 use Rattle.stored.specs.declared.lines.Part.the-variants.{Start, Number, Blank, Spoilt}
 use Rattle.stored.specs.declared.lines.Ended.{Ended}
 use Rattle.stored.specs.declared.lines.Ended.the-variants.{Case, Malformed}
 
-abbrev pub Fills : Ended → List ℕ → Type 0
-Fills Ended.Comment numbers = Unit {0}
-Fills (Case count) numbers = (1 ≤ count) × (count ≤ length numbers)
-Fills Malformed numbers = Unit {0}
+abbrev pub FillsCase : Ended → List ℕ → Type 0
+FillsCase Ended.Comment numbers = Unit {0}
+FillsCase (Case count) numbers = (1 ≤ count) × (count ≤ length numbers)
+FillsCase Malformed numbers = Unit {0}
 
 module _ (count : ℕ) (numbers : List ℕ) where
-  whole-fills : (part : Part) → Fills (ended (length numbers) count part) (completed count part numbers)
+  whole-fills : (part : Part) → FillsCase (ended (length numbers) count part) (lineCompleted count part numbers)
   whole-fills Start = tt
   whole-fills (Number value) = kept (ltb count (length numbers)) (ltb-true _ _)
     where
-      kept : (room : Bool) → (room ≡ true → count < length numbers) → Fills (pick room (Case (count + 1)) Malformed) (set numbers count value)
+      kept : (room : Bool) → (room ≡ true → count < length numbers) → FillsCase (pick room (Case (count + 1)) Malformed) (set numbers count value)
       kept true h = let l = h refl in (omega arith, simp length-set (omega arith))
       kept false h = tt
   whole-fills Blank = tt
@@ -34,5 +34,5 @@ module _ (count : ℕ) (numbers : List ℕ) where
 
 pub ended-fills :
     (line : Line) (before : List ℕ) {r : Ended} {after : List ℕ} → r ≡ ended (length before) (line .count) (line .part) →
-    after ≡ completed (line .count) (line .part) before → Fills r after
+    after ≡ lineCompleted (line .count) (line .part) before → FillsCase r after
 ended-fills line before e f = rw (e, f) (whole-fills (line .count) before (line .part))

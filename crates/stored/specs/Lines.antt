@@ -59,13 +59,13 @@ ended room count Part.Comment = Ended.Comment
 ended room count Spoilt = Malformed
 
 -- the room's numbers with the one that the line ends in, where it ends in one and there is room for it, at its place
-abbrev pub completed : ℕ → Part → List ℕ → List ℕ
-completed count Start numbers = numbers
-completed count (Number value) numbers = set numbers count value
-completed count Blank numbers = numbers
-completed count Part.Comment numbers = numbers
-completed count Spoilt numbers = numbers
+abbrev pub lineCompleted : ℕ → Part → List ℕ → List ℕ
+lineCompleted count Start numbers = numbers
+lineCompleted count (Number value) numbers = set numbers count value
+lineCompleted count Blank numbers = numbers
+lineCompleted count Part.Comment numbers = numbers
+lineCompleted count Spoilt numbers = numbers
 
 -- a blank completes the number before it, no other byte does
 abbrev pub completedBy : ℕ → ℕ → Part → List ℕ → List ℕ
-completedBy byte count part numbers = pick (eqb byte 32) (completed count part numbers) numbers
+completedBy byte count part numbers = pick (eqb byte 32) (lineCompleted count part numbers) numbers

@@ -4,7 +4,7 @@ use crate::parts::numbers_to;
 ghost use mathlib.Core.Path.{_≡_};
 ghost use mathlib.Core.Bool.{true};
 ghost use Prim.Native.Nat.{_≤_};
-ghost use lib.ListN.{length};
+ghost use lib.ListN.{length, take, drop};
 ghost use lib.Seq.{sets};
 ghost use Rattle.stored.specs.Inputs.{allWithin, listIn, countOf, copiedTo};
 
@@ -27,7 +27,7 @@ pub fn words_in(case: &[u64], words: &mut [u32]) -> Count
     let Count::Are(count) = count_in(case, WORD, words.len()) else {
         return Count::Malformed;
     };
-    copy_words(numbers_to(numbers_from(case, 1), count), words);
+    copy_words(list_of(case, count), words);
     Count::Are(count)
 }
 
@@ -39,7 +39,7 @@ pub fn bytes_in(case: &[u64], bytes: &mut [u8]) -> Count
     let Count::Are(count) = count_in(case, BYTE, bytes.len()) else {
         return Count::Malformed;
     };
-    copy_bytes(numbers_to(numbers_from(case, 1), count), bytes);
+    copy_bytes(list_of(case, count), bytes);
     Count::Are(count)
 }
 
@@ -52,18 +52,24 @@ fn count_in(case: &[u64], most: u64, room: usize) -> Count
         return Count::Malformed;
     }
     let count = case[0] as usize;
-    let rest = numbers_from(case, 1);
-    if rest.len() < count {
+    if case.len() <= count {
         return Count::Malformed;
     }
     if room < count {
         return Count::Malformed;
     }
-    if all_within(numbers_to(rest, count), most) {
+    if all_within(list_of(case, count), most) {
         Count::Are(count)
     } else {
         Count::Malformed
     }
+}
+
+// The list, where there are so many in it.
+fn list_of(case: &[u64], count: usize) -> &[u64]
+    ensures { λ r. ⌜ now r ≡ take count (drop 1 (now (case .entry))) ⌝ }
+{
+    numbers_to(numbers_from(case, 1), count)
 }
 
 fn all_within(numbers: &[u64], most: u64) -> bool

@@ -3,7 +3,7 @@
 ghost use mathlib.Core.Path.{_≡_};
 ghost use lib.ListN.{length, set};
 ghost use lib.Dec.{ltb};
-ghost use Rattle.stored.specs.Lines.{emptyLine, isStart, firstPart, withDigit, withByte, ended, completed, completedBy};
+ghost use Rattle.stored.specs.Lines.{emptyLine, isStart, firstPart, withDigit, withByte, ended, lineCompleted, completedBy};
 
 // The most numbers that a line may hold.
 pub const ROOM: usize = 32768;
@@ -65,7 +65,7 @@ pub fn add_byte(line: Line, byte: u8, numbers: &mut [u64]) -> Line
 // A line that ends in a blank, or holds nothing at all, is no case.
 pub fn end(line: Line, numbers: &mut [u64]) -> Ended
     ensures { λ r. ⌜ r ≡ ended (length (now (numbers .entry))) (line .count) (line .part) ⌝ }
-    ensures { λ _. ⌜ now (numbers .exit) ≡ completed (line .count) (line .part) (now (numbers .entry)) ⌝ }
+    ensures { λ _. ⌜ now (numbers .exit) ≡ lineCompleted (line .count) (line .part) (now (numbers .entry)) ⌝ }
 {
     let count = line.count;
     let part = line.part;

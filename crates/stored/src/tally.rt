@@ -3,12 +3,12 @@ use crate::answers::Verdict;
 use libc::STDOUT_FILENO;
 ghost use mathlib.Core.Path.{_≡_};
 ghost use Prim.Native.Nat.{_<_};
-ghost use Rattle.stored.specs.Tally.{oneMore, newTally, withLine, withMalformed, withDifference, withCase, judgedAs};
+ghost use Rattle.stored.specs.CaseTally.{oneCaseMore, newTally, withLine, withMalformed, withDifference, withCase, judgedAs};
 
 // One more than the highest number that a call may have.
 pub const CALLS: usize = 32;
 
-pub struct Tally {
+pub struct CaseTally {
     // The number of the line that is being read.
     line: u64,
     // For each call by its number.
@@ -17,11 +17,11 @@ pub struct Tally {
     differences: u64,
 }
 
-impl Tally {
-    pub fn new() -> Tally
+impl CaseTally {
+    pub fn new() -> CaseTally
         ensures { λ r. ⌜ r ≡ newTally ⌝ }
     {
-        Tally {
+        CaseTally {
             line: 1,
             cases: [0; CALLS],
             malformed: 0,
@@ -29,14 +29,14 @@ impl Tally {
         }
     }
 
-    pub fn next_line(mut self) -> Tally
+    pub fn next_line(mut self) -> CaseTally
         ensures { λ r. ⌜ r ≡ withLine self ⌝ }
     {
         self.line = one_more(self.line);
         self
     }
 
-    pub fn malformed(mut self) -> Tally
+    pub fn malformed(mut self) -> CaseTally
         ensures { λ r. ⌜ r ≡ withMalformed self ⌝ }
     {
         self.malformed = one_more(self.malformed);
@@ -45,7 +45,7 @@ impl Tally {
     }
 
     // A call that has no place in the tally makes its line malformed, so that no case goes uncounted.
-    pub fn judged(self, call: u64, verdict: Verdict) -> Tally
+    pub fn judged(self, call: u64, verdict: Verdict) -> CaseTally
         ensures { λ r. ⌜ r ≡ judgedAs call verdict self ⌝ }
     {
         let call = call as usize;
@@ -59,7 +59,7 @@ impl Tally {
         }
     }
 
-    fn case(mut self, call: usize) -> Tally
+    fn case(mut self, call: usize) -> CaseTally
         requires { do ⌜ call < (← ⟦CALLS⟧) ⌝ }
         ensures { λ r. ⌜ r ≡ withCase call self ⌝ }
     {
@@ -67,7 +67,7 @@ impl Tally {
         self
     }
 
-    fn difference(mut self) -> Tally
+    fn difference(mut self) -> CaseTally
         ensures { λ r. ⌜ r ≡ withDifference self ⌝ }
     {
         self.differences = one_more(self.differences);
@@ -97,7 +97,7 @@ fn print_number(before: &[u8], number: u64, after: &[u8]) {
 
 // A count that stands at the highest number stays there: it never wraps to none.
 fn one_more(count: u64) -> u64
-    ensures { λ r. ⌜ r ≡ oneMore count ⌝ }
+    ensures { λ r. ⌜ r ≡ oneCaseMore count ⌝ }
 {
     if count < u64::MAX { count + 1 } else { count }
 }

@@ -1,5 +1,5 @@
 // Lists the words of a KWG on standard input, a line each: the number, a tab, the tiles.
-use listing::Made;
+use listing::BlockMade;
 
 fn main() {
     let mut input = [0u8; listing::INPUT];
@@ -15,7 +15,7 @@ fn print_list(input: &[u8; listing::INPUT], read: usize) {
     let mut block = io::large_buffer();
     let mut unprinted = listing::open(input, read, &mut nodes, &mut counts, &mut work);
     loop {
-        let Made::Bytes {
+        let BlockMade::Bytes {
             written,
             unprinted: left,
         } = listing::next_block(&nodes, &counts, unprinted, &mut block)

@@ -2,21 +2,20 @@
 use native.Mathlib.Omega.{arith}
 use mathlib.Core.Path.{_≡_, sym, ap, _∙_, subst}
 use mathlib.Core.Bool.{Bool}
-use mathlib.Core.List.{List, [], _∷_}
-use Prim.Native.Nat.{ℕ, _*_, _≤_}
+use mathlib.Core.List.{List}
+use Prim.Native.Nat.{ℕ, _*_, _≤_, _<_}
 use lib.ListN.{length, getD}
-use Rattle.node.specs.Answers.{refused}
+use Rattle.answers.specs.Answers.{Answer}
 use Rattle.node.specs.Nodes.{KBWG}
 use Rattle.graph.specs.LoopLaws.{reach-inside}
 use Rattle.graph.specs.ChecksLaws.{Fit}
-use Rattle.graph.specs.Counting.{Counted}
-use Rattle.count.specs.declared.walk.Found.{Found}
-use Rattle.count.specs.declared.walk.Found.the-variants.{Nothing, At}
-use Rattle.count.specs.Said.{limit}
-use Rattle.graph.specs.Lent.{Kept}
-use Rattle.count.specs.Walk.{WalkedIs, ReachesIs}
+use Rattle.graph.specs.Counting.{IsCounted, countLimit}
+use Rattle.count.specs.declared.walk.MaybeNode.{MaybeNode}
+use Rattle.count.specs.declared.walk.MaybeNode.the-variants.{Nothing, At}
+use Rattle.graph.specs.Lent.{Kept, kept-then}
+use Rattle.count.specs.CountWalk.{WalkedIs, ReachesIs}
 use Rattle.laws.specs.Cleared.{cleared-at}
-use Rattle.count.proofs.Lists.{cleared-kept, kept-then, kept-further}
+use Rattle.count.proofs.Lists.{cleared-kept, kept-further}
 use Rattle.count.proofs.Rows.{counts-room, work-room, passed}
 use Rattle.count.proofs.Results.{walk-start, loop-answer, many-answer, all-answer}
 use borrow.Author.Needs.{needs}
@@ -37,56 +36,103 @@ module _ (s : tie.Start) where
   sound = passed nodes (length (s .args .counts .now)) (length (s .args .work .now)) (s .pre)
 
 -- the marks are cleared, and the rest of the work list stays
-cleared-work : (c : tie.After-clear) → Kept (2 * length (nodes (c .before .before .before .before .before))) (c .before .before .before .before .before .args .work .now) (c .clear .last .0)
-cleared-work c =
-    let s = c .before .before .before .before .before in
-    let r = work-fits s in
-    subst (λ (w : List ℕ). Kept (2 * length (nodes s)) (s .args .work .now) w) (sym (c .clear .ensures))
-    (kept-further _ (length (nodes s)) _ _ (omega arith) (cleared-kept _ _ (omega arith)))
+module _ (c : tie.After-clear) where
+  abbrev asked : tie.Start
+  asked = c .before .before .before .before .before
+
+  cleared-work : Kept (2 * length (nodes asked)) (asked .args .work .now) (c .clear .last .0)
+  cleared-work =
+      let r = work-fits asked in
+      subst (λ (w : List ℕ). Kept (2 * length (nodes asked)) (asked .args .work .now) w) (sym (c .clear .ensures))
+      (kept-further _ (length (nodes asked)) _ _ (omega arith) (cleared-kept _ _ (omega arith)))
+
+  unmarked : (i : ℕ) → i < length (nodes asked) → getD (c .clear .last .0) i 0 ≡ 0
+  unmarked i h = ap (λ (w : List ℕ). getD w i 0) (c .clear .ensures) ∙ cleared-at _ _ i h
 
 -- what the walk answers, and leaves of the counts
-abbrev after : tie.After-walk → List ℕ
-after c = c .walk .last .1 .0
+module _ (c : tie.After-walk) where
+  abbrev begun : tie.After-clear
+  begun = c .before .before .before .before .before
 
-walked : (c : tie.After-walk) (r : Found) → c .walk .result ≡ r → WalkedIs limit (nodes (c .before .before .before .before .before .before .before .before .before .before)) (c .before .before .before .before .before .before .before .before .before .before .args .counts .now) (c .before .before .before .before .before .clear .last .0) (after c) (c .walk .last .1 .1 .0) r
-walked c r e = subst (λ (r : Found). WalkedIs limit (nodes (c .before .before .before .before .before .before .before .before .before .before)) (c .before .before .before .before .before .before .before .before .before .before .args .counts .now) (c .before .before .before .before .before .clear .last .0) (after c) (c .walk .last .1 .1 .0) r) e (c .walk .ensures)
+  abbrev start : tie.Start
+  start = asked begun
 
-still-fit : (c : tie.After-walk) → length (nodes (c .before .before .before .before .before .before .before .before .before .before)) ≤ length (after c)
-still-fit c = let h = counts-fit (c .before .before .before .before .before .before .before .before .before .before) in let e = c .walk .kept .1 .0 in omega arith
+  abbrev after : List ℕ
+  after = c .walk .last .1 .0
 
-reached : (c : tie.After-reaches-limit) (r : Bool) → c .reaches-limit .result ≡ r → ReachesIs limit (after (c .before .before .before .before .before .before .before .before)) (length (nodes (c .before .before .before .before .before .before .before .before .before .before .before .before .before .before .before .before .before .before))) r
-reached c r e = subst (λ (r : Bool). ReachesIs limit (after (c .before .before .before .before .before .before .before .before)) (length (nodes (c .before .before .before .before .before .before .before .before .before .before .before .before .before .before .before .before .before .before))) r) e (c .reaches-limit .ensures)
+  abbrev Walked : MaybeNode → Type 0
+  Walked = WalkedIs countLimit (nodes start) (start .args .counts .now) (begun .clear .last .0) after (c .walk .last .1 .1 .0)
+
+  still-fit : length (nodes start) ≤ length after
+  still-fit = let h = counts-fit start in let e = c .walk .kept .1 .0 in omega arith
+
+  -- a list of counts that equals another is counted as that one
+  counted-as : {a : Answer} {x y : List ℕ} → x ≡ y
+      → IsCounted countLimit (nodes start) (start .args .counts .now) (length (start .args .work .now)) a y
+      → IsCounted countLimit (nodes start) (start .args .counts .now) (length (start .args .work .now)) a x
+  counted-as {a} e = subst (IsCounted countLimit (nodes start) (start .args .counts .now) (length (start .args .work .now)) a) (sym e)
+
+abbrev walk-over : tie.After-slice-known5 → tie.After-walk
+walk-over c = c .before .before .before .before
+
+-- it found a node that loops
+module _ (c : tie.After-q) where
+  abbrev looping : tie.After-walk
+  looping = walk-over (c .before .before)
+
+  abbrev node : ℕ
+  node = c .q .given .0 .0
+
+  loop-found : Walked looping (At node)
+  loop-found = subst (Walked looping) (c .q .given .1) (looping .walk .ensures)
+
+-- it counted every node
+module _ (c : tie.After-enum-told) where
+  abbrev finished : tie.After-walk
+  finished = walk-over (c .before .before)
+
+  all-done : Walked finished Nothing
+  all-done = subst (Walked finished) (c .enum-told .given .1) (finished .walk .ensures)
+
+-- and the counts are scanned for the limit
+module _ (c : tie.After-reaches-limit) where
+  abbrev told : tie.After-enum-told
+  told = c .before .before
+
+  reached : {r : Bool} → c .reaches-limit .result ≡ r → ReachesIs countLimit (after (finished told)) (length (nodes (start (finished told)))) r
+  reached e = subst (ReachesIs countLimit (after (finished told)) (length (nodes (start (finished told))))) e (c .reaches-limit .ensures)
 
 clear-requires : tie.Need-clear-requires
 clear-requires c κs = let r = work-fits (c .before .before .before .before) in omega arith
 
 walk-requires : tie.Need-walk-requires
-walk-requires c κs = let s = c .before .before .before .before .before .before .before .before .before in
+walk-requires c κs =
     let k = c .before .before .before .before in
-    let r = work-fits s in
+    let r = work-fits (asked k) in
     let e = cleared-work k .size in
-    (sound s, walk-start limit _ _ _ (omega arith) (counts-fit s) (λ i h. ap (λ (w : List ℕ). getD w i 0) (k .clear .ensures) ∙ cleared-at _ _ i h))
+    (sound (asked k), walk-start countLimit _ _ _ (omega arith) (counts-fit (asked k)) (unmarked k))
 
 enum-known-q : tie.Need-enum-known-q
 enum-known-q c = search needs
 
 clear-requires-2 : tie.Need-clear-requires-2
-clear-requires-2 c κs = still-fit (c .before .before .before .before .before .before .before .before)
+clear-requires-2 c κs = still-fit (looping (c .before .before))
 
 cast-t18 : tie.Need-cast-t18
-cast-t18 c = let s = c .before .before .before .before .before .before .before .before .before .before .before .before .before .before .before .before .before .before .before .before .before in
-    let h = reach-inside KBWG (walked (c .before .before .before .before .before .before .before .before .before .before .before) (At (c .before .before .before .before .before .q .given .0 .0)) (c .before .before .before .before .before .q .given .1) .loops) in
-    let f = sound s .most in
+cast-t18 c =
+    let b = c .before .before .before .before .before in
+    let h = reach-inside KBWG (loop-found b .loops) in
+    let f = sound (start (looping b)) .most in
     omega arith
 
 enum-told : tie.Need-enum-told
 enum-told c = search needs
 
 reaches-limit-requires : tie.Need-reaches-limit-requires
-reaches-limit-requires c κs = still-fit (c .before .before .before .before .before .before .before)
+reaches-limit-requires c κs = still-fit (finished (c .before))
 
 clear-requires-3 : tie.Need-clear-requires-3
-clear-requires-3 c κs = still-fit (c .before .before .before .before .before .before .before .before .before .before)
+clear-requires-3 c κs = still-fit (finished (told (c .before .before)))
 
 same-length : tie.Need-same-length
 same-length c = search needs
@@ -95,11 +141,14 @@ same-length-2 : tie.Need-same-length-2
 same-length-2 c = search needs
 
 returns : tie.Need-returns
-returns c = let s = c .before .before .before .before .before .before .before .before .before .before .before .before .before .before .before .before .before .before .before .before .before .before .before in
-    let A = walked (c .before .before .before .before .before .before .before .before .before .before .before .before .before) Nothing (c .before .before .before .before .before .before .before .enum-told .given .1) in (
-      subst (λ (l : List ℕ). Counted limit (nodes s) (s .args .counts .now) (length (s .args .work .now)) (refused 13 []) l) (sym (c .before .before .clear3 .ensures))
-          (many-answer limit _ _ _ _ _ _ (s .pre) A (reached (c .before .before .before .before .before) _ (c .before .before .before .before .if1 .taken))),
-      kept-then (cleared-work (c .before .before .before .before .before .before .before .before .before .before .before .before .before .before .before .before .before .before)) (A .work-kept),
+returns c =
+    let cleared = c .before .before in
+    let over = cleared .before .before in
+    let b = told (over .before) in
+    let all = all-done b in (
+      counted-as (finished b) (cleared .clear3 .ensures)
+          (many-answer countLimit _ _ _ _ _ _ (start (finished b) .pre) all (reached (over .before) (over .if1 .taken))),
+      kept-then (cleared-work (begun (finished b))) (all .work-kept),
     )
 
 same-length-3 : tie.Need-same-length-3
@@ -109,12 +158,12 @@ same-length-4 : tie.Need-same-length-4
 same-length-4 c = search needs
 
 returns-2 : tie.Need-returns-2
-returns-2 c = let s = c .before .before .before .before .before .before .before .before .before .before .before .before .before .before .before .before .before .before .before .before .before in
-    let q = c .before .before .before .before .before .q .given .0 .0 in
-    let L = walked (c .before .before .before .before .before .before .before .before .before .before .before) (At q) (c .before .before .before .before .before .q .given .1) in (
-      subst (λ (l : List ℕ). Counted limit (nodes s) (s .args .counts .now) (length (s .args .work .now)) (refused 12 (q ∷ [])) l) (sym (c .before .before .clear2 .ensures))
-          (loop-answer limit _ _ _ _ _ _ (s .pre) q L),
-      kept-then (cleared-work (c .before .before .before .before .before .before .before .before .before .before .before .before .before .before .before .before)) (L .work-kept),
+returns-2 c =
+    let cleared = c .before .before in
+    let b = cleared .before .before .before in
+    let loop = loop-found b in (
+      counted-as (looping b) (cleared .clear2 .ensures) (loop-answer countLimit _ _ _ _ _ _ (start (looping b) .pre) (node b) loop),
+      kept-then (cleared-work (begun (looping b))) (loop .work-kept),
     )
 
 same-length-5 : tie.Need-same-length-5
@@ -124,9 +173,12 @@ same-length-6 : tie.Need-same-length-6
 same-length-6 c = search needs
 
 returns-3 : tie.Need-returns-3
-returns-3 c = let s = c .before .before .before .before .before .before .before .before .before .before .before .before .before .before .before .before .before .before .before in
-    let A = walked (c .before .before .before .before .before .before .before .before .before) Nothing (c .before .before .before .enum-told .given .1) in
-    (all-answer limit _ _ _ _ _ _ (s .pre) A (reached (c .before) _ (c .if1 .left)), kept-then (cleared-work (c .before .before .before .before .before .before .before .before .before .before .before .before .before .before)) (A .work-kept))
+returns-3 c =
+    let b = told (c .before) in
+    let all = all-done b in (
+      all-answer countLimit _ _ _ _ _ _ (start (finished b) .pre) all (reached (c .before) (c .if1 .left)),
+      kept-then (cleared-work (begun (finished b))) (all .work-kept),
+    )
 
 pub count-checked-spec : {M : Type 1} → statement M
 count-checked-spec =

@@ -1,11 +1,12 @@
+-- `write_be_halves` meets its contract: the bytes of the high half and then of the low one are those of the whole number.
 use native.Mathlib.Omega.{arith}
 use mathlib.Core.Path.{ap, sym, _∙_}
 use mathlib.Core.List.{List}
 use Prim.Native.Nat.{ℕ, _+_}
 use lib.Seq.{sets}
 use Rattle.endian.specs.Bytes.{bigEndian}
-use Rattle.endian.specs.BigLaws.{halves}
-use Rattle.laws.specs.Sets.{sets-append}
+use Rattle.endian.proofs.BigStores.{halves}
+use Rattle.laws.specs.ListWrites.{sets-append}
 use borrow.Author.Needs.{needs}
 use Rattle.endian.proofs.write_be_halves.Statement.{statement}
 use Rattle.endian.proofs.write_be_halves.Tie as tie
@@ -23,9 +24,15 @@ same-length : tie.Need-same-length
 same-length c = search needs
 
 returns : tie.Need-returns
-returns c = let a = c .before .before .before .before .before .before .before .before .before .args in
-    c .before .before .write-be-u322 .ensures ∙ ap (λ (o : List ℕ). sets o (a .p + 4) (bigEndian 4 (a .low))) (c .before .before .before .before .before .before .write-be-u32 .ensures)
-    ∙ sym (sets-append (a .bytes .now) (a .p) (bigEndian 4 (a .high)) (bigEndian 4 (a .low))) ∙ ap (λ (b : List ℕ). sets (a .bytes .now) (a .p) b) (halves (a .high) (a .low) (omega (arith, c .before .before .before .before .before .before .before .before .before .fits)))
+returns c =
+    let lower = c .before .before in
+    let higher = lower .before .before .before .before in
+    let s = higher .before .before .before in
+    let a = s .args in
+    lower .write-be-u322 .ensures
+    ∙ ap (λ (o : List ℕ). sets o (a .p + 4) (bigEndian 4 (a .low))) (higher .write-be-u32 .ensures)
+    ∙ sym (sets-append (a .bytes .now) (a .p) (bigEndian 4 (a .high)) (bigEndian 4 (a .low)))
+    ∙ ap (λ (b : List ℕ). sets (a .bytes .now) (a .p) b) (halves (a .high) (a .low) (omega (arith, s .fits)))
 
 pub write-be-halves-spec : {M : Type 1} → statement M
 write-be-halves-spec =

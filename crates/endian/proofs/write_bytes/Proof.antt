@@ -1,3 +1,4 @@
+-- `write_bytes` meets its contract: the bytes that are left, put behind those that are in, give what all give.
 use borrow.Author.Needs.{needs}
 use native.Mathlib.Omega.{arith}
 use mathlib.Core.Path.{_≡_, refl, sym, _∙_}
@@ -5,7 +6,7 @@ use Prim.Native.Nat.{_+_, _≤_, _-_}
 use lib.ListN.{length, drop, length-set}
 use native.Mathlib.Nat.{add-zero}
 use lib.Seq.{sets}
-use Rattle.laws.specs.Sets.{sets-next, sets-done}
+use Rattle.laws.specs.ListWrites.{sets-next, sets-done}
 use Rattle.endian.proofs.write_bytes.Statement.{statement}
 use Rattle.endian.proofs.write_bytes.Tie as tie
 

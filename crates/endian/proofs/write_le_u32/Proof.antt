@@ -1,3 +1,4 @@
+-- `write_le_u32` meets its contract: the four bytes are stored one by one, the lowest first.
 use native.Mathlib.Omega.{arith}
 use native.Mathlib.Numerals.{add-one, add-two, add-three}
 use lib.ListN.{length-set}

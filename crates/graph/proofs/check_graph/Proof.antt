@@ -1,15 +1,22 @@
+-- `check_graph` meets its contract: the sizes by the row's first condition, the rest by the check of the nodes.
 use mathlib.Core.Path.{_≡_, sym, ap, _∙_}
-use Rattle.node.specs.Answers.{firstOf}
-use Rattle.graph.specs.Checks.{refusal, graphRow}
-use Rattle.graph.specs.ChecksLaws.{too-few-nodes, too-many-nodes, right-size}
+use mathlib.Core.List.{List}
+use Prim.Native.Nat.{ℕ}
+use Rattle.answers.specs.Answers.{firstOf}
+use Rattle.graph.specs.Checks.{nodesRefusal, graphRow}
+use Rattle.graph.proofs.CheckRows.{too-few-nodes, too-many-nodes, right-size}
 use Rattle.graph.specs.declared.NodesCheck.{NodesCheck}
 use borrow.Author.Needs.{needs}
 use Rattle.graph.proofs.check_graph.Statement.{statement}
 use Rattle.graph.proofs.check_graph.Tie as tie
 
 -- past the sizes, what the check of the nodes says
-judged : (c : tie.After-check-nodes) {k : NodesCheck} → c .check-nodes .result ≡ k → refusal k ≡ firstOf (graphRow (c .before .before .before .before .args .nodes .now))
-judged c e = ap refusal (sym e) ∙ c .check-nodes .ensures ∙ sym (right-size (c .before .before .before .before .args .nodes .now) (c .before .before .if1 .left) (c .before .if2 .left))
+module _ (c : tie.After-check-nodes) where
+  abbrev nodes : List ℕ
+  nodes = c .before .before .before .before .args .nodes .now
+
+  judged : {k : NodesCheck} → c .check-nodes .result ≡ k → nodesRefusal k ≡ firstOf (graphRow nodes)
+  judged e = ap nodesRefusal (sym e) ∙ c .check-nodes .ensures ∙ sym (right-size nodes (c .before .before .if1 .left) (c .before .if2 .left))
 
 returns : tie.Need-returns
 returns c = sym (too-few-nodes (c .before .before .args .nodes .now) (c .if1 .taken))

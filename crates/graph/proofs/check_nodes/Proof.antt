@@ -1,9 +1,10 @@
+-- `check_nodes` meets its contract: the largest arc and the last node decide the row.
 use native.Mathlib.Omega.{arith}
 use mathlib.Core.Path.{sym, ap, _∙_}
 use mathlib.Core.List.{[], _∷_}
 use mathlib.Core.Option.{some}
-use Rattle.node.specs.Answers.{refused}
-use Rattle.graph.specs.ChecksLaws.{arc-past-end, no-end, nodes-sound}
+use Rattle.answers.specs.Answers.{refused}
+use Rattle.graph.proofs.CheckRows.{arc-past-end, no-end, nodes-sound}
 use borrow.Author.Needs.{needs}
 use Rattle.graph.proofs.check_nodes.Statement.{statement}
 use Rattle.graph.proofs.check_nodes.Tie as tie

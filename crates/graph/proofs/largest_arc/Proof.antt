@@ -1,3 +1,4 @@
+-- `largest_arc` meets its contract: the largest so far and the nodes from i on give the largest of all.
 use borrow.Author.Needs.{needs}
 use native.Mathlib.Omega.{arith}
 use Prim.Native.Nat.{_+_, _-_, _≤_, max}
@@ -6,7 +7,7 @@ use Rattle.graph.specs.Runs.{largestArc}
 use mathlib.Core.Path.{_≡_, sym, ap, _∙_}
 use lib.ListN.{length}
 use Rattle.node.specs.Nodes.{KBWG}
-use Rattle.graph.specs.ChecksLaws.{largestFrom, largest-next, largest-done}
+use Rattle.graph.proofs.CheckRows.{largestFrom, largest-next, largest-done}
 use Rattle.graph.proofs.largest_arc.Statement.{statement}
 use Rattle.graph.proofs.largest_arc.Tie as tie
 
@@ -38,13 +39,16 @@ loop-less : tie.Need-loop-less Inv-loop μ-loop
 loop-less c = search needs
 
 loop-again : tie.Need-loop-again Inv-loop μ-loop
-loop-again c = let l = c .before .before .before .before .loop in
-    let nodes = c .before .before .before .before .before .before .args .nodes .now in
+loop-again c =
+    let at = c .before .before .before .before in
+    let l = at .loop in
+    let nodes = at .before .before .args .nodes .now in
     let m = c .larger .ensures ∙ ap (max (l .largest)) (c .before .arc-index .ensures) in
     (omega arith, ap (λ n. largestFrom KBWG n (l .i + 1) nodes) m ∙ largest-next KBWG (l .largest) (l .i) nodes (omega arith) ∙ l .inv .1)
 
 returns : tie.Need-returns Inv-loop μ-loop
-returns c = let l = c .before .loop in
+returns c =
+    let l = c .before .loop in
     let nodes = c .before .before .before .args .nodes .now in
     let e : length nodes ≡ l .i = omega arith in
     sym (largest-done KBWG (l .largest) nodes) ∙ ap (λ k. largestFrom KBWG (l .largest) k nodes) e ∙ l .inv .1 ∙ zero-max (largestArc KBWG nodes)

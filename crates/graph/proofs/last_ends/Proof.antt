@@ -1,7 +1,9 @@
+-- `last_ends` meets its contract: no node is no end, else the last one decides.
 use native.Mathlib.Omega.{arith}
 use mathlib.Core.Path.{_∙_}
 use Rattle.node.specs.Nodes.{KBWG}
-use Rattle.graph.specs.ChecksLaws.{last-of, last-none}
+use Rattle.graph.specs.ChecksLaws.{last-of}
+use Rattle.graph.proofs.CheckRows.{last-none}
 use borrow.Author.Needs.{needs}
 use Rattle.graph.proofs.last_ends.Statement.{statement}
 use Rattle.graph.proofs.last_ends.Tie as tie

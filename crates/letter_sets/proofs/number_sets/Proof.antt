@@ -1,21 +1,52 @@
--- `letter_sets::number_sets` meets its contract. The loop's invariant: the first j blocks have their numbers.
-use mathlib.Core.Path.{subst, ap, _∙_}
-use Prim.Native.Nat.{_+_, _-_}
+-- `number_sets` meets its contract. The loop's invariant: the first j blocks have the numbers of their sets.
+use mathlib.Core.Path.{_≡_, subst, ap, _∙_}
+use mathlib.Core.List.{List}
+use Prim.Native.Nat.{ℕ, _+_, _-_, _*_, _≤_, _<_}
 use native.Mathlib.Omega.{arith}
 use borrow.Author.Needs.{needs}
-use lib.ListN.{length}
+use lib.ListN.{length, getD}
 use Rattle.letter_sets.specs.Letters.{setBy}
-use Rattle.letter_sets.specs.Sets.{Numbered}
-use Rattle.letter_sets.proofs.NumberLaws.{Numbering, numbering-start, numbering-next, numbering-done, run-at}
+use Rattle.letter_sets.specs.SetNumbers.{SetsNumbered}
+use Rattle.letter_sets.proofs.NumberLaws.{SetsSoFar, numbering-start, tree-of-part, numbering-next, numbering-done, run-at}
 use Rattle.letter_sets.proofs.RunLaws.{set-by}
 use Rattle.letter_sets.proofs.number_sets.Statement.{statement}
 use Rattle.letter_sets.proofs.number_sets.Tie as tie
 
 abbrev Inv-loop : tie.InvT-loop
-Inv-loop nodes ranks work₀ blocks n count₀ j₀ work count j = Numbering (setBy ranks nodes) n blocks work₀ work count j
+Inv-loop nodes ranks work₀ blocks n sets count₀ j₀ work count j = SetsSoFar (setBy ranks nodes) n blocks work₀ work count j
 
 abbrev μ-loop : tie.MeasureT-loop
-μ-loop nodes ranks work₀ blocks n count₀ j₀ work count j = blocks - j
+μ-loop nodes ranks work₀ blocks n sets count₀ j₀ work count j = blocks - j
+
+module _ (c : tie.At-loop Inv-loop μ-loop) where
+  abbrev start : tie.Start Inv-loop μ-loop
+  start = c .before .before .before
+
+  room : 7 * length (start .args .nodes .now) ≤ length (start .args .work .now)
+  room = start .pre .1 .1 .0
+
+  within : start .args .blocks ≤ length (start .args .nodes .now)
+  within = start .pre .1 .1 .1
+
+-- the set of block j is that of its run
+module _ (c : tie.After-letter-set Inv-loop μ-loop) where
+  abbrev at : tie.At-loop Inv-loop μ-loop
+  at = c .before .before .before
+
+  abbrev nodes : List ℕ
+  nodes = start at .args .nodes .now
+
+  abbrev ranks : List ℕ
+  ranks = start at .args .ranks .now
+
+  block : at .loop .j < start at .args .blocks
+  block = c .before .before .loop-test .taken
+
+  set-is : c .letter-set .result ≡ setBy ranks nodes (getD (start at .args .work .now) (length nodes + at .loop .j) 0)
+  set-is = c .letter-set .ensures ∙ ap (setBy ranks nodes) (run-at _ _ _ _ (room at) (within at) (at .loop .inv) block)
+
+mul-sets : tie.Need-mul-sets Inv-loop μ-loop
+mul-sets c = omega arith
 
 loop-holds : tie.Need-loop-holds Inv-loop μ-loop
 loop-holds c = numbering-start _ _ _ _ (c .before .before .pre .1 .1 .0)
@@ -31,14 +62,30 @@ slice-read-p c = omega arith
 
 cast-p : tie.Need-cast-p Inv-loop μ-loop
 cast-p c =
-    let n = length (c .before .before .before .before .before .args .nodes .now) in
-    omega (arith, c .slice-known2 .given (n + c .before .before .loop .j))
+    let p = c .before .before in
+    omega (arith, c .slice-known2 .given (length (start p .args .nodes .now) + p .loop .j))
 
 letter-set-requires : tie.Need-letter-set-requires Inv-loop μ-loop
 letter-set-requires c κs = search needs
 
-name-set-requires : tie.Need-name-set-requires Inv-loop μ-loop
-name-set-requires c κs = search needs
+mul-number-key : tie.Need-mul-number-key Inv-loop μ-loop
+mul-number-key c = omega arith
+
+sub-number-key : tie.Need-sub-number-key Inv-loop μ-loop
+sub-number-key c = omega arith
+
+part-number-key-start : tie.Need-part-number-key-start Inv-loop μ-loop
+part-number-key-start c = omega arith
+
+part-number-key-end : tie.Need-part-number-key-end Inv-loop μ-loop
+part-number-key-end c = omega arith
+
+number-key-requires : tie.Need-number-key-requires Inv-loop μ-loop
+number-key-requires c κs =
+    let p = c .before .before .before .before in
+    let few = p .loop .inv .few in
+    let blocks = within p in
+    (tree-of-part _ _ _ _ (room p) blocks (p .loop .inv), (omega arith, omega arith))
 
 mul-work : tie.Need-mul-work Inv-loop μ-loop
 mul-work c = omega arith
@@ -60,27 +107,20 @@ loop-less c = omega arith
 
 loop-again : tie.Need-loop-again Inv-loop μ-loop
 loop-again c =
-    let s = c .before .before .before .before .before .before .before .before .before .before in
-    let q = c .before .before .before .before .before .before .before .loop .inv in
-    let h = c .before .before .before .before .before .before .loop-test .taken in
-    let room = s .pre .1 .1 .0 in
-    let within = s .pre .1 .1 .1 in
-    let run = run-at _ _ _ _ room within q h in
-    let is = c .before .before .before .letter-set .ensures ∙ ap (setBy (s .args .ranks .now) (s .args .nodes .now)) run in
-    numbering-next _ _ _ _ room within q h (c .before .before .name-set .ensures) is (c .before .before .name-set .kept .0)
+    let call = c .before .before in
+    let p = call .before .before in
+    numbering-next _ _ _ _ (room (at p)) (within (at p)) (at p .loop .inv) (block p) (call .number-key .ensures) (set-is p) (call .number-key .kept .0)
 
 same-length : tie.Need-same-length Inv-loop μ-loop
 same-length c = search needs
 
 returns : tie.Need-returns Inv-loop μ-loop
 returns c =
-    let s = c .before .before .before .before in
-    let a = s .args in
-    let l = c .before .loop in
-    let all = numbering-done _ _ _ _ (s .pre .1 .1 .0) (s .pre .1 .1 .1) (l .inv) (c .loop-test .left) in
+    let p = c .before in
+    let all = numbering-done _ _ _ _ (room p) (within p) (p .loop .inv) (c .loop-test .left) in
     λ labels labelled ranked.
-    subst (λ f. Numbered f (length (a .nodes .now)) (a .blocks) (a .work .now) (l .work) (l .count))
-    (set-by labels (a .ranks .now) (a .nodes .now) labelled ranked) all
+    subst (λ f. SetsNumbered f (length (start p .args .nodes .now)) (start p .args .blocks) (start p .args .work .now) (p .loop .work) (p .loop .count))
+    (set-by labels (start p .args .ranks .now) (start p .args .nodes .now) labelled ranked) all
 
 pub number-sets-spec : {M : Type 1} → statement M
 number-sets-spec =
@@ -88,13 +128,18 @@ number-sets-spec =
     (tie.spec
     Inv-loop
     μ-loop
+    mul-sets
     loop-holds
     add-p
     mul-p
     slice-read-p
     cast-p
     letter-set-requires
-    name-set-requires
+    mul-number-key
+    sub-number-key
+    part-number-key-start
+    part-number-key-end
+    number-key-requires
     mul-work
     add-work
     mul-work-2

@@ -7,15 +7,17 @@ use Prim.Native.Nat.{ℕ, _*_, _≤_}
 use native.Mathlib.Nat.{le-of-eq}
 use lib.ListN.{length, take}
 use lib.Seq.{length-take-le}
-use Rattle.node.specs.Answers.{Row, firstOf}
+use Rattle.answers.specs.Answers.{Row, firstOf}
 use Rattle.graph.specs.Lent.{work-untouched, work-walked}
-use Rattle.lxd_file.specs.Row.{checkRow}
-use Rattle.lxd.specs.Said.{refusal}
+use Rattle.lxd_file.specs.Row.{lxdChecks}
+use Rattle.lxd.specs.Said.{checkedRefusal}
+use Rattle.lxd.specs.declared.checks.LxdChecked.{LxdChecked}
 use Rattle.lxd.proofs.CallLaws.{call-refuses, call-walks, passed-graph, passed-labels, passed-work, part-kept}
 use borrow.Author.Needs.{needs}
 use Rattle.lxd.proofs.to_lxd.Statement.{statement}
 use Rattle.lxd.proofs.to_lxd.Tie as tie
 
+-- the call: its lists, and the row of its checks
 module _ (s : tie.Start) where
   abbrev g : List ℕ
   g = s .args .nodes .now
@@ -33,7 +35,10 @@ module _ (s : tie.Start) where
   work = s .args .work .now
 
   abbrev checks : Row
-  checks = checkRow g labels title date (length work)
+  checks = lxdChecks g labels title date (length work)
+
+abbrev opened : tie.After-slice-known → tie.Start
+opened c = c .before .before .before .before .before
 
 check-requires : tie.Need-check-requires
 check-requires c κs = search needs
@@ -47,16 +52,27 @@ enum-told c = search needs
 mul-free : tie.Need-mul-free
 mul-free c = search needs
 
--- past the checks
-passed : (c : tie.After-enum-told) → let s = c .before .before .before .before .before .before .before .before .before in firstOf (checks s) ≡ none
-passed c = sym (c .before .before .check .ensures) ∙ ap refusal (c .enum-told .given .1)
+-- where the checks are made
+module _ (c : tie.After-check) where
+  abbrev asked : tie.Start
+  asked = opened (c .before .before)
 
-room : (c : tie.After-enum-told) → let s = c .before .before .before .before .before .before .before .before .before in 8 * length (g s) ≤ length (work s)
-room c = let s = c .before .before .before .before .before .before .before .before .before in passed-work (g s) (labels s) (title s) (date s) (length (work s)) (passed c)
+  judged : {k : LxdChecked} → c .check .result ≡ k → firstOf (checks asked) ≡ checkedRefusal k
+  judged e = sym (c .check .ensures) ∙ ap checkedRefusal e
 
--- the part of the work list that is lent on
-part-length : (c : tie.After-enum-told) → let s = c .before .before .before .before .before .before .before .before .before in length (take (8 * length (g s)) (work s)) ≡ 8 * length (g s)
-part-length c = let s = c .before .before .before .before .before .before .before .before .before in length-take-le (8 * length (g s)) (work s) (room c)
+-- past the checks: the part of the work list that is lent on
+module _ (c : tie.After-enum-told) where
+  abbrev s : tie.Start
+  s = asked (c .before .before)
+
+  passed : firstOf (checks s) ≡ none
+  passed = judged (c .before .before) (c .enum-told .given .1)
+
+  room : 8 * length (g s) ≤ length (work s)
+  room = passed-work (g s) (labels s) (title s) (date s) (length (work s)) passed
+
+  part-length : length (take (8 * length (g s)) (work s)) ≡ 8 * length (g s)
+  part-length = length-take-le (8 * length (g s)) (work s) room
 
 slice-relend-prefix-write-checked : tie.Need-slice-relend-prefix-write-checked
 slice-relend-prefix-write-checked c = room c
@@ -65,16 +81,18 @@ slice-aggregate-write-checked : tie.Need-slice-aggregate-write-checked
 slice-aggregate-write-checked c = sym (part-length (c .before))
 
 write-checked-requires : tie.Need-write-checked-requires
-write-checked-requires c κs = let s = c .before .before .before .before .before .before .before .before .before .before .before in
-    let ok = passed (c .before .before) in (
-      passed-graph (g s) (labels s) (title s) (date s) (length (work s)) ok,
-      (passed-labels (g s) (labels s) (title s) (date s) (length (work s)) ok, le-of-eq (sym (part-length (c .before .before)))),
+write-checked-requires c κs =
+    let k = c .before .before in
+    let labelled = passed-labels (g (s k)) (labels (s k)) (title (s k)) (date (s k)) (length (work (s k))) (passed k) in (
+      passed-graph (g (s k)) (labels (s k)) (title (s k)) (date (s k)) (length (work (s k))) (passed k),
+      (labelled, le-of-eq (sym (part-length k))),
     )
 
 returns : tie.Need-returns
-returns c = let s = c .before .before .before .before .before .before .before .before .before .before in
-    let refused = sym (c .before .before .before .check .ensures) ∙ ap refusal (c .before .checked .given .1) in
-    (call-refuses (g s) (labels s) (title s) (date s) (length (work s)) (s .args .file .now) refused, work-untouched refl)
+returns c =
+    let k = c .before .before .before in
+    let a = asked k in
+    (call-refuses (g a) (labels a) (title a) (date a) (length (work a)) (a .args .file .now) (judged k (c .before .checked .given .1)), work-untouched refl)
 
 same-length : tie.Need-same-length
 same-length c = search needs
@@ -83,12 +101,13 @@ same-length-2 : tie.Need-same-length-2
 same-length-2 c = search needs
 
 returns-2 : tie.Need-returns-2
-returns-2 c = let s = c .before .before .before .before .before .before .before .before .before .before .before .before .before .before .before .before in
-    let p = c .before .before .before .before .before .before .before in
-    let part = c .before .before .before .before .write-checked in
-    let same = part .kept .1 .1 .1 .1 .0 ∙ part-length p in (
-      part .ensures ∙ call-walks (g s) (labels s) (title s) (date s) (length (work s)) (s .args .file .now) (passed p),
-      work-walked (passed p) (part-kept (8 * length (g s)) (work s) (part .last .1 .1 .1 .1 .0) (room p) same),
+returns-2 c =
+    let w = c .before .before .before .before in
+    let k = w .before .before .before in
+    let part = w .write-checked in
+    let same = part .kept .1 .1 .1 .1 .0 ∙ part-length k in (
+      call-walks (g (s k)) (labels (s k)) (title (s k)) (date (s k)) (length (work (s k))) (s k .args .file .now) (passed k) (part .ensures),
+      work-walked (passed k) (part-kept (8 * length (g (s k))) (work (s k)) (part .last .1 .1 .1 .1 .0) (room k) same),
     )
 
 pub to-lxd-spec : {M : Type 1} → statement M

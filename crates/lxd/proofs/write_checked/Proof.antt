@@ -4,17 +4,21 @@ use mathlib.Core.Path.{_≡_, sym, ap, _∙_, subst}
 use mathlib.Core.Bool.{false}
 use mathlib.Core.Logic.{⊎-elim}
 use mathlib.Core.List.{List}
-use Prim.Native.Nat.{ℕ, _<_}
+use Prim.Native.Nat.{ℕ}
 use lib.ListN.{length}
 use Rattle.laws.specs.Lists.{someOf}
-use Rattle.export.specs.Survey.{wide, SurveyIs}
+use Rattle.graph.specs.ChecksLaws.{Fit}
+use Rattle.survey.specs.Survey.{byteless}
+use Rattle.survey.specs.declared.Surveyed.{Surveyed}
 use Rattle.lxd_file.specs.Row.{reached}
-use Rattle.lxd_file.specs.RunsLaws.{start-inside}
-use Rattle.lxd.proofs.WalkLaws.{Answers, Finds, all-have-bytes, wide-label, walk-refuses}
+use Rattle.lxd.specs.Said.{afterChecks}
+use Rattle.lxd.proofs.RowLaws.{StopsAt, answerAt}
+use Rattle.lxd.proofs.WalkLaws.{StartSurveyed, StartFindings, all-have-bytes, byteless-label, walkOf, walk-refuses}
 use borrow.Author.Needs.{needs}
 use Rattle.lxd.proofs.write_checked.Statement.{statement}
 use Rattle.lxd.proofs.write_checked.Tie as tie
 
+-- the call: its lists, what is known of them, and the walk's refusal by its first check that holds
 module _ (s : tie.Start) where
   abbrev g : List ℕ
   g = s .args .nodes .now
@@ -22,17 +26,34 @@ module _ (s : tie.Start) where
   abbrev labels : List ℕ
   labels = s .args .labels .now
 
+  abbrev title : List ℕ
+  title = s .args .title .now
+
+  abbrev date : List ℕ
+  date = s .args .date .now
+
+  abbrev lent : List ℕ
+  lent = s .args .file .now
+
+  sound : Fit g
+  sound = s .pre .0
+
+  refuses : (k : ℕ) → let r = walkOf g labels title date lent in
+      StopsAt k r → record { answer = answerAt k r; bytes = lent } ≡ afterChecks g labels title date lent
+  refuses = walk-refuses g labels title date lent
+
+abbrev opened : tie.After-slice-known → tie.Start
+opened c = c .before .before .before .before .before
+
+-- where the labels are looked at
+abbrev asked : tie.After-lacks-byte → tie.Start
+asked c = opened (c .before .before)
+
 lacks-byte-requires : tie.Need-lacks-byte-requires
 lacks-byte-requires c κs = search needs
 
-start-requires : tie.Need-start-requires
-start-requires c κs = search needs
-
-survey-requires : tie.Need-survey-requires
-survey-requires c κs = let s = c .before .before .before .before .before .before .before .before .before .before in
-    let room = s .pre .1 .1 in
-    let inside = subst (λ (p : ℕ). p < length (g s)) (sym (c .start .ensures)) (start-inside (g s) (s .pre .0)) in
-    (s .pre .0, (s .pre .1 .0, (omega arith, inside)))
+survey-start-requires : tie.Need-survey-start-requires
+survey-start-requires c κs = let s = asked (c .before .before) in (sound s, (s .pre .1 .0, s .pre .1 .1))
 
 enum-known-surveyed : tie.Need-enum-known-surveyed
 enum-known-surveyed c = search needs
@@ -43,49 +64,63 @@ enum-told c = search needs
 same-length : tie.Need-same-length
 same-length c = search needs
 
-answers : (c : tie.After-survey) → let s = c .before .before .before .before .before .before .before .before .before .before .before in Answers (g s) (labels s) (c .survey .result)
-answers c = let s = c .before .before .before .before .before .before .before .before .before .before .before in
-    subst (λ (p : ℕ). SurveyIs (g s) (labels s) 64 p (c .survey .result)) (c .before .start .ensures) (c .survey .ensures)
+-- what the survey answers, and finds
+module _ (c : tie.After-survey-start) where
+  abbrev before-survey : tie.Start
+  before-survey = asked (c .before .before .before)
 
-finds : (c : tie.After-surveyed) → let s = c .before .before .before .before .before .before .before .before .before .before .before .before .before .before .before in Finds (g s) (labels s) (c .surveyed .given .0 .0)
-finds c = let s = c .before .before .before .before .before .before .before .before .before .before .before .before .before .before .before in subst (Answers (g s) (labels s)) (c .surveyed .given .1) (answers (c .before .before .before .before))
+  answers : {r : Surveyed} → c .survey-start .result ≡ r → StartSurveyed (g before-survey) (labels before-survey) r
+  answers e = subst (StartSurveyed (g before-survey) (labels before-survey)) e (c .survey-start .ensures)
+
+module _ (c : tie.After-surveyed) where
+  abbrev survey-end : tie.After-survey-start
+  survey-end = c .before .before .before .before
+
+  abbrev from : tie.Start
+  from = before-survey survey-end
+
+  finds : StartFindings (g from) (labels from) (c .surveyed .given .0 .0)
+  finds = answers survey-end (c .surveyed .given .1)
 
 returns : tie.Need-returns
-returns c = let s = c .before .before .before .before .before .before .before .before .before .before .before .before .before .before .before in walk-refuses (g s) (labels s) (s .args .title .now) (s .args .date .now) (s .args .file .now) 0 (subst (Answers (g s) (labels s)) (c .enum-told .given .1) (answers (c .before .before .before .before)))
+returns c = let a = c .before .before .before .before in refuses (before-survey a) 0 (answers a (c .enum-told .given .1))
 
 same-length-2 : tie.Need-same-length-2
 same-length-2 c = search needs
 
 returns-2 : tie.Need-returns-2
-returns-2 c = let s = c .before .before .before .before .before .before .before .before .before .before .before .before .before .before .before .before .before in
-    let f = finds (c .before .before) in
-    walk-refuses (g s) (labels s) (s .args .title .now) (s .args .date .now) (s .args .file .now) 1 (f .deep, wide-label (g s) (labels s) (s .pre .0) _ f ∙ c .if2 .taken)
+returns-2 c =
+    let k = c .before .before in
+    let s = from k in
+    refuses s 1 (finds k .deep, byteless-label (g s) (labels s) (sound s) _ (finds k) ∙ c .if2 .taken)
 
 -- where the two ways meet
 module _ (c : tie.Joined1) where
-  abbrev from : tie.Start
-  from = c .before .before .before .before .before .before .before .before
+  abbrev s : tie.Start
+  s = asked (c .before)
 
-  narrow : someOf (wide (labels from)) (reached (g from)) ≡ false
-  narrow =
+  bytes : someOf (byteless (labels s)) (reached (g s)) ≡ false
+  bytes =
       ⊎-elim
       (λ w.
-      let answer = subst (λ (p : ℕ). SurveyIs (g from) (labels from) 64 p (w .3 .result)) (w .2 .ensures) (w .3 .ensures) in
-      let f = subst (Answers (g from) (labels from)) (w .7 .given .1) answer in
-      wide-label (g from) (labels from) (from .pre .0) _ f ∙ w .9 .left)
-      (λ w. all-have-bytes (g from) (labels from) (sym (c .before .lacks-byte .ensures) ∙ w .0 .left))
+      let f = subst (StartSurveyed (g s) (labels s)) (w .6 .given .1) (w .2 .ensures) in
+      byteless-label (g s) (labels s) (sound s) _ f ∙ w .8 .left)
+      (λ w. all-have-bytes (g s) (labels s) (sym (c .before .lacks-byte .ensures) ∙ w .0 .left))
       (c .if1 .came)
 
-  as-long : length (c .if1 .work) ≡ length (from .args .work .now)
-  as-long = ⊎-elim (λ w. ap length (w .10) ∙ w .3 .kept .1 .1 .0) (λ w. ap length (w .1)) (c .if1 .came)
+  as-long : length (c .if1 .work) ≡ length (s .args .work .now)
+  as-long = ⊎-elim (λ w. ap length (w .9) ∙ w .2 .kept .1 .1 .0) (λ w. ap length (w .1)) (c .if1 .came)
 
 write-numbered-requires : tie.Need-write-numbered-requires
-write-numbered-requires c κs = let s = c .before .before .before .before .before .before .before .before .before .before in
-    let room = s .pre .1 .1 in
-    (s .pre .0, (s .pre .1 .0, (omega (arith, as-long (c .before .before)), narrow (c .before .before))))
+write-numbered-requires c κs =
+    let k = c .before .before in
+    let room = s k .pre .1 .1 in
+    (sound (s k), (s k .pre .1 .0, (omega (arith, as-long k), bytes k)))
 
 same-length-3 : tie.Need-same-length-3
-same-length-3 c = c .before .before .before .before .write-numbered .kept .1 .1 .1 .1 .0 ∙ as-long (c .before .before .before .before .before .before .before)
+same-length-3 c =
+    let w = c .before .before .before .before in
+    w .write-numbered .kept .1 .1 .1 .1 .0 ∙ as-long (w .before .before .before)
 
 same-length-4 : tie.Need-same-length-4
 same-length-4 c = search needs
@@ -98,8 +133,7 @@ write-checked-spec =
     tie.close
     (tie.spec
     lacks-byte-requires
-    start-requires
-    survey-requires
+    survey-start-requires
     enum-known-surveyed
     enum-told
     same-length

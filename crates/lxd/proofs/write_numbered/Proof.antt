@@ -2,27 +2,35 @@
 -- file is written from the record that it leaves.
 use native.Mathlib.Omega.{arith}
 use mathlib.Core.Path.{_≡_, refl, sym, ap, _∙_, subst}
-use mathlib.Core.Bool.{true}
+use mathlib.Core.Bool.{true, false}
 use mathlib.Core.List.{List, []}
-use Prim.Native.Nat.{ℕ, _<_}
+use Prim.Native.Nat.{ℕ, _*_, _≤_, _<_}
 use lib.ListN.{length, getD}
 use borrow.Author.Tests.{eq-eqb}
 use Rattle.laws.specs.Cleared.{cleared-at}
-use Rattle.export.specs.Starts.{start}
+use Rattle.laws.specs.Lists.{someOf}
+use Rattle.graph.specs.Runs.{startNode}
+use Rattle.graph.specs.ChecksLaws.{Fit}
 use Rattle.export.specs.Blocks.{met}
 use Rattle.export.specs.ChainLaws.{arcsFrom}
-use Rattle.export.specs.DepthsLaws.{depths-none}
+use Rattle.block_record.specs.DepthsLaws.{depths-none}
 use Rattle.export.specs.Written.{written}
+use Rattle.survey.specs.Survey.{byteless}
 use Rattle.lxd_file.specs.File.{lxdFile}
+use Rattle.lxd_file.specs.Row.{reached}
 use Rattle.lxd_file.specs.RunsLaws.{start-inside}
-use Rattle.lxd_blocks.specs.Numbered.{Numbered, NumberedAs}
+use Rattle.lxd_blocks.specs.RunsNumbered.{RunsNumbered, NumberedAs}
 use Rattle.lxd_blocks.specs.NumberedLaws.{none-recorded}
-use Rattle.lxd_blocks.specs.declared.numbering.Numbering.{Numbering}
-use Rattle.lxd.proofs.WalkLaws.{wide-label, many-words, found, surveys-too, many-nodes, plan, walk-refuses}
+use Rattle.lxd_blocks.specs.declared.numbering.RunNumbering.{RunNumbering}
+use Rattle.lxd_blocks.specs.declared.numbering.RunNumbering.the-variants.{Done, TooDeep, TooMany}
+use Rattle.lxd.specs.Said.{afterChecks}
+use Rattle.lxd.proofs.RowLaws.{StopsAt, answerAt}
+use Rattle.lxd.proofs.WalkLaws.{byteless-label, many-words, found, surveys-too, many-nodes, plan, walkOf, walk-refuses}
 use borrow.Author.Needs.{needs}
 use Rattle.lxd.proofs.write_numbered.Statement.{statement}
 use Rattle.lxd.proofs.write_numbered.Tie as tie
 
+-- the call: its lists, what is known of them, and the walk's refusal by its first check that holds
 module _ (s : tie.Start) where
   abbrev g : List ℕ
   g = s .args .nodes .now
@@ -30,37 +38,73 @@ module _ (s : tie.Start) where
   abbrev labels : List ℕ
   labels = s .args .labels .now
 
-  -- what the numbering answers of the runs from the start, by the work list before it and after
-  abbrev Answers : List ℕ → List ℕ → Numbering → Type 0
-  Answers w₀ w = NumberedAs g w₀ w (met (arcsFrom g) 64 [] (start g 0)) true (start g 0) 64
+  abbrev title : List ℕ
+  title = s .args .title .now
+
+  abbrev date : List ℕ
+  date = s .args .date .now
+
+  abbrev lent : List ℕ
+  lent = s .args .file .now
+
+  sound : Fit g
+  sound = s .pre .0
+
+  room : 8 * length g ≤ length (s .args .work .now)
+  room = s .pre .1 .1 .0
+
+  bytes : someOf (byteless labels) (reached g) ≡ false
+  bytes = s .pre .1 .1 .1
+
+  refuses : (k : ℕ) → let r = walkOf g labels title date lent in
+      StopsAt k r → record { answer = answerAt k r; bytes = lent } ≡ afterChecks g labels title date lent
+  refuses = walk-refuses g labels title date lent
+
+abbrev opened : tie.After-slice-known → tie.Start
+opened c = c .before .before .before .before .before
 
 clear-requires : tie.Need-clear-requires
 clear-requires c κs = search needs
 
-start-requires : tie.Need-start-requires
-start-requires c κs = search needs
+start-node-requires : tie.Need-start-node-requires
+start-node-requires c κs = search needs
 
-emptied : (c : tie.After-clear) (p : ℕ) → let s = c .before .before .before .before .before .before .before .before in p < length (g s) → getD (c .clear .last .0) p 0 ≡ 0
-emptied c p l = let s = c .before .before .before .before .before .before .before .before in ap (λ (w : List ℕ). getD w p 0) (c .clear .ensures) ∙ cleared-at (length (g s)) (s .args .work .now) p l
+-- where the record is cleared
+module _ (c : tie.After-clear) where
+  abbrev asked : tie.Start
+  asked = opened (c .before .before .before)
+
+  emptied : (p : ℕ) → p < length (g asked) → getD (c .clear .last .0) p 0 ≡ 0
+  emptied p l = ap (λ (w : List ℕ). getD w p 0) (c .clear .ensures) ∙ cleared-at (length (g asked)) (asked .args .work .now) p l
 
 number-run-requires : tie.Need-number-run-requires
-number-run-requires c κs = let s = c .before .before .before .before .before .before .before .before .before .before .before .before in
+number-run-requires c κs =
     let e = c .before .before .before .before in
-    let room = s .pre .1 .1 .0 in
-    let inside = subst (λ (p : ℕ). p < length (g s)) (sym (c .start .ensures)) (start-inside (g s) (s .pre .0)) in (
-      none-recorded (g s) (s .pre .0) (omega (arith, e .clear .kept .0)) (emptied e) refl refl,
-      (inside, (emptied e (c .start .result) inside, depths-none (g s) (e .clear .last .0) (emptied e) .1 (c .start .result))),
+    let s = asked e in
+    let p = c .start-node .result in
+    let inside = subst (λ (p : ℕ). p < length (g s)) (sym (c .start-node .ensures)) (start-inside (g s) (sound s)) in (
+      none-recorded (g s) (sound s) (omega (arith, room s, e .clear .kept .0)) (emptied e) refl refl,
+      (inside, (emptied e p inside, depths-none (g s) (e .clear .last .0) (emptied e) .1 p)),
     )
 
-answers : (c : tie.After-number-run) → let s = c .before .before .before .before .before .before .before .before .before .before .before .before .before in Answers s (c .before .before .before .before .before .clear .last .0) (c .number-run .last .1 .0) (c .number-run .result)
-answers c =
-    let s = c .before .before .before .before .before .before .before .before .before .before .before .before .before in
-    let r = c .number-run in
-    subst (λ (p : ℕ). NumberedAs (g s) (c .before .before .before .before .before .clear .last .0) (r .last .1 .0) (met (arcsFrom (g s)) 64 [] p) true p 64 (r .result)) (c .before .start .ensures)
-    (r .ensures)
+-- where the runs from the start are numbered: what is answered, by the work list before it and after
+module _ (c : tie.After-number-run) where
+  abbrev cleared : tie.After-clear
+  cleared = c .before .before .before .before .before
 
-as-long : (c : tie.After-number-run) → length (c .number-run .last .1 .0) ≡ length (c .before .before .before .before .before .before .before .before .before .before .before .before .before .args .work .now)
-as-long c = c .number-run .kept .1 .0 ∙ c .before .before .before .before .before .clear .kept .0
+  abbrev from : tie.Start
+  from = asked cleared
+
+  abbrev AnswersFrom : ℕ → RunNumbering → Type 0
+  AnswersFrom p = NumberedAs (g from) (cleared .clear .last .0) (c .number-run .last .1 .0) (met (arcsFrom (g from)) 64 [] p) true p 64
+
+  answers : (r : RunNumbering) → c .number-run .result ≡ r → AnswersFrom (startNode (g from) 0) r
+  answers r e =
+      subst (AnswersFrom (startNode (g from) 0)) e
+      (subst (λ (p : ℕ). AnswersFrom p (c .number-run .result)) (c .before .start-node .ensures) (c .number-run .ensures))
+
+  as-long : length (c .number-run .last .1 .0) ≡ length (from .args .work .now)
+  as-long = c .number-run .kept .1 .0 ∙ cleared .clear .kept .0
 
 enum-told : tie.Need-enum-told
 enum-told c = search needs
@@ -69,56 +113,62 @@ enum-told-2 : tie.Need-enum-told-2
 enum-told-2 c = search needs
 
 refuse-too-many-requires : tie.Need-refuse-too-many-requires
-refuse-too-many-requires c κs = let s = c .before .before .before .before .before .before .before .before .before .before .before .before .before .before .before .before .before .before in
-    let n = c .before .before .before .before .before in
-    let room = s .pre .1 .1 .0 in
-    let many = subst (Answers s (n .before .before .before .before .before .clear .last .0) (n .number-run .last .1 .0)) (c .before .enum-told2 .given .1) (answers n) in
-    (s .pre .0, (s .pre .1 .0, (omega (arith, as-long n), (s .pre .1 .1 .1, many-nodes (g s) (labels s) many))))
+refuse-too-many-requires c κs =
+    let told = c .before in
+    let n = told .before .before .before .before in
+    let s = from n in
+    let many = many-nodes (g s) (labels s) (answers n TooMany (told .enum-told2 .given .1)) in
+    (sound s, (s .pre .1 .0, (omega (arith, room s, as-long n), (bytes s, many))))
 
 enum-known-numbered : tie.Need-enum-known-numbered
 enum-known-numbered c = search needs
 
--- what is found where no chain is too long and no node too many
+-- where no chain is too long and no node too many
 module _ (c : tie.After-numbered) where
-  abbrev from : tie.Start
-  from = c .before .before .before .before .before .before .before .before .before .before .before .before .before .before .before .before .before
+  abbrev walked : tie.After-number-run
+  walked = c .before .before .before .before
 
-  numbered : Numbered (g from) (c .before .before .before .before .before .before .before .before .before .clear .last .0) (c .before .before .before .before .number-run .last .1 .0) (met (arcsFrom (g from)) 64 [] (start (g from) 0)) true (start (g from) 0) 64
-      (c .numbered .given .0 .0)
-  numbered =
-      subst (Answers from (c .before .before .before .before .before .before .before .before .before .clear .last .0) (c .before .before .before .before .number-run .last .1 .0)) (c .numbered .given .1) (answers (c .before .before .before .before))
+  abbrev s : tie.Start
+  s = from walked
+
+  numbered : RunsNumbered (g s) (cleared walked .clear .last .0) (walked .number-run .last .1 .0)
+      (met (arcsFrom (g s)) 64 [] (startNode (g s) 0)) true (startNode (g s) 0) 64 (c .numbered .given .0 .0)
+  numbered = answers walked (Done (c .numbered .given .0 .0)) (c .numbered .given .1)
 
 same-length : tie.Need-same-length
 same-length c = search needs
 
 returns : tie.Need-returns
-returns c = let s = c .before .before .before .before .before .before .before .before .before .before .before .before .before .before .before .before .before .before .before .before in
-    let f = surveys-too (g s) (labels s) (numbered (c .before .before .before)) in
-    walk-refuses (g s) (labels s) (s .args .title .now) (s .args .date .now) (s .args .file .now) 2 (f .deep, (s .pre .1 .1 .1, many-words (g s) (labels s) (s .pre .0) _ f ∙ eq-eqb _ _ (c .if1 .taken)))
+returns c =
+    let k = c .before .before .before in
+    let f = surveys-too (g (s k)) (labels (s k)) (numbered k) in
+    let many = many-words (g (s k)) (labels (s k)) (sound (s k)) _ f ∙ eq-eqb _ _ (c .if1 .taken) in
+    refuses (s k) 2 (f .deep, (bytes (s k), many))
 
 write-file-requires : tie.Need-write-file-requires
-write-file-requires c κs = let s = c .before .before .before .before .before .before .before .before .before .before .before .before .before .before .before .before .before .before .before .before .before .before in
-    let n = numbered (c .before .before .before .before .before) in
-    let room = s .pre .1 .1 .0 in
-    let f = surveys-too (g s) (labels s) n in
-    let narrow = sym (wide-label (g s) (labels s) (s .pre .0) _ f) ∙ s .pre .1 .1 .1 in
-    plan (g s) (labels s) _ (found (g s) (labels s) (s .pre .0) _ f (s .pre .1 .0) narrow (c .before .before .if1 .left)) (omega (arith, s .pre .0 .two, as-long (c .before .before .before .before .before .before .before .before .before))) (n .held)
+write-file-requires c κs =
+    let e = c .before .before in
+    let k = e .before .before .before in
+    let f = surveys-too (g (s k)) (labels (s k)) (numbered k) in
+    let all = sym (byteless-label (g (s k)) (labels (s k)) (sound (s k)) _ f) ∙ bytes (s k) in
+    let passed = found (g (s k)) (labels (s k)) (sound (s k)) _ f (s k .pre .1 .0) all (e .if1 .left) in
+    plan (g (s k)) (labels (s k)) _ passed (omega (arith, room (s k), sound (s k) .two, as-long (walked k))) (numbered k .held)
 
 same-length-2 : tie.Need-same-length-2
 same-length-2 c = search needs
 
 returns-2 : tie.Need-returns-2
-returns-2 c = let s = c .before .before .before .before .before .before .before .before .before .before .before .before .before .before .before .before .before in
-    let n = c .before .before .before .before in
-    walk-refuses (g s) (labels s) (s .args .title .now) (s .args .date .now) (s .args .file .now) 0 (subst (Answers s (n .before .before .before .before .before .clear .last .0) (n .number-run .last .1 .0)) (c .enum-told .given .1) (answers n))
+returns-2 c = let n = c .before .before .before .before in refuses (from n) 0 (answers n TooDeep (c .enum-told .given .1))
 
 same-length-3 : tie.Need-same-length-3
 same-length-3 c = search needs
 
 returns-3 : tie.Need-returns-3
-returns-3 c = let s = c .before .before .before .before .before .before .before .before .before .before .before .before .before .before .before .before .before .before .before .before .before in
-    let refused = c .before .before .refuse-too-many .ensures (s .args .title .now) (s .args .date .now) (length (s .args .file .now)) in
-    ap (λ o. written o (lxdFile (g s) (labels s) (s .args .title .now) (s .args .date .now)) (s .args .file .now)) (sym refused)
+returns-3 c =
+    let r = c .before .before in
+    let told = r .before .before in
+    let s = from (told .before .before .before .before) in
+    ap (λ o. written o (lxdFile (g s) (labels s) (title s) (date s)) (lent s)) (sym (r .refuse-too-many .ensures (title s) (date s) (length (lent s))))
 
 same-length-4 : tie.Need-same-length-4
 same-length-4 c = search needs
@@ -134,7 +184,7 @@ write-numbered-spec =
     tie.close
     (tie.spec
     clear-requires
-    start-requires
+    start-node-requires
     number-run-requires
     enum-told
     enum-told-2

@@ -1,3 +1,4 @@
+-- `pack` meets its contract, by the layout.
 use borrow.Author.Needs.{needs}
 use Rattle.node.proofs.pack.Statement.{statement}
 use Rattle.node.proofs.pack.Tie as tie

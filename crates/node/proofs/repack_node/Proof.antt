@@ -1,7 +1,8 @@
+-- `repack_node` meets its contract: by the layout, what is packed are the fields that were read.
 use mathlib.Core.Path.{refl, ap, _∙_}
 use Rattle.node.specs.Nodes.{KWG, KBWG}
-use Rattle.node.specs.Said.{placesOf, packAnswer}
-use Rattle.node.specs.PackingLaws.{values-fields}
+use Rattle.node.specs.Said.{bitLayout, packAnswer}
+use Rattle.node.proofs.OwnFields.{values-fields}
 use borrow.Author.Needs.{needs}
 use Rattle.node.proofs.repack_node.Statement.{statement}
 use Rattle.node.proofs.repack_node.Tie as tie
@@ -43,14 +44,24 @@ pack-requires-2 : tie.Need-pack-requires-2
 pack-requires-2 c κs = search needs
 
 returns : tie.Need-returns
-returns c = rw (c .before .before .before .before .before .enum-told .given .1)
-    (c .pack .ensures ∙ ap (packAnswer (placesOf (c .before .before .before .before .before .before .before .args .to)))
-    (values-fields KWG (refl, refl) _ (c .before .before .before .before .tile .ensures) (c .before .before .before .accepts .ensures) (c .before .before .is-end .ensures) (c .before .arc-index .ensures)))
+returns c =
+    let read = c .before in
+    let tile = read .before .before .before in
+    let told = tile .before in
+    let fields =
+    values-fields KWG (refl, refl) _ (tile .tile .ensures) (read .before .before .accepts .ensures)
+    (read .before .is-end .ensures) (read .arc-index .ensures) in
+    rw (told .enum-told .given .1) (c .pack .ensures ∙ ap (packAnswer (bitLayout (told .before .before .args .to))) fields)
 
 returns-2 : tie.Need-returns-2
-returns-2 c = rw (c .before .before .before .before .before .enum-told2 .given .1)
-    (c .pack2 .ensures ∙ ap (packAnswer (placesOf (c .before .before .before .before .before .before .before .args .to)))
-    (values-fields KBWG (refl, refl) _ (c .before .before .before .before .tile2 .ensures) (c .before .before .before .accepts2 .ensures) (c .before .before .is-end2 .ensures) (c .before .arc-index2 .ensures)))
+returns-2 c =
+    let read = c .before in
+    let tile = read .before .before .before in
+    let told = tile .before in
+    let fields =
+    values-fields KBWG (refl, refl) _ (tile .tile2 .ensures) (read .before .before .accepts2 .ensures)
+    (read .before .is-end2 .ensures) (read .arc-index2 .ensures) in
+    rw (told .enum-told2 .given .1) (c .pack2 .ensures ∙ ap (packAnswer (bitLayout (told .before .before .args .to))) fields)
 
 pub repack-node-spec : {M : Type 1} → statement M
 repack-node-spec =

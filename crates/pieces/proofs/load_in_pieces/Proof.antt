@@ -6,7 +6,7 @@ use Prim.Native.Nat.{_-_, _≤_, _<_}
 use lib.ListN.{length, drop, length-drop}
 use lib.Seq.{take-all}
 use Rattle.load.specs.Loading.{feed}
-use Rattle.pieces.specs.CutLaws.{fedFrom, feed-next, feed-rest, loaded}
+use Rattle.pieces.proofs.CutLaws.{fedFrom, feed-next, feed-rest, loaded}
 use Rattle.pieces.proofs.load_in_pieces.Statement.{statement}
 use Rattle.pieces.proofs.load_in_pieces.Tie as tie
 
@@ -47,17 +47,17 @@ part-feed-end c = search needs
 feed-requires : tie.Need-feed-requires Inv-loop μ-loop
 feed-requires c κs = search needs
 
-tell-requires : tie.Need-tell-requires Inv-loop μ-loop
-tell-requires c κs = search needs
+store-answer-requires : tie.Need-store-answer-requires Inv-loop μ-loop
+store-answer-requires c κs = search needs
 
 abbrev at-entry : tie.At-loop Inv-loop μ-loop → tie.Start Inv-loop μ-loop
 at-entry c = c .before .before .before .before .before .before .before .before
 
--- once a piece is fed and its answer is told
-abbrev this-turn : tie.After-tell Inv-loop μ-loop → tie.In-loop Inv-loop μ-loop
+-- once a piece is fed and its answer is stored
+abbrev this-turn : tie.After-store-answer Inv-loop μ-loop → tie.In-loop Inv-loop μ-loop
 this-turn c = c .before .before .before .before .before .before .before .before .before
 
-cut-left : (c : tie.After-tell Inv-loop μ-loop) → this-turn c .before .loop .i < length (at-entry (this-turn c .before) .args .cuts .now)
+cut-left : (c : tie.After-store-answer Inv-loop μ-loop) → this-turn c .before .loop .i < length (at-entry (this-turn c .before) .args .cuts .now)
 cut-left c = this-turn c .loop-test .taken
 
 add-i : tie.Need-add-i Inv-loop μ-loop
@@ -74,10 +74,10 @@ loop-again c = let m = c .before .before .before in
     let fed = m .before .before .before .before .feed in
     let next =
     feed-next (l .answers) (l .loader) (l .nodes) (a .cuts .now) (a .bytes .now) (l .i) (l .from) (end .result)
-    (cut-left m) (l .inv .1) (end .ensures) (fed .ensures) (m .tell .ensures) in (
+    (cut-left m) (l .inv .1) (end .ensures) (fed .ensures) (m .store-answer .ensures) in (
       omega (arith, cut-left m),
       omega (arith, end .ensures),
-      m .tell .kept .0 ∙ l .inv .2,
+      m .store-answer .kept .0 ∙ l .inv .2,
       fed .kept .1 .1 .0 ∙ l .inv .3,
       next ∙ l .inv .4,
     )
@@ -94,8 +94,8 @@ part-feed-end-2 c = search needs
 feed-requires-2 : tie.Need-feed-requires-2 Inv-loop μ-loop
 feed-requires-2 c κs = search needs
 
-tell-requires-2 : tie.Need-tell-requires-2 Inv-loop μ-loop
-tell-requires-2 c κs = search needs
+store-answer-requires-2 : tie.Need-store-answer-requires-2 Inv-loop μ-loop
+store-answer-requires-2 c κs = search needs
 
 finish-requires : tie.Need-finish-requires Inv-loop μ-loop
 finish-requires c κs = search needs
@@ -106,8 +106,8 @@ same-length c = search needs
 same-length-2 : tie.Need-same-length-2 Inv-loop μ-loop
 same-length-2 c = search needs
 
--- once the rest is fed and its answer is told
-abbrev loop-done : tie.After-tell2 Inv-loop μ-loop → tie.After-loop Inv-loop μ-loop
+-- once the rest is fed and its answer is stored
+abbrev loop-done : tie.After-store-answer2 Inv-loop μ-loop → tie.After-loop Inv-loop μ-loop
 loop-done c = c .before .before .before .before .before .before .before
 
 returns : tie.Need-returns Inv-loop μ-loop
@@ -119,7 +119,7 @@ returns c = let m = c .before .before .before .before .before .before .before in
     let rest = take-all (length bytes - l .from) (drop (l .from) bytes) (simp length-drop (omega arith)) in
     let r =
     feed-rest (l .answers) (l .loader) (l .nodes) (a .cuts .now) bytes (l .i) (l .from) (loop-done m .loop-test .left)
-    (m .before .before .before .before .feed2 .ensures ∙ ap (feed (l .loader) (l .nodes)) rest) (m .tell2 .ensures) in
+    (m .before .before .before .before .feed2 .ensures ∙ ap (feed (l .loader) (l .nodes)) rest) (m .store-answer2 .ensures) in
     loaded (a .announced) (a .layout) (a .nodes .now) (a .cuts .now) bytes (a .answers .now) _
     (at .before .before .begin .ensures) (r ∙ l .inv .4) (c .before .before .finish .ensures)
 
@@ -138,7 +138,7 @@ load-in-pieces-spec =
     part-feed-start
     part-feed-end
     feed-requires
-    tell-requires
+    store-answer-requires
     add-i
     loop-less
     loop-again
@@ -146,7 +146,7 @@ load-in-pieces-spec =
     part-feed-start-2
     part-feed-end-2
     feed-requires-2
-    tell-requires-2
+    store-answer-requires-2
     finish-requires
     same-length
     same-length-2

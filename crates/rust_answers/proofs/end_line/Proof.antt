@@ -26,9 +26,11 @@ enum-known-count : tie.Need-enum-known-count
 enum-known-count c = search needs
 
 judged-requires : tie.Need-judged-requires
-judged-requires c κs = let whole = c .before .before .before .before .before .before in
+judged-requires c κs =
+    let told = c .before .before in
+    let whole = told .before .before .before .before in
     let a = whole .before .before .before .args in
-    rw (c .before .before .count .given .1) at (ended-fills (a .line) (a .numbers .now) (whole .end .ensures .0) (whole .end .ensures .1))
+    rw (told .count .given .1) at (ended-fills (a .line) (a .numbers .now) (whole .end .ensures .0) (whole .end .ensures .1))
 
 next-line-requires-3 : tie.Need-next-line-requires-3
 next-line-requires-3 c κs = search needs

@@ -39,14 +39,14 @@ returns c = search needs
 
 -- the block that was made, and what is left after it
 module _ (c : tie.After-known-told Inv-loop μ-loop) where
-  abbrev opened : tie.After-open Inv-loop μ-loop
-  opened = c .before .before .before .before .before .before .before .before
-
-  abbrev turn : tie.At-loop Inv-loop μ-loop
-  turn = c .before .before .before .before .before .before .before
-
   abbrev next : tie.After-next-block Inv-loop μ-loop
   next = c .before .before .before
+
+  abbrev turn : tie.At-loop Inv-loop μ-loop
+  turn = next .before .before .before .before
+
+  abbrev opened : tie.After-open Inv-loop μ-loop
+  opened = turn .before
 
   abbrev after : List ℕ
   after = next .next-block .last .1 .1 .1 .0

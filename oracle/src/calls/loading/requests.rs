@@ -184,7 +184,7 @@ fn ends(requests: &mut Requests) {
     }
 }
 
-// Every set of these faults, which tells which of them is named: an arc that is
+// Every set of these faults, which shows which of them is named: an arc that is
 // too large before and after a tile that does not fit, another such tile, a
 // last node without an end, and a part node after it.
 fn faults_together(requests: &mut Requests) {

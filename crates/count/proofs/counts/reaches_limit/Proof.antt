@@ -4,12 +4,12 @@ use native.Mathlib.Omega.{arith}
 use Prim.Native.Nat.{ℕ, _-_, _<_, _≤_}
 use lib.ListN.{getD}
 use borrow.Author.Count.{below-none, below-more}
-use Rattle.count.specs.Said.{limit}
+use Rattle.graph.specs.Counting.{countLimit}
 use Rattle.count.proofs.counts.reaches_limit.Statement.{statement}
 use Rattle.count.proofs.counts.reaches_limit.Tie as tie
 
 abbrev Inv-loop : tie.InvT-loop
-Inv-loop counts n i₀ i = (i ≤ n) × ((p : ℕ) → p < i → getD counts p 0 < limit)
+Inv-loop counts n i₀ i = (i ≤ n) × ((p : ℕ) → p < i → getD counts p 0 < countLimit)
 
 abbrev μ-loop : tie.MeasureT-loop
 μ-loop counts n i₀ i = n - i
@@ -33,7 +33,9 @@ loop-less : tie.Need-loop-less Inv-loop μ-loop
 loop-less c = search needs
 
 loop-again : tie.Need-loop-again Inv-loop μ-loop
-loop-again c = (omega arith, below-more (λ p. getD (c .before .before .before .before .args .counts .now) p 0 < limit) _ (c .before .before .before .loop .inv .1) (omega arith))
+loop-again c =
+    let at = c .before .before .before in
+    (omega arith, below-more (λ p. getD (at .before .args .counts .now) p 0 < countLimit) _ (at .loop .inv .1) (omega arith))
 
 returns-2 : tie.Need-returns-2 Inv-loop μ-loop
 returns-2 c = λ p h. c .before .loop .inv .1 p (omega arith)

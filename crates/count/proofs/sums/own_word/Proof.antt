@@ -1,7 +1,7 @@
 -- `own_word` meets its contract, by its two cases.
 use mathlib.Core.Path.{sym, ap, _∙_}
-use Rattle.node.specs.Nodes.{flag}
 use borrow.Author.Needs.{needs}
+use Rattle.base.specs.Numbers.{flag}
 use Rattle.count.proofs.sums.own_word.Statement.{statement}
 use Rattle.count.proofs.sums.own_word.Tie as tie
 

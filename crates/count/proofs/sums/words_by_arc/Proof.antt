@@ -24,9 +24,11 @@ shared-slice-read-result : tie.Need-shared-slice-read-result
 shared-slice-read-result c = search needs
 
 returns-2 : tie.Need-returns-2
-returns-2 c = let a = c .before .before .before .before .args in
+returns-2 c =
+    let a = c .before .before .before .before .args in
     let e = c .before .before .arc-index .ensures in
-    ap (λ (q : ℕ). getD (a .counts .now) q 0) e ∙ sym (some-arc KBWG (λ q. getD (a .counts .now) q 0) (a .node) (λ z. c .before .if1 .left (e ∙ z)))
+    ap (λ (q : ℕ). getD (a .counts .now) q 0) e
+    ∙ sym (some-arc KBWG (λ q. getD (a .counts .now) q 0) (a .node) (λ z. c .before .if1 .left (e ∙ z)))
 
 pub words-by-arc-spec : {M : Type 1} → statement M
 words-by-arc-spec =

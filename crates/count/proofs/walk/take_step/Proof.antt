@@ -1,108 +1,160 @@
 -- `take_step` meets its contract: the state of the walk after a node goes on the stack, and after the top is counted.
 use native.Mathlib.Omega.{arith}
-use mathlib.Core.Path.{refl, sym, subst}
+use mathlib.Core.Path.{_≡_, refl, sym, subst}
 use mathlib.Core.List.{List}
 use Prim.Native.Nat.{ℕ, _+_, _-_, _<_}
 use lib.ListN.{length}
+use Rattle.graph.specs.ChecksLaws.{Fit}
 use Rattle.graph.specs.LoopLaws.{step-inside}
-use Rattle.count.specs.declared.walk.Found.{Found}
-use Rattle.count.specs.declared.walk.Found.the-variants.{Nothing, At}
-use Rattle.count.specs.Said.{limit}
-use Rattle.count.specs.Walk.{stacked, NextIs, Stepped}
+use Rattle.count.specs.declared.walk.MaybeNode.{MaybeNode}
+use Rattle.count.specs.declared.walk.MaybeNode.the-variants.{Nothing, At}
+use Rattle.count.specs.CountWalk.{stacked, CountWalk, NextIs, StepTaken}
 use Rattle.count.proofs.Lists.{kept-all}
 use Rattle.count.proofs.WalkLaws.{size-lt, top-place, top-node, step-loops, step-pushes, step-counts}
 use borrow.Author.Needs.{needs}
+use Rattle.graph.specs.Counting.{countLimit}
 use Rattle.count.proofs.walk.take_step.Statement.{statement}
 use Rattle.count.proofs.walk.take_step.Tie as tie
 
--- the node at the top of the stack
 module _ (s : tie.Start) where
+  abbrev g : List ℕ
+  g = s .args .nodes .now
+
+  abbrev work : List ℕ
+  work = s .args .work .now
+
+  abbrev fits : Fit g
+  fits = s .pre .0
+
+  abbrev walk : CountWalk countLimit g (s .args .counts .now) work (s .args .size)
+  walk = s .pre .1 .1
+
+  -- the node at the top of the stack
   abbrev top : ℕ
-  top = stacked (s .args .nodes .now) (s .args .work .now) (s .args .size - 1)
+  top = stacked g work (s .args .size - 1)
 
-  place-in : length (s .args .nodes .now) + (s .args .size - 1) < length (s .args .work .now)
-  place-in = top-place _ _ _ _ _ (s .pre .0) (s .pre .1 .1) (s .pre .1 .0)
+  place-in : length g + (s .args .size - 1) < length work
+  place-in = top-place _ _ _ _ _ fits walk (s .pre .1 .0)
 
-  node-in : top < length (s .args .nodes .now)
-  node-in = top-node _ _ _ _ _ (s .pre .0) (s .pre .1 .1) (s .pre .1 .0) top refl
+  node-in : top < length g
+  node-in = top-node _ _ _ _ _ fits walk (s .pre .1 .0) top refl
 
--- the search's answer in each arm
-found : (c : tie.After-q) → NextIs (c .before .before .before .before .before .before .before .before .args .nodes .now) (c .before .before .before .before .before .before .before .before .args .work .now) (top (c .before .before .before .before .before .before .before .before)) (At (c .q .given .0 .0))
-found c = subst (λ (r : Found). NextIs (c .before .before .before .before .before .before .before .before .args .nodes .now) (c .before .before .before .before .before .before .before .before .args .work .now) (top (c .before .before .before .before .before .before .before .before)) r) (c .q .given .1) (c .before .before .next-to-count .ensures)
+abbrev asked : tie.After-slice-known3 → tie.Start
+asked c = c .before .before .before .before
 
-q-in : (c : tie.After-q) → c .q .given .0 .0 < length (c .before .before .before .before .before .before .before .before .args .nodes .now)
-q-in c = step-inside (c .before .before .before .before .before .before .before .before .pre .0 .steps) (found c .0)
+-- what the search answers
+module _ (c : tie.After-next-to-count) where
+  abbrev start : tie.Start
+  start = asked (c .before .before)
 
-all-done : (c : tie.After-enum-told) → NextIs (c .before .before .before .before .before .before .before .before .args .nodes .now) (c .before .before .before .before .before .before .before .before .args .work .now) (top (c .before .before .before .before .before .before .before .before)) Nothing
-all-done c = subst (λ (r : Found). NextIs (c .before .before .before .before .before .before .before .before .args .nodes .now) (c .before .before .before .before .before .before .before .before .args .work .now) (top (c .before .before .before .before .before .before .before .before)) r) (c .enum-told .given .1) (c .before .before .next-to-count .ensures)
+  next : {r : MaybeNode} → c .next-to-count .result ≡ r → NextIs (g start) (work start) (top start) r
+  next e = subst (NextIs (g start) (work start) (top start)) e (c .next-to-count .ensures)
+
+-- the top leads to a node that is not done
+module _ (c : tie.After-q) where
+  abbrev begun : tie.Start
+  begun = start (c .before .before)
+
+  abbrev q : ℕ
+  q = c .q .given .0 .0
+
+  found : NextIs (g begun) (work begun) (top begun) (At q)
+  found = next (c .before .before) (c .q .given .1)
+
+  q-in : q < length (g begun)
+  q-in = step-inside (fits begun .steps) (found .0)
+
+abbrev looked-up : tie.After-slice-known4 → tie.After-q
+looked-up c = c .before .before
+
+-- which is not met yet, so that the stack has room for it
+module _ (c : tie.Else1) where
+  abbrev led : tie.After-q
+  led = looked-up (c .before)
+
+  room : begun led .args .size < length (g (begun led))
+  room = size-lt _ _ _ _ _ (fits (begun led)) (walk (begun led)) _ (q-in led) (c .if1 .left)
+
+-- all that the top leads to is done
+module _ (c : tie.After-enum-told) where
+  abbrev ready : tie.Start
+  ready = start (c .before .before)
+
+  all-done : NextIs (g ready) (work ready) (top ready) Nothing
+  all-done = next (c .before .before) (c .enum-told .given .1)
 
 sub-p : tie.Need-sub-p
 sub-p c = search needs
 
 add-p : tie.Need-add-p
-add-p c = let h = place-in (c .before .before .before) in let g = c .before .before .before .good in omega arith
+add-p c = let s = c .before .before .before in let h = place-in s in let m = s .good in omega arith
 
 mul-p : tie.Need-mul-p
-mul-p c = let h = place-in (c .before .before .before) in let g = c .before .before .before .good in omega arith
+mul-p c = let s = c .before .before .before in let h = place-in s in let m = s .good in omega arith
 
 slice-read-p : tie.Need-slice-read-p
-slice-read-p c = place-in (c .before .before .before .before)
+slice-read-p c = place-in (asked c)
 
 cast-p : tie.Need-cast-p
-cast-p c = let s = c .before .before .before .before in let h = node-in s in let f = s .pre .0 .most in omega arith
+cast-p c = let h = node-in (asked c) in let f = fits (asked c) .most in omega arith
 
 next-to-count-requires : tie.Need-next-to-count-requires
-next-to-count-requires c κs = let s = c .before .before .before .before .before in let r = s .pre .1 .1 .room in (s .pre .0, (node-in s, omega arith))
+next-to-count-requires c κs =
+    let s = asked (c .before) in
+    let r = walk s .room in
+    (fits s, (node-in s, omega arith))
 
 enum-known-q : tie.Need-enum-known-q
 enum-known-q c = search needs
 
 mul-if1 : tie.Need-mul-if1
-mul-if1 c = let h = q-in (c .before) in let f = c .before .before .before .before .before .before .before .before .before .pre .0 .most in omega arith
+mul-if1 c = let h = q-in (c .before) in let f = fits (begun (c .before)) .most in omega arith
 
 slice-read-if1 : tie.Need-slice-read-if1
-slice-read-if1 c = let h = q-in (c .before .before) in let r = c .before .before .before .before .before .before .before .before .before .before .pre .1 .1 .room in omega arith
+slice-read-if1 c = let h = q-in (looked-up c) in let r = walk (begun (looked-up c)) .room in omega arith
 
 same-length : tie.Need-same-length
 same-length c = search needs
 
 returns : tie.Need-returns
-returns c = let s = c .before .before .before .before .before .before .before .before .before .before .before in
-    let f = found (c .before .before .before) in
+returns c =
+    let b = looked-up (c .before) in
+    let s = begun b in
     record {
-      loops = step-loops limit _ _ _ _ (s .pre .0) (s .pre .1 .1) (s .pre .1 .0) (top s) refl _ (f .0) (f .1) (c .if1 .taken);
+      loops = step-loops countLimit _ _ _ _ (fits s) (walk s) (s .pre .1 .0) (top s) refl _ (found b .0) (found b .1) (c .if1 .taken);
       counts-kept = kept-all _ _;
       work-kept = kept-all _ _;
     }
 
 push-requires : tie.Need-push-requires
-push-requires c κs = let s = c .before .before .before .before .before .before .before .before .before .before .before .before in
-    let h = q-in (c .before .before .before .before) in
-    (h, (size-lt _ _ _ _ _ (s .pre .0) (s .pre .1 .1) _ h (c .before .if1 .left), (s .pre .0 .most, s .pre .1 .1 .room)))
+push-requires c κs =
+    let s = begun (led (c .before)) in
+    (q-in (led (c .before)), (room (c .before), (fits s .most, walk s .room)))
 
 add-t17 : tie.Need-add-t17
-add-t17 c = let s = c .before .before .before .before .before .before .before .before .before .before .before .before .before .before .before in
-    let l = size-lt _ _ _ _ _ (s .pre .0) (s .pre .1 .1) _ (q-in (c .before .before .before .before .before .before .before)) (c .before .before .before .before .if1 .left) in
-    let f = s .pre .0 .most in
+add-t17 c =
+    let b = c .before .before .before .before in
+    let l = room b in
+    let f = fits (begun (led b)) .most in
     omega arith
 
 enum-told : tie.Need-enum-told
 enum-told c = search needs
 
 count-at-requires : tie.Need-count-at-requires
-count-at-requires c κs = let s = c .before .before .before .before .before .before .before .before .before in (s .pre .0, (node-in s, s .pre .1 .1 .room-counts))
+count-at-requires c κs = let s = ready (c .before) in (fits s, (node-in s, walk s .room-counts))
 
 mul-counts : tie.Need-mul-counts
-mul-counts c = let h = node-in (c .before .before .before .before .before .before .before .before .before .before) in let f = c .before .before .before .before .before .before .before .before .before .before .pre .0 .most in omega arith
+mul-counts c = let s = ready (c .before .before) in let h = node-in s in let f = fits s .most in omega arith
 
 slice-write-counts : tie.Need-slice-write-counts
-slice-write-counts c = let h = node-in (c .before .before .before .before .before .before .before .before .before .before) in let r = c .before .before .before .before .before .before .before .before .before .before .pre .1 .1 .room-counts in omega arith
+slice-write-counts c = let s = ready (c .before .before) in let h = node-in s in let r = walk s .room-counts in omega arith
 
 mul-work : tie.Need-mul-work
-mul-work c = let h = node-in (c .before .before .before .before .before .before .before .before .before .before) in let f = c .before .before .before .before .before .before .before .before .before .before .pre .0 .most in omega arith
+mul-work c = let s = ready (c .before .before) in let h = node-in s in let f = fits s .most in omega arith
 
 slice-write-work : tie.Need-slice-write-work
-slice-write-work c = let h = node-in (c .before .before .before .before .before .before .before .before .before .before) in let r = c .before .before .before .before .before .before .before .before .before .before .pre .1 .1 .room in omega arith
+slice-write-work c = let s = ready (c .before .before) in let h = node-in s in let r = walk s .room in omega arith
 
 sub-t27 : tie.Need-sub-t27
 sub-t27 c = search needs
@@ -111,9 +163,14 @@ same-length-2 : tie.Need-same-length-2
 same-length-2 c = search needs
 
 returns-2 : tie.Need-returns-2
-returns-2 c = let s = c .before .before .before .before .before .before .before .before .before .before .before .before .before .before .before in
-    subst (λ (w : List ℕ). Stepped limit (s .args .nodes .now) (s .args .counts .now) (s .args .work .now) (s .args .counts .now) w (s .args .size + 1)) (sym (c .before .before .push .ensures))
-    (step-pushes limit _ _ _ _ (s .pre .0) (s .pre .1 .1) (s .pre .1 .0) (top s) refl _ (found (c .before .before .before .before .before .before .before) .0) (c .before .before .before .before .if1 .left))
+returns-2 c =
+    let called = c .before .before in
+    let fresh = called .before .before in
+    let b = led fresh in
+    let s = begun b in
+    subst (λ (w : List ℕ). StepTaken countLimit (g s) (s .args .counts .now) (work s) (s .args .counts .now) w (s .args .size + 1))
+    (sym (called .push .ensures))
+    (step-pushes countLimit _ _ _ _ (fits s) (walk s) (s .pre .1 .0) (top s) refl _ (found b .0) (fresh .if1 .left))
 
 same-length-3 : tie.Need-same-length-3
 same-length-3 c = search needs
@@ -122,8 +179,10 @@ same-length-4 : tie.Need-same-length-4
 same-length-4 c = search needs
 
 returns-3 : tie.Need-returns-3
-returns-3 c = let s = c .before .before .before .before .before .before .before .before .before .before in
-    step-counts limit _ _ _ _ (s .pre .0) (s .pre .1 .1) (s .pre .1 .0) (top s) refl (all-done (c .before .before)) (c .count-at .result) (c .count-at .ensures)
+returns-3 c =
+    let b = c .before .before in
+    let s = ready b in
+    step-counts countLimit _ _ _ _ (fits s) (walk s) (s .pre .1 .0) (top s) refl (all-done b) (c .count-at .result) (c .count-at .ensures)
 
 pub take-step-spec : {M : Type 1} → statement M
 take-step-spec =

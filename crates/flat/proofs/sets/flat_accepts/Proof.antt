@@ -1,15 +1,9 @@
 -- `flat::flat_accepts` meets its contract, case by case; a flag read back is the flag.
-use mathlib.Core.Path.{_≡_, refl, sym}
-use mathlib.Core.Bool.{Bool, true, false}
-use lib.Dec.{eqb}
-use Rattle.node.specs.Nodes.{flag}
+use mathlib.Core.Path.{refl, sym}
 use borrow.Author.Needs.{needs}
+use Rattle.base.specs.Numbers.{flag-read}
 use Rattle.flat.proofs.sets.flat_accepts.Statement.{statement}
 use Rattle.flat.proofs.sets.flat_accepts.Tie as tie
-
-flag-back : (b : Bool) → eqb (flag b) 1 ≡ b
-flag-back true = refl
-flag-back false = refl
 
 enum-known-answer : tie.Need-enum-known-answer
 enum-known-answer c = search needs
@@ -21,7 +15,7 @@ enum-told-2 : tie.Need-enum-told-2
 enum-told-2 c = search needs
 
 returns : tie.Need-returns
-returns c = rw (c .before .answer .given .1) (refl, λ i. record { refusal = 0; accepts = sym (flag-back (c .before .answer .given .0 .0)) i })
+returns c = rw (c .before .answer .given .1) (refl, λ i. record { refusal = 0; accepts = sym (flag-read (c .before .answer .given .0 .0)) i })
 
 returns-2 : tie.Need-returns-2
 returns-2 c = rw (c .enum-told .given .1) (refl, refl)

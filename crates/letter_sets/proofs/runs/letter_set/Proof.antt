@@ -1,6 +1,7 @@
--- `letter_sets::letter_set` meets its contract. The loop's invariant: the set, joined with that of the nodes left, is the run's.
+-- `letter_set` meets its contract. The loop's invariant: the set, joined with that of the nodes left, is the run's.
 use mathlib.Core.Path.{_≡_, sym, ap, _∙_}
-use Prim.Native.Nat.{_+_, _-_}
+use mathlib.Core.List.{List}
+use Prim.Native.Nat.{ℕ, _+_, _-_, _<_}
 use native.Mathlib.Omega.{arith}
 use borrow.Author.Needs.{needs}
 use lib.Bits.{bitOr, or-zero-l}
@@ -15,6 +16,24 @@ Inv-loop nodes ranks p set₀ i₀ set i = bitOr set (setBy ranks nodes i) ≡ s
 
 abbrev μ-loop : tie.MeasureT-loop
 μ-loop nodes ranks p set₀ i₀ set i = length nodes - i
+
+module _ (c : tie.At-loop Inv-loop μ-loop) where
+  abbrev start : tie.Start Inv-loop μ-loop
+  start = c .before .before
+
+  abbrev nodes : List ℕ
+  nodes = start .args .nodes .now
+
+  abbrev ranks : List ℕ
+  ranks = start .args .ranks .now
+
+-- past the node at i
+module _ (c : tie.After-is-end Inv-loop μ-loop) where
+  abbrev at : tie.At-loop Inv-loop μ-loop
+  at = c .before .before .before .before
+
+  inside : at .loop .i < length (nodes at)
+  inside = c .before .before .before .loop-test .taken
 
 loop-holds : tie.Need-loop-holds Inv-loop μ-loop
 loop-holds c = or-zero-l _
@@ -33,10 +52,9 @@ is-end-requires c κs = search needs
 
 returns : tie.Need-returns Inv-loop μ-loop
 returns c =
-    let a = c .before .before .before .before .before .before .before .args in
-    let l = c .before .before .before .before .before .loop in
-    let end = sym (c .before .is-end .ensures) ∙ c .if1 .taken in
-    c .before .before .with-letter .ensures ∙ sym (set-end (a .ranks .now) (a .nodes .now) (l .i) (l .set) (omega arith) end) ∙ l .inv
+    let p = c .before in
+    let end = sym (p .is-end .ensures) ∙ c .if1 .taken in
+    p .before .with-letter .ensures ∙ sym (set-end (ranks (at p)) (nodes (at p)) (at p .loop .i) _ (inside p) end) ∙ at p .loop .inv
 
 add-i : tie.Need-add-i Inv-loop μ-loop
 add-i c = omega arith
@@ -46,17 +64,13 @@ loop-less c = omega arith
 
 loop-again : tie.Need-loop-again Inv-loop μ-loop
 loop-again c =
-    let a = c .before .before .before .before .before .before .before .args in
-    let l = c .before .before .before .before .before .loop in
-    let goes-on = sym (c .before .is-end .ensures) ∙ c .if1 .left in
-    ap (λ s. bitOr s (setBy (a .ranks .now) (a .nodes .now) (l .i + 1))) (c .before .before .with-letter .ensures)
-    ∙ sym (set-next (a .ranks .now) (a .nodes .now) (l .i) (l .set) (omega arith) goes-on) ∙ l .inv
+    let p = c .before in
+    let goes-on = sym (p .is-end .ensures) ∙ c .if1 .left in
+    ap (λ s. bitOr s (setBy (ranks (at p)) (nodes (at p)) (at p .loop .i + 1))) (p .before .with-letter .ensures)
+    ∙ sym (set-next (ranks (at p)) (nodes (at p)) (at p .loop .i) _ (inside p) goes-on) ∙ at p .loop .inv
 
 returns-2 : tie.Need-returns-2 Inv-loop μ-loop
-returns-2 c =
-    let a = c .before .before .before .args in
-    let l = c .before .loop in
-    sym (set-past (a .ranks .now) (a .nodes .now) (l .i) (l .set) (omega arith)) ∙ l .inv
+returns-2 c = let p = c .before in sym (set-past (ranks p) (nodes p) (p .loop .i) _ (omega arith)) ∙ p .loop .inv
 
 pub letter-set-spec : {M : Type 1} → statement M
 letter-set-spec =

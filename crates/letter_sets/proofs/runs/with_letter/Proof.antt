@@ -1,11 +1,26 @@
--- `letter_sets::with_letter` meets its contract: a shift by a rank is the power of two, since ranks are below 64.
-use mathlib.Core.Path.{sym, _∙_}
+-- `with_letter` meets its contract: a shift by a rank is the power of two, since ranks are below 64.
+use mathlib.Core.Path.{_≡_, sym, _∙_}
+use mathlib.Core.Bool.{true}
+use Prim.Native.Nat.{_≤_}
 use native.Mathlib.Omega.{arith}
 use borrow.Author.Needs.{needs}
+use lib.ListN.{getD}
 use Rattle.laws.specs.BitSets.{marked}
+use Rattle.node.specs.Nodes.{KBWG, accepts}
 use Rattle.letter_sets.proofs.RunLaws.{no-letter, no-word, letter-shifted}
 use Rattle.letter_sets.proofs.runs.with_letter.Statement.{statement}
 use Rattle.letter_sets.proofs.runs.with_letter.Tie as tie
+
+-- where a word ends
+module _ (c : tie.Then2) where
+  abbrev tile : tie.After-tile
+  tile = c .before .before .before
+
+  small : getD (tile .before .args .ranks .now) (tile .tile .result) 0 ≤ 50
+  small = tile .before .pre (tile .tile .result)
+
+  word : accepts KBWG (tile .before .args .v) ≡ true
+  word = sym (c .before .accepts .ensures) ∙ c .if2 .taken
 
 tile-requires : tie.Need-tile-requires
 tile-requires c κs = search needs
@@ -23,16 +38,15 @@ element-copy-out-result : tie.Need-element-copy-out-result
 element-copy-out-result c = search needs
 
 cast-result : tie.Need-cast-result
-cast-result c = let h = c .before .before .before .before .before .pre (c .before .before .before .before .tile .result) in omega arith
+cast-result c = let h = small (c .before) in omega arith
 
 shl-result : tie.Need-shl-result
-shl-result c = let h = c .before .before .before .before .before .pre (c .before .before .before .before .tile .result) in omega arith
+shl-result c = let h = small (c .before) in omega arith
 
 returns-2 : tie.Need-returns-2
 returns-2 c =
-    let s = c .before .before .before .before .before in
-    let word = sym (c .before .before .accepts .ensures) ∙ c .before .if2 .taken in
-    rw (c .before .before .before .before .tile .ensures) (letter-shifted (s .args .v) _ _ word (λ e. omega arith) (s .pre _))
+    let t = tile (c .before) in
+    rw (t .tile .ensures) (letter-shifted (t .before .args .v) _ _ (word (c .before)) (λ e. omega arith) (t .before .pre _))
 
 returns-3 : tie.Need-returns-3
 returns-3 c = rw (no-word (c .before .before .before .before .args .v) (sym (c .before .accepts .ensures) ∙ c .if2 .left), marked)

@@ -1,20 +1,27 @@
--- `letters::accepts_alpha` meets its contract: the row, then the walk over what is lent.
+-- `accepts_alpha` meets its contract: the row, then the walk over what is lent.
 use mathlib.Core.Path.{_≡_, sym, ap, _∙_}
+use mathlib.Core.Option.{none}
+use Rattle.answers.specs.Answers.{firstOf}
 use Rattle.lookup.specs.Steps.{lentPart}
-use Rattle.letters.specs.AlphaSets.{completes, acceptsAlpha}
+use Rattle.letters.specs.AlphaSets.{tallyRow, completes, acceptsAlpha}
 use Rattle.letters.specs.Said.{decided}
 use Rattle.letters.specs.declared.alpha.Completes.{Completes}
-use Rattle.letters.specs.declared.alpha.Completes.the-variants.{Known, NotLent}
 use Rattle.letters.proofs.AlphaLaws.{tally-long, tally-fits}
 use borrow.Author.Needs.{needs}
 use Rattle.letters.proofs.alpha.accepts_alpha.Statement.{statement}
 use Rattle.letters.proofs.alpha.accepts_alpha.Tie as tie
 
--- what the walk says of the lent nodes
-told : (c : tie.After-completes-alpha-cross-set) (r : Completes) → c .completes-alpha-cross-set .result ≡ r
-    → completes (lentPart (c .before .before .before .before .before .args .nodes .now)) (c .before .before .before .before .before .args .tally .now) 1 0 ≡ decided r
-told c r e =
-    ap (λ g. completes g (c .before .before .before .before .before .args .tally .now) 1 0) (sym (c .before .lent-part .ensures)) ∙ sym (c .completes-alpha-cross-set .ensures) ∙ ap decided e
+-- the tally is not too long: what the walk says of the lent nodes
+module _ (c : tie.After-completes-alpha-cross-set) where
+  abbrev asked : tie.Start
+  asked = c .before .before .before .before .before
+
+  fits : firstOf (tallyRow (asked .args .tally .now)) ≡ none
+  fits = tally-fits (asked .args .tally .now) (c .before .before .if1 .left)
+
+  told : {r : Completes} → c .completes-alpha-cross-set .result ≡ r → completes (lentPart (asked .args .nodes .now)) (asked .args .tally .now) 1 0 ≡ decided r
+  told e =
+      ap (λ g. completes g (asked .args .tally .now) 1 0) (sym (c .before .lent-part .ensures)) ∙ sym (c .completes-alpha-cross-set .ensures) ∙ ap decided e
 
 returns : tie.Need-returns
 unfolding acceptsAlpha
@@ -34,11 +41,11 @@ enum-told c = search needs
 
 returns-2 : tie.Need-returns-2
 unfolding acceptsAlpha
-returns-2 c = rw (tally-fits (c .before .before .before .before .before .before .before .before .args .tally .now) (c .before .before .before .before .before .if1 .left), told (c .before .before .before) (Known (c .before .known .given .0 .0)) (c .before .known .given .1))
+returns-2 c = let k = c .before .before .before in rw (fits k, told k (c .before .known .given .1))
 
 returns-3 : tie.Need-returns-3
 unfolding acceptsAlpha
-returns-3 c = rw (tally-fits (c .before .before .before .before .before .before .before .args .tally .now) (c .before .before .before .before .if1 .left), told (c .before .before) NotLent (c .enum-told .given .1))
+returns-3 c = let k = c .before .before in rw (fits k, told k (c .enum-told .given .1))
 
 pub accepts-alpha-spec : {M : Type 1} → statement M
 accepts-alpha-spec =

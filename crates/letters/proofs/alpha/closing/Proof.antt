@@ -1,12 +1,10 @@
--- `letters::closing` meets its contract. The loop's invariant: what is left of the run gives the answer of the whole.
+-- `closing` meets its contract. The loop's invariant: what is left of the run gives the answer of the whole.
 use mathlib.Core.Path.{_≡_, refl, sym, ap, _∙_}
 use mathlib.Core.Bool.{Bool}
-use mathlib.Core.List.{[], _∷_}
-use Prim.Native.Nat.{ℕ, _+_, _-_, _<_}
-use native.Mathlib.Omega.{arith}
+use Prim.Native.Nat.{ℕ, _-_}
 use borrow.Author.Needs.{needs}
 use lib.ListN.{length, drop}
-use Rattle.node.specs.Answers.{gives}
+use Rattle.answers.specs.Answers.{Answer}
 use Rattle.node.specs.Nodes.{KBWG, tile, accepts, isEnd}
 use Rattle.graph.specs.Runs.{Graph, node}
 use Rattle.laws.specs.BitSets.{marked}
@@ -39,33 +37,38 @@ marked-requires c κs = search needs
 is-end-requires : tie.Need-is-end-requires Inv-loop μ-loop
 is-end-requires c κs = search needs
 
--- a node of the run, with the set before it and the set with it
-module _ (c : tie.After-is-end Inv-loop μ-loop) where
+-- where the loop begins a turn
+module _ (c : tie.At-loop Inv-loop μ-loop) where
+  abbrev asked : tie.Start Inv-loop μ-loop
+  asked = c .before .before
+
   abbrev nodes : Graph
-  nodes = c .before .before .before .before .before .before .before .args .nodes .now
+  nodes = asked .args .nodes .now
 
-  abbrev place : ℕ
-  place = c .before .before .before .before .before .loop .p
+  whole : {r : Answer} → closing (drop (c .loop .p) nodes) (c .loop .answer) ≡ r → r ≡ closing (drop (asked .args .p) nodes) (asked .args .set)
+  whole e = sym e ∙ c .loop .inv
 
-  abbrev so-far : ℕ
-  so-far = c .before .before .before .before .before .loop .answer
+-- a node of the run, and the set with it
+module _ (c : tie.After-is-end Inv-loop μ-loop) where
+  abbrev turn : tie.In-loop Inv-loop μ-loop
+  turn = c .before .before .before .before
+
+  abbrev at : tie.At-loop Inv-loop μ-loop
+  at = turn .before
 
   abbrev v : ℕ
-  v = node nodes place
+  v = node (nodes at) (at .loop .p)
 
-  abbrev inside : place < length nodes
-  inside = c .before .before .before .before .loop-test .taken
-
-  with-it : c .before .marked .result ≡ marked so-far (tile KBWG v) (accepts KBWG v)
-  with-it = c .before .marked .ensures ∙ ap (marked so-far (tile KBWG v)) (c .before .before .accepts .ensures)
+  with-it : c .before .marked .result ≡ marked (at .loop .answer) (tile KBWG v) (accepts KBWG v)
+  with-it = c .before .marked .ensures ∙ ap (marked (at .loop .answer) (tile KBWG v)) (c .before .before .accepts .ensures)
 
   ends : {b : Bool} → c .is-end .result ≡ b → isEnd KBWG v ≡ b
   ends e = sym (c .is-end .ensures) ∙ e
 
 returns : tie.Need-returns Inv-loop μ-loop
-returns c = let n = c .before in
-    ap (λ s. gives (s ∷ [])) (with-it n)
-    ∙ sym (closing-end (nodes n) (place n) (so-far n) (inside n) (ends n (c .if1 .taken))) ∙ n .before .before .before .before .before .loop .inv
+returns c =
+    let n = c .before in
+    whole (at n) (closing-end (nodes (at n)) (at n .loop .p) _ (turn n .loop-test .taken) _ (with-it n) (ends n (c .if1 .taken)))
 
 add-p : tie.Need-add-p Inv-loop μ-loop
 add-p c = search needs
@@ -74,12 +77,12 @@ loop-less : tie.Need-loop-less Inv-loop μ-loop
 loop-less c = search needs
 
 loop-again : tie.Need-loop-again Inv-loop μ-loop
-loop-again c = let n = c .before in
-    ap (closing (drop (place n + 1) (nodes n))) (with-it n)
-    ∙ sym (closing-next (nodes n) (place n) (so-far n) (inside n) (ends n (c .if1 .left))) ∙ n .before .before .before .before .before .loop .inv
+loop-again c =
+    let n = c .before in
+    whole (at n) (closing-next (nodes (at n)) (at n .loop .p) _ (turn n .loop-test .taken) _ (with-it n) (ends n (c .if1 .left)))
 
 returns-2 : tie.Need-returns-2 Inv-loop μ-loop
-returns-2 c = let l = c .before .loop in sym (closing-out (c .before .before .before .args .nodes .now) (l .p) (l .answer) (omega arith)) ∙ l .inv
+returns-2 c = let l = c .before in whole l (closing-out (nodes l) (l .loop .p) _ (c .loop-test .left))
 
 pub closing-spec : {M : Type 1} → statement M
 closing-spec =

@@ -1,4 +1,4 @@
--- `letters::compute_alpha_cross_set` meets its contract: the row, then the walk over what is lent.
+-- `compute_alpha_cross_set` meets its contract: the row, then the walk over what is lent.
 use borrow.Author.Needs.{needs}
 use Rattle.letters.specs.AlphaSets.{crossSet}
 use Rattle.letters.proofs.AlphaLaws.{tally-long, tally-fits}
@@ -18,8 +18,8 @@ cross-from-requires c κs = search needs
 returns-2 : tie.Need-returns-2
 unfolding crossSet
 returns-2 c =
-    rw (tally-fits (c .before .before .before .before .before .args .tally .now) (c .before .before .if1 .left), ← c .before .lent-part .ensures)
-    (c .cross-from .ensures)
+    let l = c .before in
+    rw (tally-fits (l .before .before .before .before .args .tally .now) (l .before .if1 .left), ← l .lent-part .ensures) (c .cross-from .ensures)
 
 pub compute-alpha-cross-set-spec : {M : Type 1} → statement M
 compute-alpha-cross-set-spec = tie.close (tie.spec returns lent-part-requires cross-from-requires returns-2)

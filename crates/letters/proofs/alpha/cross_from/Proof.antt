@@ -1,19 +1,21 @@
--- `letters::cross_from` meets its contract. The invariant of each loop: the walk from there gives the answer of the whole.
+-- `cross_from` meets its contract. The invariant of each loop: the walk from there gives the answer of the whole.
 use mathlib.Core.Path.{_≡_, sym, ap, _∙_}
+use mathlib.Core.Bool.{Bool}
 use mathlib.Core.Logic.{_≢_}
-use mathlib.Core.List.{List, [], _∷_}
-use Prim.Native.Nat.{ℕ, _+_, _-_, _≤_, _<_}
+use mathlib.Core.List.{List}
+use Prim.Native.Nat.{ℕ, _-_, _≤_, _<_}
 use native.Mathlib.Omega.{arith}
 use borrow.Author.Needs.{needs}
 use lib.ListN.{length}
-use Rattle.node.specs.Answers.{gives}
-use Rattle.node.specs.Nodes.{KBWG, tile}
+use Rattle.answers.specs.Answers.{Answer}
+use Rattle.node.specs.Nodes.{KBWG, tile, isEnd}
 use Rattle.graph.specs.Runs.{Graph, node}
 use Rattle.letters.specs.AlphaSets.{completes, crossFrom}
-use Rattle.letters.proofs.AlphaLaws.{atLetter, atCopy, atNode, letters-end, letters-one, copies-none, copies-one, node-out, node-greater, node-no-arc, node-arc, node-stop, node-end, node-next, cross-out, cross-none, cross-letters}
 use Rattle.letters.specs.Said.{decided}
 use Rattle.letters.specs.declared.alpha.Completes.{Completes}
-use Rattle.letters.specs.declared.alpha.Completes.the-variants.{Known, NotLent}
+use Rattle.lookup.specs.Steps.{on}
+use Rattle.letters.proofs.AlphaLaws.{atLetter, atCopy, atNode, letters-end, letters-one, copies-none, copies-one}
+use Rattle.letters.proofs.AlphaLaws.{node-out, node-greater, node-no-arc, node-arc, node-stop, node-end, node-next, cross-out, cross-none, cross-letters}
 use Rattle.letters.proofs.alpha.cross_from.Statement.{statement}
 use Rattle.letters.proofs.alpha.cross_from.Tie as tie
 
@@ -35,8 +37,111 @@ Inv-letters nodes tally answer₀ p₀ letter₀ answer p letter = atLetter node
 abbrev μ-letters : tie.MeasureT-letters
 μ-letters nodes tally answer₀ p₀ letter₀ answer p letter = length tally - letter
 
+-- ---- the state at each loop, and what the walk from there gives
+module _ (c : tie.After-arc-index Inv-run μ-run Inv-copies μ-copies Inv-letters μ-letters) where
+  abbrev asked : tie.Start Inv-run μ-run Inv-copies μ-copies Inv-letters μ-letters
+  asked = c .before .before .before .before .before
+
+  abbrev nodes : Graph
+  nodes = asked .args .nodes .now
+
+  abbrev tally : List ℕ
+  tally = asked .args .tally .now
+
+  some-node : 0 < length nodes
+  some-node = omega (arith, c .before .before .if1 .left)
+
+module _ (c : tie.At-letters Inv-run μ-run Inv-copies μ-copies Inv-letters μ-letters) where
+  abbrev entered : tie.After-arc-index Inv-run μ-run Inv-copies μ-copies Inv-letters μ-letters
+  entered = c .before .before
+
+  from-letter : {r : Answer} → atLetter (nodes entered) (tally entered) (c .letters .letter) (c .letters .p) (c .letters .answer) ≡ r
+      → r ≡ crossFrom (nodes entered) (tally entered)
+  from-letter e = sym e ∙ c .letters .inv
+
+module _ (c : tie.At-copies Inv-run μ-run Inv-copies μ-copies Inv-letters μ-letters) where
+  abbrev in-letter : tie.At-letters Inv-run μ-run Inv-copies μ-copies Inv-letters μ-letters
+  in-letter = c .before .before .before
+
+  from-copy : {r : Answer}
+      → atCopy (nodes (entered in-letter)) (tally (entered in-letter)) (c .copies .left) (in-letter .letters .letter) (c .copies .p) (c .copies .answer) ≡ r
+      → r ≡ crossFrom (nodes (entered in-letter)) (tally (entered in-letter))
+  from-copy e = sym e ∙ c .copies .inv
+
+-- the run for one copy of the letter: the copies left after it, the node's place, and the set so far
+module _ (c : tie.At-run Inv-run μ-run Inv-copies μ-copies Inv-letters μ-letters) where
+  abbrev in-copy : tie.At-copies Inv-run μ-run Inv-copies μ-copies Inv-letters μ-letters
+  in-copy = c .before .before
+
+  abbrev g : Graph
+  g = nodes (entered (in-letter in-copy))
+
+  abbrev letters : List ℕ
+  letters = tally (entered (in-letter in-copy))
+
+  abbrev letter : ℕ
+  letter = in-letter in-copy .letters .letter
+
+  abbrev left : ℕ
+  left = in-copy .copies .left - 1
+
+  from-node : {r : Answer} → atNode g letters left letter (c .run .p) (c .run .answer) ≡ r → r ≡ crossFrom g letters
+  from-node e = sym e ∙ c .run .inv
+
+-- a node of the run
+module _ (c : tie.After-tile Inv-run μ-run Inv-copies μ-copies Inv-letters μ-letters) where
+  abbrev at : tie.At-run Inv-run μ-run Inv-copies μ-copies Inv-letters μ-letters
+  at = c .before .before .before
+
+  abbrev v : ℕ
+  v = node (g at) (at .run .p)
+
+  inside : at .run .p < length (g at)
+  inside = c .before .before .run-test .taken
+
+-- the letter's node, by its arc
+module _ (c : tie.After-arc-index2 Inv-run μ-run Inv-copies μ-copies Inv-letters μ-letters) where
+  abbrev found : tie.After-tile Inv-run μ-run Inv-copies μ-copies Inv-letters μ-letters
+  found = c .before .before .before
+
+  has-letter : tile KBWG (v found) ≡ letter (at found)
+  has-letter = sym (found .tile .ensures) ∙ c .before .if5 .taken
+
+-- a node before the letter's: whether its tile completes the letters
+module _ (c : tie.After-completes-alpha-cross-set Inv-run μ-run Inv-copies μ-copies Inv-letters μ-letters) where
+  abbrev earlier : tie.After-tile Inv-run μ-run Inv-copies μ-copies Inv-letters μ-letters
+  earlier = c .before .before .before
+
+  at-most : tile KBWG (v earlier) ≤ letter (at earlier)
+  at-most = omega (arith, earlier .tile .ensures, c .before .before .if4 .left)
+
+  other : tile KBWG (v earlier) ≢ letter (at earlier)
+  other z = c .before .if5 .left (earlier .tile .ensures ∙ z)
+
+  told : {r : Completes} → c .completes-alpha-cross-set .result ≡ r
+      → completes (g (at earlier)) (letters (at earlier)) (letter (at earlier)) (at earlier .run .p) ≡ decided r
+  told e = sym (c .completes-alpha-cross-set .ensures) ∙ ap decided e
+
+-- once that is known, and the set is made
+module _ (c : tie.After-is-end Inv-run μ-run Inv-copies μ-copies Inv-letters μ-letters) where
+  abbrev judged : tie.After-completes-alpha-cross-set Inv-run μ-run Inv-copies μ-copies Inv-letters μ-letters
+  judged = c .before .before .before .before .before
+
+  abbrev passed : tie.After-tile Inv-run μ-run Inv-copies μ-copies Inv-letters μ-letters
+  passed = earlier judged
+
+  abbrev yes : Bool
+  yes = c .before .before .before .known .given .0 .0
+
+  known : completes (g (at passed)) (letters (at passed)) (letter (at passed)) (at passed .run .p) ≡ on yes
+  known = told judged (c .before .before .before .known .given .1)
+
+  ends : {b : Bool} → c .is-end .result ≡ b → isEnd KBWG (v passed) ≡ b
+  ends e = sym (c .is-end .ensures) ∙ e
+
+-- ---- the needs
 returns : tie.Need-returns Inv-run μ-run Inv-copies μ-copies Inv-letters μ-letters
-returns c = let a = c .before .before .before .args in sym (cross-out (a .nodes .now) (a .tally .now) (c .if1 .taken))
+returns c = sym (cross-out _ _ (c .if1 .taken))
 
 shared-slice-read-t15 :
     tie.Need-shared-slice-read-t15 Inv-run μ-run Inv-copies μ-copies Inv-letters μ-letters
@@ -49,45 +154,32 @@ cast-p : tie.Need-cast-p Inv-run μ-run Inv-copies μ-copies Inv-letters μ-lett
 cast-p c = search needs
 
 returns-2 : tie.Need-returns-2 Inv-run μ-run Inv-copies μ-copies Inv-letters μ-letters
-returns-2 c =
-    let a = c .before .before .before .before .before .before .args in
-    sym (cross-none (a .nodes .now) (a .tally .now) (omega arith) (sym (c .before .arc-index .ensures) ∙ c .if2 .taken))
+returns-2 c = sym (cross-none _ _ (some-node (c .before)) (sym (c .before .arc-index .ensures) ∙ c .if2 .taken))
 
 letters-holds : tie.Need-letters-holds Inv-run μ-run Inv-copies μ-copies Inv-letters μ-letters
 letters-holds c =
-    let a = c .before .before .before .before .before .before .args in
     let e = c .before .arc-index .ensures in
-    ap (λ q. atLetter (a .nodes .now) (a .tally .now) 1 q 1) e
-    ∙ sym (cross-letters (a .nodes .now) (a .tally .now) (omega arith) (λ z. c .if2 .left (e ∙ z)))
+    ap (λ q. atLetter (nodes (c .before)) (tally (c .before)) 1 q 1) e ∙ sym (cross-letters _ _ (some-node (c .before)) (λ z. c .if2 .left (e ∙ z)))
 
 closing-requires :
     tie.Need-closing-requires Inv-run μ-run Inv-copies μ-copies Inv-letters μ-letters
 closing-requires c κs = search needs
 
 returns-3 : tie.Need-returns-3 Inv-run μ-run Inv-copies μ-copies Inv-letters μ-letters
-returns-3 c =
-    let a = c .before .before .before .before .before .before .before .before .before .args in
-    let l = c .before .before .letters in
-    c .closing .ensures ∙ sym (letters-end (a .nodes .now) (a .tally .now) (l .letter) (l .p) (l .answer) (c .before .if3 .taken)) ∙ l .inv
+returns-3 c = c .closing .ensures ∙ from-letter (c .before .before) (letters-end _ _ _ _ _ (c .before .if3 .taken))
 
 shared-slice-read-left :
     tie.Need-shared-slice-read-left Inv-run μ-run Inv-copies μ-copies Inv-letters μ-letters
 shared-slice-read-left c = omega arith
 
 copies-holds : tie.Need-copies-holds Inv-run μ-run Inv-copies μ-copies Inv-letters μ-letters
-copies-holds c =
-    let a = c .before .before .before .before .before .before .before .before .before .args in
-    let l = c .before .before .letters in
-    sym (letters-one (a .nodes .now) (a .tally .now) (l .letter) (l .p) (l .answer) (c .before .if3 .left)) ∙ l .inv
+copies-holds c = from-letter (c .before .before) (letters-one _ _ _ _ _ (c .before .if3 .left))
 
 sub-left : tie.Need-sub-left Inv-run μ-run Inv-copies μ-copies Inv-letters μ-letters
 sub-left c = search needs
 
 run-holds : tie.Need-run-holds Inv-run μ-run Inv-copies μ-copies Inv-letters μ-letters
-run-holds c =
-    let a = c .before .before .before .before .before .before .before .before .before .before .before .args in
-    let k = c .before .copies in
-    sym (copies-one (a .nodes .now) (a .tally .now) (k .left) (c .before .before .before .before .letters .letter) (k .p) (k .answer) (c .copies-test .taken)) ∙ k .inv
+run-holds c = from-copy (c .before) (copies-one _ _ _ _ _ _ (c .copies-test .taken))
 
 mul-v : tie.Need-mul-v Inv-run μ-run Inv-copies μ-copies Inv-letters μ-letters
 mul-v c = search needs
@@ -102,36 +194,6 @@ tile-requires c κs = search needs
 cast-tile : tie.Need-cast-tile Inv-run μ-run Inv-copies μ-copies Inv-letters μ-letters
 cast-tile c = search needs
 
--- a node of the run: its place, the letter, the copies of it left after this one, and the set so far
-module _ (c : tie.After-tile Inv-run μ-run Inv-copies μ-copies Inv-letters μ-letters) where
-  abbrev nodes : Graph
-  nodes = c .before .before .before .before .before .before .before .before .before .before .before .before .before .before .before .args .nodes .now
-
-  abbrev tally : List ℕ
-  tally = c .before .before .before .before .before .before .before .before .before .before .before .before .before .before .before .args .tally .now
-
-  abbrev letter : ℕ
-  letter = c .before .before .before .before .before .before .before .before .letters .letter
-
-  abbrev left : ℕ
-  left = c .before .before .before .before .before .copies .left - 1
-
-  abbrev place : ℕ
-  place = c .before .before .before .run .p
-
-  abbrev so-far : ℕ
-  so-far = c .before .before .before .run .answer
-
-  abbrev v : ℕ
-  v = node nodes place
-
-  abbrev inside : place < length nodes
-  inside = c .before .before .run-test .taken
-
-  -- the walk from here gives the answer of the whole
-  whole : atNode nodes tally left letter place so-far ≡ crossFrom nodes tally
-  whole = c .before .before .before .run .inv
-
 arc-index-requires-2 :
     tie.Need-arc-index-requires-2 Inv-run μ-run Inv-copies μ-copies Inv-letters μ-letters
 arc-index-requires-2 c κs = search needs
@@ -142,22 +204,11 @@ cast-p-2 c = search needs
 copies-less : tie.Need-copies-less Inv-run μ-run Inv-copies μ-copies Inv-letters μ-letters
 copies-less c = search needs
 
--- the letter's node, by its arc
-module _ (c : tie.After-arc-index2 Inv-run μ-run Inv-copies μ-copies Inv-letters μ-letters) where
-  abbrev found : tie.After-tile Inv-run μ-run Inv-copies μ-copies Inv-letters μ-letters
-  found = c .before .before .before
-
-  has-letter : tile KBWG (v found) ≡ letter found
-  has-letter = sym (found .tile .ensures) ∙ c .before .if5 .taken
-
 copies-again : tie.Need-copies-again Inv-run μ-run Inv-copies μ-copies Inv-letters μ-letters
 copies-again c =
     let a = c .before in
     let n = found a in
-    let e = a .arc-index2 .ensures in
-    ap (λ q. atCopy (nodes n) (tally n) (left n) (letter n) q (so-far n)) e
-    ∙ sym (node-arc (nodes n) (tally n) (left n) (letter n) (place n) (so-far n) (inside n) (has-letter a) (λ z. c .if6 .left (e ∙ z)))
-    ∙ whole n
+    from-node (at n) (node-arc _ _ _ _ _ _ (inside n) _ (a .arc-index2 .ensures) (has-letter a) (c .if6 .left))
 
 completes-alpha-cross-set-requires :
     tie.Need-completes-alpha-cross-set-requires
@@ -167,22 +218,7 @@ completes-alpha-cross-set-requires :
     μ-copies
     Inv-letters
     μ-letters
-completes-alpha-cross-set-requires c κs = c .before .before .before .before .before .before .before .before .before .before .before .before .before .before .before .before .before .pre
-
--- a node before the letter's: whether its tile completes the letters
-module _ (c : tie.After-completes-alpha-cross-set Inv-run μ-run Inv-copies μ-copies Inv-letters μ-letters) where
-  abbrev earlier : tie.After-tile Inv-run μ-run Inv-copies μ-copies Inv-letters μ-letters
-  earlier = c .before .before .before
-
-  at-most : tile KBWG (v earlier) ≤ letter earlier
-  at-most = omega (arith, earlier .tile .ensures, c .before .before .if4 .left)
-
-  other : tile KBWG (v earlier) ≢ letter earlier
-  other z = c .before .if5 .left (earlier .tile .ensures ∙ z)
-
-  told : (r : Completes) → c .completes-alpha-cross-set .result ≡ r
-      → completes (nodes earlier) (tally earlier) (letter earlier) (place earlier) ≡ decided r
-  told r e = sym (c .completes-alpha-cross-set .ensures) ∙ ap decided e
+completes-alpha-cross-set-requires c κs = asked (entered (in-letter (in-copy (at (c .before .before))))) .pre
 
 enum-known-known :
     tie.Need-enum-known-known Inv-run μ-run Inv-copies μ-copies Inv-letters μ-letters
@@ -195,8 +231,7 @@ returns-4 : tie.Need-returns-4 Inv-run μ-run Inv-copies μ-copies Inv-letters �
 returns-4 c =
     let k = c .before .before in
     let n = earlier k in
-    sym (node-stop (nodes n) (tally n) (left n) (letter n) (place n) (so-far n) (inside n) (at-most k) (other k) (told k NotLent (c .enum-told .given .1)))
-    ∙ whole n
+    from-node (at n) (node-stop _ _ _ _ _ _ (inside n) (at-most k) (other k) (told k (c .enum-told .given .1)))
 
 marked-requires : tie.Need-marked-requires Inv-run μ-run Inv-copies μ-copies Inv-letters μ-letters
 marked-requires c κs = search needs
@@ -213,18 +248,13 @@ run-less c = search needs
 run-again : tie.Need-run-again Inv-run μ-run Inv-copies μ-copies Inv-letters μ-letters
 run-again c =
     let s = c .before in
-    let y = s .before .before .before .known .given in
-    let k = s .before .before .before .before .before in
-    let n = earlier k in
-    ap (atNode (nodes n) (tally n) (left n) (letter n) (place n + 1)) (s .before .marked .ensures)
-    ∙ sym (node-next (nodes n) (tally n) (left n) (letter n) (place n) (so-far n) (inside n) (at-most k) (other k) (y .0 .0) (told k (Known (y .0 .0)) (y .1))
-    (sym (s .is-end .ensures) ∙ c .if7 .left)) ∙ whole n
+    let k = judged s in
+    let n = passed s in
+    from-node (at n)
+    (node-next _ _ _ _ _ _ (inside n) (at-most k) (other k) (yes s) (known s) _ (s .before .marked .ensures) (ends s (c .if7 .left)))
 
 returns-5 : tie.Need-returns-5 Inv-run μ-run Inv-copies μ-copies Inv-letters μ-letters
-returns-5 c =
-    let a = c .before .before .before .before .before .before .before .before .before .before .before .before .before .args in
-    let r = c .before .run in
-    sym (node-out (a .nodes .now) (a .tally .now) (c .before .before .before .copies .left - 1) (c .before .before .before .before .before .before .letters .letter) (r .p) (r .answer) (c .run-test .left)) ∙ r .inv
+returns-5 c = from-node (c .before) (node-out _ _ _ _ _ _ (c .run-test .left))
 
 add-letter : tie.Need-add-letter Inv-run μ-run Inv-copies μ-copies Inv-letters μ-letters
 add-letter c = search needs
@@ -233,33 +263,26 @@ letters-less : tie.Need-letters-less Inv-run μ-run Inv-copies μ-copies Inv-let
 letters-less c = search needs
 
 letters-again : tie.Need-letters-again Inv-run μ-run Inv-copies μ-copies Inv-letters μ-letters
-letters-again c =
-    let a = c .before .before .before .before .before .before .before .before .before .before .before .args in
-    let k = c .before .copies in
-    sym (copies-none (a .nodes .now) (a .tally .now) (k .left) (c .before .before .before .before .letters .letter) (k .p) (k .answer) (c .copies-test .left)) ∙ k .inv
+letters-again c = from-copy (c .before) (copies-none _ _ _ _ _ _ (c .copies-test .left))
 
 returns-6 : tie.Need-returns-6 Inv-run μ-run Inv-copies μ-copies Inv-letters μ-letters
 returns-6 c =
     let n = c .before in
-    sym (node-greater (nodes n) (tally n) (left n) (letter n) (place n) (so-far n) (inside n) (omega (arith, n .tile .ensures, c .if4 .taken)))
-    ∙ whole n
+    from-node (at n) (node-greater _ _ _ _ _ _ (inside n) (omega (arith, n .tile .ensures, c .if4 .taken)))
 
 returns-7 : tie.Need-returns-7 Inv-run μ-run Inv-copies μ-copies Inv-letters μ-letters
 returns-7 c =
     let a = c .before in
     let n = found a in
-    sym (node-no-arc (nodes n) (tally n) (left n) (letter n) (place n) (so-far n) (inside n) (has-letter a) (sym (a .arc-index2 .ensures) ∙ c .if6 .taken))
-    ∙ whole n
+    from-node (at n) (node-no-arc _ _ _ _ _ _ (inside n) (has-letter a) (sym (a .arc-index2 .ensures) ∙ c .if6 .taken))
 
 returns-8 : tie.Need-returns-8 Inv-run μ-run Inv-copies μ-copies Inv-letters μ-letters
 returns-8 c =
     let s = c .before in
-    let y = s .before .before .before .known .given in
-    let k = s .before .before .before .before .before in
-    let n = earlier k in
-    ap (λ x. gives (x ∷ [])) (s .before .marked .ensures)
-    ∙ sym (node-end (nodes n) (tally n) (left n) (letter n) (place n) (so-far n) (inside n) (at-most k) (other k) (y .0 .0) (told k (Known (y .0 .0)) (y .1))
-    (sym (s .is-end .ensures) ∙ c .if7 .taken)) ∙ whole n
+    let k = judged s in
+    let n = passed s in
+    from-node (at n)
+    (node-end _ _ _ _ _ _ (inside n) (at-most k) (other k) (yes s) (known s) _ (s .before .marked .ensures) (ends s (c .if7 .taken)))
 
 pub cross-from-spec : {M : Type 1} → statement M
 cross-from-spec =

@@ -1,4 +1,4 @@
--- `letters::carried` meets its contract, by its two cases.
+-- `carried` meets its contract, by its two cases.
 use mathlib.Core.Path.{sym, _∙_}
 use borrow.Author.Needs.{needs}
 use Rattle.letters.specs.LetterBits.{carry}

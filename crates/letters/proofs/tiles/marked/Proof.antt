@@ -1,4 +1,4 @@
--- `letters::marked` meets its contract: a shift by a tile is the power of two, since tiles are below 64.
+-- `marked` meets its contract: a shift by a tile is the power of two, since tiles are below 64.
 use mathlib.Core.Path.{_≡_, ap, _∙_}
 use mathlib.Core.Bool.{Bool, true}
 use Prim.Native.Nat.{ℕ, _*_, _%_, _^_}

@@ -31,11 +31,13 @@ returns-2 c = let a = c .before .before .before .before .before .args in
     (omega (arith, refusal-length (m .0 .0) (omega arith))) (c .put-refusal .ensures)
 
 returns-3 : tie.Need-returns-3
-returns-3 c = let a = c .before .before .before .before .before .before .before .before .args in
-    let m = c .before .before .before .before .before .before .unprinted2 .given in
+returns-3 c =
+    let some = c .before .before .before .before in
+    let told = some .before .before in
+    let a = told .before .before .args in
     let f = c .fill in
-    made-words (a .nodes .now) (a .counts .now) (a .unprinted) (a .out .now) _ _ _ _ (m .1) (f .result) _
-    (c .before .before .before .before .if1 .left) (omega arith) (f .ensures) (omega arith)
+    made-words (a .nodes .now) (a .counts .now) (a .unprinted) (a .out .now) _ _ _ _ (told .unprinted2 .given .1) (f .result) _
+    (some .if1 .left) (omega arith) (f .ensures) (omega arith)
 
 pub next-block-spec : {M : Type 1} → statement M
 next-block-spec =

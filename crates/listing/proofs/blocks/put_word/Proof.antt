@@ -4,13 +4,13 @@ use mathlib.Core.Path.{sym, ap}
 use mathlib.Core.List.{List}
 use Prim.Native.Nat.{ℕ}
 use lib.Seq.{length-take-le}
-use Rattle.node.specs.Answers.{Answer}
+use Rattle.answers.specs.Answers.{Answer}
 use Rattle.graph.specs.Words.{Word}
 use Rattle.lookup.specs.Said.{saidWord}
 use Rattle.listing.specs.Wordlist.{mostTiles}
 use Rattle.listing.specs.Printing.{walkFrom}
 use Rattle.listing.proofs.LinesLaws.{refusal-length}
-use Rattle.listing.proofs.WalkedLaws.{Walked, by-index-walked}
+use Rattle.listing.proofs.WalkedLaws.{WalkLeaves, by-index-walked}
 use Rattle.listing.proofs.WordLaws.{Tiled, tiled, WordIn, word-in, line-room, word-line, word-refused, word-none}
 use borrow.Author.Needs.{needs}
 use Rattle.listing.proofs.blocks.put_word.Statement.{statement}
@@ -42,12 +42,15 @@ module _ (c : tie.After-get-word-by-index) where
   in-buffer : Tiled walk (c .get-word-by-index .result) buffer
   in-buffer = tiled (from .args .nodes .now) (from .args .counts .now) (from .args .start) number _ (c .get-word-by-index .ensures) (omega arith)
 
-  walked : Walked mostTiles 0 walk
+  walked : WalkLeaves mostTiles 0 walk
   walked = by-index-walked (from .args .counts .now) (from .args .nodes .now) mostTiles (from .args .start) number
 
 -- the word, where it has one
-word-at : (c : tie.After-known-told) → WordIn (walk (c .before .before .before .before)) (c .before .tiles .given .0 .0) (buffer (c .before .before .before .before))
-word-at c = word-in (walked (c .before .before .before .before)) (in-buffer (c .before .before .before .before)) (c .before .tiles .given .1)
+abbrev asked : tie.After-known-told → tie.After-get-word-by-index
+asked s = s .before .before .before .before
+
+word-at : (s : tie.After-known-told) → WordIn (walk (asked s)) (s .before .tiles .given .0 .0) (buffer (asked s))
+word-at s = word-in (walked (asked s)) (in-buffer (asked s)) (s .before .tiles .given .1)
 
 array-share-prefix-word : tie.Need-array-share-prefix-word
 array-share-prefix-word c = omega (arith, word-at c .few)
@@ -56,8 +59,10 @@ slice-aggregate-put-line : tie.Need-slice-aggregate-put-line
 slice-aggregate-put-line c = sym (length-take-le _ _ (array-share-prefix-word (c .before)))
 
 put-line-requires : tie.Need-put-line-requires
-put-line-requires c κs = let w = c .before .before .before .before .before .before in
-    omega (arith, from w .pre, line-room (number w) (walk w) (omega arith) (walked w) (word-at (c .before .before)))
+put-line-requires c κs =
+    let s = c .before .before in
+    let w = asked s in
+    omega (arith, from w .pre, line-room (number w) (walk w) (omega arith) (walked w) (word-at s))
 
 enum-told : tie.Need-enum-told
 enum-told c = search needs
@@ -84,8 +89,10 @@ same-length : tie.Need-same-length
 same-length c = search needs
 
 returns : tie.Need-returns
-returns c = let w = c .before .before .before .before .before .before .before .before .before in
-    word-line (number w) (walk w) (omega arith) (walked w) (word-at (c .before .before .before .before .before)) (c .before .before .put-line .ensures)
+returns c =
+    let s = c .before .before .before .before .before in
+    let w = asked s in
+    word-line (number w) (walk w) (omega arith) (walked w) (word-at s) (c .before .before .put-line .ensures)
 
 returns-2 : tie.Need-returns-2
 returns-2 c = let w = c .before .before .before in word-none (number w) (walk w) (in-buffer w) (ap saidWord (c .enum-told .given .1))
@@ -94,25 +101,28 @@ same-length-2 : tie.Need-same-length-2
 same-length-2 c = search needs
 
 returns-3 : tie.Need-returns-3
-returns-3 c = let w = c .before .before .before .before .before .before .before in
-    word-refused (number w) (walk w) 14 (omega arith) (in-buffer w)
-    (ap saidWord (c .before .before .before .before .enum-told2 .given .1)) (c .before .before .put-refusal .ensures)
+returns-3 c =
+    let told = c .before .before .before .before in
+    let w = told .before .before .before in
+    word-refused (number w) (walk w) 14 (omega arith) (in-buffer w) (ap saidWord (told .enum-told2 .given .1)) (c .before .before .put-refusal .ensures)
 
 same-length-3 : tie.Need-same-length-3
 same-length-3 c = search needs
 
 returns-4 : tie.Need-returns-4
-returns-4 c = let w = c .before .before .before .before .before .before .before in
-    word-refused (number w) (walk w) 15 (omega arith) (in-buffer w)
-    (ap saidWord (c .before .before .before .before .enum-told3 .given .1)) (c .before .before .put-refusal2 .ensures)
+returns-4 c =
+    let told = c .before .before .before .before in
+    let w = told .before .before .before in
+    word-refused (number w) (walk w) 15 (omega arith) (in-buffer w) (ap saidWord (told .enum-told3 .given .1)) (c .before .before .put-refusal2 .ensures)
 
 same-length-4 : tie.Need-same-length-4
 same-length-4 c = search needs
 
 returns-5 : tie.Need-returns-5
-returns-5 c = let w = c .before .before .before .before .before .before .before in
-    word-refused (number w) (walk w) 16 (omega arith) (in-buffer w)
-    (ap saidWord (c .before .before .before .before .enum-told4 .given .1)) (c .before .before .put-refusal3 .ensures)
+returns-5 c =
+    let told = c .before .before .before .before in
+    let w = told .before .before .before in
+    word-refused (number w) (walk w) 16 (omega arith) (in-buffer w) (ap saidWord (told .enum-told4 .given .1)) (c .before .before .put-refusal3 .ensures)
 
 pub put-word-spec : {M : Type 1} → statement M
 put-word-spec =

@@ -65,8 +65,10 @@ put-number-returns : (t : ℕ) → put-number-lts.Need-returns (
   put-number-below t,
   put-number.Post,
 ) (put-number-at t) put-number.Post
-put-number-returns t c = let n = c .before .before .before .before .before .before .args .number in
-    put-digit n (c .before .before .before .before .if1 .taken) (c .before .before .put-byte .ensures)
+put-number-returns t c =
+    let put = c .before .before in
+    let low = put .before .before in
+    put-digit (low .before .before .args .number) (low .if1 .taken) (put .put-byte .ensures)
 
 put-number-put-number-requires : (t : ℕ) → put-number-lts.Need-put-number-requires (
   put-byte-reads.Asked,
@@ -100,10 +102,12 @@ put-number-put-byte-requires-2 : (t : ℕ) → put-number-lts.Need-put-byte-requ
   put-number-below t,
   put-number.Post,
 ) (put-number-at t) put-number.Post
-put-number-put-byte-requires-2 t c κs = let s = c .before .before .before .before .before .before .before in
-    let p = c .before .before .before .put-number .ensures in
-    let h = c .before .before .before .before .before .if1 .left in
-    let r = tenth-room (s .args .number) (s .args .at) (length (s .args .out .now)) h (s .pre .1) in
+put-number-put-byte-requires-2 t c κs =
+    let put = c .before .before .before in
+    let high = put .before .before in
+    let s = high .before .before in
+    let p = put .put-number .ensures in
+    let r = tenth-room (s .args .number) (s .args .at) (length (s .args .out .now)) (high .if1 .left) (s .pre .1) in
     omega (arith, p .place, put-size p)
 
 put-number-same-length-2 : (t : ℕ) → put-number-lts.Need-same-length-2 (
@@ -112,8 +116,9 @@ put-number-same-length-2 : (t : ℕ) → put-number-lts.Need-same-length-2 (
   put-number-below t,
   put-number.Post,
 ) (put-number-at t) put-number.Post
-put-number-same-length-2 t c = let p = c .before .before .before .before .before .before .put-number .ensures in
-    omega (arith, put-size (c .before .before .put-byte2 .ensures), put-size p)
+put-number-same-length-2 t c =
+    let last = c .before .before in
+    omega (arith, put-size (last .put-byte2 .ensures), put-size (last .before .before .before .before .put-number .ensures))
 
 put-number-returns-2 : (t : ℕ) → put-number-lts.Need-returns-2 (
   put-byte-reads.Asked,
@@ -121,9 +126,11 @@ put-number-returns-2 : (t : ℕ) → put-number-lts.Need-returns-2 (
   put-number-below t,
   put-number.Post,
 ) (put-number-at t) put-number.Post
-put-number-returns-2 t c = let n = c .before .before .before .before .before .before .before .before .before .before .args .number in
-    let h = c .before .before .before .before .before .before .before .before .if1 .left in
-    put-digits n h (c .before .before .before .before .before .before .put-number .ensures) (c .before .before .put-byte2 .ensures)
+put-number-returns-2 t c =
+    let last = c .before .before in
+    let put = last .before .before .before .before in
+    let high = put .before .before in
+    put-digits (high .before .before .args .number) (high .if1 .left) (put .put-number .ensures) (last .put-byte2 .ensures)
 
 pub +put-number-spec : {M : Type 1} → statement M
 +put-number-spec = close μ-put-number λ t. put-number-lts.spec (

@@ -4,7 +4,7 @@ use mathlib.Core.Path.{refl, ap}
 use Prim.Native.Nat.{_+_}
 use lib.ListN.{length}
 use lib.Seq.{length-sets}
-use Rattle.listing.specs.Lines.{refusedTab, refusal}
+use Rattle.listing.specs.Lines.{refusedTab, refusalLine}
 use Rattle.listing.proofs.LinesLaws.{refusal-parts}
 use Rattle.listing.proofs.PutLaws.{put-size, put-both}
 use Rattle.listing.specs.Said.{Puts}
@@ -18,19 +18,30 @@ slice-aggregate-write-bytes c = search needs
 write-bytes-requires : tie.Need-write-bytes-requires
 write-bytes-requires c κs = let s = c .before .before .before in omega (arith, s .pre, refusal-parts (s .args .number))
 
+-- the states after the words and after the number
+abbrev start : tie.After-write-bytes → tie.Start
+start s = s .before .before .before .before
+
+abbrev words-put : tie.After-put-number → tie.After-write-bytes
+words-put s = s .before .before .before .before
+
 add-put-number : tie.Need-add-put-number
-add-put-number c = let s = c .before .before .before .before .before .before .before in
-    omega (arith, s .pre, refusal-parts (s .args .number))
+add-put-number c = let s = start (c .before .before .before) in omega (arith, s .pre, refusal-parts (s .args .number))
 
 put-number-requires : tie.Need-put-number-requires
-put-number-requires c κs = let s = c .before .before .before .before .before .before .before in
-    let l = ap length (c .before .before .before .write-bytes .ensures) in
+put-number-requires c κs =
+    let w = c .before .before .before in
+    let s = start w in
+    let l = ap length (w .write-bytes .ensures) in
     omega (arith, s .pre, refusal-parts (s .args .number), l, length-sets (s .args .out .now) (s .args .at) refusedTab)
 
 put-byte-requires : tie.Need-put-byte-requires
-put-byte-requires c κs = let s = c .before .before .before .before .before .before .before .before .before .before .before in
-    let p = c .before .before .before .put-number .ensures in
-    let l = ap length (c .before .before .before .before .before .before .before .write-bytes .ensures) in
+put-byte-requires c κs =
+    let n = c .before .before .before in
+    let w = words-put n in
+    let s = start w in
+    let p = n .put-number .ensures in
+    let l = ap length (w .write-bytes .ensures) in
     let m = length-sets (s .args .out .now) (s .args .at) refusedTab in
     omega (arith, s .pre, refusal-parts (s .args .number), p .place, put-size p, l, m)
 
@@ -38,11 +49,14 @@ same-length : tie.Need-same-length
 same-length c = search needs
 
 returns : tie.Need-returns
-unfolding refusal
-returns c = let s = c .before .before .before .before .before .before .before .before .before .before .before .before .before .before .args in
-    let put = c .before .before .before .before .before .before .before .before .before .before .write-bytes .ensures in
-    let first : Puts refusedTab (s .out .now) (s .at) _ (s .at + 8) = record { place = refl; stored = put } in
-    put-both (put-both first (c .before .before .before .before .before .before .put-number .ensures)) (c .before .before .put-byte .ensures)
+unfolding refusalLine
+returns c =
+    let e = c .before .before in
+    let n = e .before .before .before .before in
+    let w = words-put n in
+    let a = start w .args in
+    let first : Puts refusedTab (a .out .now) (a .at) _ (a .at + 8) = record { place = refl; stored = w .write-bytes .ensures } in
+    put-both (put-both first (n .put-number .ensures)) (e .put-byte .ensures)
 
 pub put-refusal-spec : {M : Type 1} → statement M
 put-refusal-spec =

@@ -25,8 +25,10 @@ shared-slice-read-t5-2 : tie.Need-shared-slice-read-t5-2
 shared-slice-read-t5-2 c = search needs
 
 returns-2 : tie.Need-returns-2
-returns-2 c = let a = c .before .before .before .before .before .before .args in
-    some-words (a .nodes .now) (a .counts .now) (c .before .before .arc-index .ensures) (c .before .if1 .left)
+returns-2 c =
+    let read = c .before .before in
+    let a = read .before .before .before .before .args in
+    some-words (a .nodes .now) (a .counts .now) (read .arc-index .ensures) (c .before .if1 .left)
 
 pub at-start-spec : {M : Type 1} → statement M
 at-start-spec =

@@ -2,9 +2,9 @@
 use mathlib.Core.Path.{_≡_, ap, subst}
 use mathlib.Core.List.{List, []}
 use Prim.Native.Nat.{ℕ}
-use Rattle.node.specs.Answers.{Answer, gives}
-use Rattle.graph.specs.Counting.{Counted}
-use Rattle.count.specs.Said.{limit, said}
+use Rattle.answers.specs.Answers.{Answer, gives}
+use Rattle.graph.specs.Counting.{IsCounted, countLimit}
+use Rattle.count.specs.Said.{saidCounting}
 use Rattle.listing.proofs.OpeningLaws.{start-stands, counts-done, counts-refused}
 use borrow.Author.Needs.{needs}
 use Rattle.listing.proofs.opening.count_loaded.Statement.{statement}
@@ -17,14 +17,22 @@ enum-told : tie.Need-enum-told
 enum-told c = search needs
 
 -- counted, where `count_words` said so
-done : {g before after : List ℕ} {lentWork : ℕ} {a : Answer} → a ≡ gives [] → Counted limit g before lentWork a after
-    → Counted limit g before lentWork (gives []) after
-done {g} {before} {after} {lentWork} e k = subst (λ x. Counted limit g before lentWork x after) e k
+done : {g before after : List ℕ} {lentWork : ℕ} {a : Answer} → a ≡ gives [] → IsCounted countLimit g before lentWork a after
+    → IsCounted countLimit g before lentWork (gives []) after
+done {g} {before} {after} {lentWork} e k = subst (λ x. IsCounted countLimit g before lentWork x after) e k
+
+abbrev counted : tie.After-slice-known4 → tie.After-count-words
+counted s = s .before .before .before .before
+
+abbrev start : tie.After-count-words → tie.Start
+start s = s .before .before .before .before .before .before
 
 at-start-requires : tie.Need-at-start-requires
-at-start-requires c κs = let a = c .before .before .before .before .before .before .before .before .before .before .before .before .before .args in
-    let k = done (ap said (c .before .enum-told .given .1)) (c .before .before .before .before .before .before .before .count-words .ensures .0) in
-    start-stands (a .nodes .now) (a .counts .now) (a .work .now) _ k
+at-start-requires c κs =
+    let told = c .before in
+    let s = counted (told .before .before) in
+    let a = start s .args in
+    start-stands (a .nodes .now) (a .counts .now) (a .work .now) _ (done (ap saidCounting (told .enum-told .given .1)) (s .count-words .ensures .0))
 
 enum-told-2 : tie.Need-enum-told-2
 enum-told-2 c = search needs
@@ -51,10 +59,12 @@ same-length-2 : tie.Need-same-length-2
 same-length-2 c = search needs
 
 returns : tie.Need-returns
-returns c = let a = c .before .before .before .before .before .before .before .before .before .before .before .before .before .before .args in
-    let k = c .before .before .before .before .before .before .before .before .count-words .ensures in
-    let d = done (ap said (c .before .before .enum-told .given .1)) (k .0) in
-    counts-done (a .nodes .now) (a .counts .now) (a .work .now) _ d (c .at-start .ensures) (k .1)
+returns c =
+    let told = c .before .before in
+    let s = counted (told .before .before) in
+    let a = start s .args in
+    let k = s .count-words .ensures in
+    counts-done (a .nodes .now) (a .counts .now) (a .work .now) _ (done (ap saidCounting (told .enum-told .given .1)) (k .0)) (c .at-start .ensures) (k .1)
 
 same-length-3 : tie.Need-same-length-3
 same-length-3 c = search needs
@@ -63,8 +73,9 @@ same-length-4 : tie.Need-same-length-4
 same-length-4 c = search needs
 
 returns-2 : tie.Need-returns-2
-returns-2 c = let k = c .before .before .before .before .before .before .count-words .ensures in
-    counts-refused 10 (ap said (c .enum-told2 .given .1)) (k .0) (k .1)
+returns-2 c =
+    let k = counted (c .before .before) .count-words .ensures in
+    counts-refused 10 (ap saidCounting (c .enum-told2 .given .1)) (k .0) (k .1)
 
 same-length-5 : tie.Need-same-length-5
 same-length-5 c = search needs
@@ -73,8 +84,9 @@ same-length-6 : tie.Need-same-length-6
 same-length-6 c = search needs
 
 returns-3 : tie.Need-returns-3
-returns-3 c = let k = c .before .before .before .before .before .before .count-words .ensures in
-    counts-refused 8 (ap said (c .enum-told3 .given .1)) (k .0) (k .1)
+returns-3 c =
+    let k = counted (c .before .before) .count-words .ensures in
+    counts-refused 8 (ap saidCounting (c .enum-told3 .given .1)) (k .0) (k .1)
 
 same-length-7 : tie.Need-same-length-7
 same-length-7 c = search needs
@@ -83,8 +95,9 @@ same-length-8 : tie.Need-same-length-8
 same-length-8 c = search needs
 
 returns-4 : tie.Need-returns-4
-returns-4 c = let k = c .before .before .before .before .before .before .count-words .ensures in
-    counts-refused 9 (ap said (c .enum-told4 .given .1)) (k .0) (k .1)
+returns-4 c =
+    let k = counted (c .before .before) .count-words .ensures in
+    counts-refused 9 (ap saidCounting (c .enum-told4 .given .1)) (k .0) (k .1)
 
 same-length-9 : tie.Need-same-length-9
 same-length-9 c = search needs
@@ -93,8 +106,9 @@ same-length-10 : tie.Need-same-length-10
 same-length-10 c = search needs
 
 returns-5 : tie.Need-returns-5
-returns-5 c = let k = c .before .before .before .before .before .before .count-words .ensures in
-    counts-refused 11 (ap said (c .enum-told5 .given .1)) (k .0) (k .1)
+returns-5 c =
+    let k = counted (c .before .before) .count-words .ensures in
+    counts-refused 11 (ap saidCounting (c .enum-told5 .given .1)) (k .0) (k .1)
 
 same-length-11 : tie.Need-same-length-11
 same-length-11 c = search needs
@@ -103,8 +117,9 @@ same-length-12 : tie.Need-same-length-12
 same-length-12 c = search needs
 
 returns-6 : tie.Need-returns-6
-returns-6 c = let k = c .before .before .before .before .before .before .count-words .ensures in
-    counts-refused 12 (ap said (c .enum-told6 .given .1)) (k .0) (k .1)
+returns-6 c =
+    let k = counted (c .before .before) .count-words .ensures in
+    counts-refused 12 (ap saidCounting (c .enum-told6 .given .1)) (k .0) (k .1)
 
 same-length-13 : tie.Need-same-length-13
 same-length-13 c = search needs
@@ -113,8 +128,9 @@ same-length-14 : tie.Need-same-length-14
 same-length-14 c = search needs
 
 returns-7 : tie.Need-returns-7
-returns-7 c = let k = c .before .before .before .before .before .before .count-words .ensures in
-    counts-refused 13 (ap said (c .enum-told7 .given .1)) (k .0) (k .1)
+returns-7 c =
+    let k = counted (c .before .before) .count-words .ensures in
+    counts-refused 13 (ap saidCounting (c .enum-told7 .given .1)) (k .0) (k .1)
 
 pub count-loaded-spec : {M : Type 1} → statement M
 count-loaded-spec =

@@ -15,16 +15,19 @@ returns : tie.Need-returns
 returns c input h = let s = c .before .before .before .before .before in
     open-longer (s .pre .1) (read-longer (s .args .input .now) input (s .args .read) (s .pre .0) (omega (arith, c .if1 .taken)) h)
 
+abbrev start : tie.After-load-arg → tie.Start
+start s = s .before .before .before .before .before .before
+
 -- fewer bytes were read than the buffer has room for
-within : (c : tie.After-load-arg) → let s = c .before .before .before .before .before .before in s .args .read < length (s .args .input .now)
-within c = omega (arith, c .before .before .before .before .before .before .pre .0, c .before .if1 .left)
+within : (s : tie.After-load-arg) → start s .args .read < length (start s .args .input .now)
+within s = omega (arith, start s .pre .0, s .before .if1 .left)
 
 slice-aggregate-load : tie.Need-slice-aggregate-load
 slice-aggregate-load c = sym (length-take-le _ _ (omega (arith, within c)))
 
 -- and no more than may be listed
-few : (c : tie.After-load-arg) → let s = c .before .before .before .before .before .before in length (take (s .args .read) (s .args .input .now)) ≤ mostBytes
-few c = let s = c .before .before .before .before .before .before in omega (arith, length-take (s .args .read) (s .args .input .now), c .before .if1 .left)
+few : (s : tie.After-load-arg) → length (take (start s .args .read) (start s .args .input .now)) ≤ mostBytes
+few s = omega (arith, length-take (start s .args .read) (start s .args .input .now), s .before .if1 .left)
 
 load-requires : tie.Need-load-requires
 load-requires c κs = search needs
@@ -33,9 +36,10 @@ enum-known-count : tie.Need-enum-known-count
 enum-known-count c = search needs
 
 slice-reshare-prefix-count-loaded : tie.Need-slice-reshare-prefix-count-loaded
-slice-reshare-prefix-count-loaded c = let a = c .before .before .before .before .before .before .before .before .before .before .before .before .before .args in
-    nodes-within (take (a .read) (a .input .now)) (a .nodes .now)
-    (loads-as (c .before .count .given .1) (c .before .before .before .before .before .load .ensures))
+slice-reshare-prefix-count-loaded c =
+    let loaded = c .before .before .before .before .before in
+    let a = start (loaded .before .before) .args in
+    nodes-within (take (a .read) (a .input .now)) (a .nodes .now) (loads-as (c .before .count .given .1) (loaded .load .ensures))
 
 slice-aggregate-count-loaded : tie.Need-slice-aggregate-count-loaded
 slice-aggregate-count-loaded c = sym (length-take-le _ _ (slice-reshare-prefix-count-loaded (c .before)))
@@ -56,19 +60,24 @@ same-length-3 : tie.Need-same-length-3
 same-length-3 c = search needs
 
 returns-2 : tie.Need-returns-2
-returns-2 c = let match = c .before .before .before .before .before .before .before .before .before in
-    let e = match .before .before .before .before .before .before in
-    let s = e .before .before .before .before .before .before in
-    let l = loads-as (match .count .given .1) (match .before .before .before .before .load .ensures) in
-    opens-read (s .args .input .now) (s .args .read) (within e) (open-loaded (s .pre .1) (few e) _ _ l (c .before .before .before .before .count-loaded .ensures))
+returns-2 c =
+    let counted = c .before .before .before .before in
+    let told = counted .before .before .before .before .before in
+    let loaded = told .before .before .before .before in
+    let e = loaded .before .before in
+    let s = start e in
+    let l = loads-as (told .count .given .1) (loaded .load .ensures) in
+    opens-read (s .args .input .now) (s .args .read) (within e) (open-loaded (s .pre .1) (few e) _ _ l (counted .count-loaded .ensures))
 
 same-length-4 : tie.Need-same-length-4
 same-length-4 c = search needs
 
 returns-3 : tie.Need-returns-3
-returns-3 c = let e = c .before .before .before .before .before .before .before in
-    let s = e .before .before .before .before .before .before in
-    let l = loads-as (c .before .number .given .1) (c .before .before .before .before .before .load .ensures) in
+returns-3 c =
+    let loaded = c .before .before .before .before .before in
+    let e = loaded .before .before in
+    let s = start e in
+    let l = loads-as (c .before .number .given .1) (loaded .load .ensures) in
     opens-read (s .args .input .now) (s .args .read) (within e) (open-unloaded (s .pre .1) (few e) _ l)
 
 pub open-read-spec : {M : Type 1} → statement M

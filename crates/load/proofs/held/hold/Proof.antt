@@ -1,3 +1,4 @@
+-- `hold` meets its contract: the bytes of the piece that are left, put behind those that are in, give what all give.
 use borrow.Author.Needs.{needs}
 use native.Mathlib.Omega.{arith}
 use Prim.Native.Nat.{_+_, _-_, _<_, _≤_}

@@ -1,7 +1,8 @@
+-- `joined_byte` meets its contract: a byte below the count is a held one, the others are those of the piece.
 use native.Mathlib.Omega.{arith}
 use Prim.Native.Nat.{_+_, _-_}
 use mathlib.Core.Path.{_≡_, sym}
-use Rattle.load.specs.HeldLaws.{fresh-held, fresh-piece}
+use Rattle.load.proofs.HeldLaws.{fresh-held, fresh-piece}
 use borrow.Author.Needs.{needs}
 use Rattle.load.proofs.held.joined_byte.Statement.{statement}
 use Rattle.load.proofs.held.joined_byte.Tie as tie

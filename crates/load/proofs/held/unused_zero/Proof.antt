@@ -1,3 +1,4 @@
+-- `unused_zero` meets its contract: the places from i on are 0 where those from the first on are.
 use borrow.Author.Needs.{needs}
 use native.Mathlib.Omega.{arith}
 use Prim.Native.Nat.{_+_, _-_}

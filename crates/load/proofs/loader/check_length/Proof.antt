@@ -1,7 +1,8 @@
 -- `check_length` meets its contract: each refusal by its condition of begin's row, those before it being false.
 use native.Mathlib.Omega.{arith}
 use mathlib.Core.Path.{sym}
-use Rattle.load.specs.BeginLaws.{begin-empty, begin-ragged, begin-over, begin-short, begin-ready}
+use Rattle.load.specs.BeginLaws.{begin-empty}
+use Rattle.load.proofs.BeginRow.{begin-ragged, begin-over, begin-short, begin-ready}
 use Rattle.load.proofs.loader.check_length.Statement.{statement}
 use Rattle.load.proofs.loader.check_length.Tie as tie
 

@@ -1,30 +1,46 @@
+-- `read_whole` meets its contract: repacking stops at the node that stops the load, or the bytes after the whole nodes are held.
 use native.Mathlib.Omega.{arith}
-use mathlib.Core.Path.{sym, ap, _∙_}
-use Prim.Native.Nat.{_-_, _%_}
+use mathlib.Core.Path.{_≡_, sym, ap, _∙_}
+use mathlib.Core.List.{List}
+use Prim.Native.Nat.{ℕ, _-_, _%_}
 use lib.ListN.{length, drop, length-drop}
 use lib.Seq.{take-all}
 use Rattle.node.specs.Nodes.{KBWG}
-use Rattle.node.specs.Said.{placesOf}
+use Rattle.node.specs.Said.{bitLayout}
 use Rattle.endian.specs.Bytes.{wholeNodes}
 use Rattle.endian.specs.BytesLaws.{length-whole}
 use Rattle.load.specs.Repacking.{misfitOf}
 use Rattle.load.specs.RepackingLaws.{misfit-within}
-use Rattle.load.specs.Loading.{places}
-use Rattle.load.specs.StateLaws.{state-stopped, state-cut}
+use Rattle.load.specs.Loading.{places, misfitIn}
+use Rattle.load.specs.StateLaws.{state-stopped}
+use Rattle.load.proofs.PieceLaws.{state-cut}
+use Rattle.load.specs.declared.repack.Repacked.{Repacked}
 use borrow.Author.Needs.{needs}
 use Rattle.load.proofs.loader.read_whole.Statement.{statement}
 use Rattle.load.proofs.loader.read_whole.Tie as tie
 
+module _ (c : tie.After-repack-into) where
+  abbrev asked : tie.Start
+  asked = c .before .before .before .before
+
+  abbrev bytes : List ℕ
+  bytes = asked .args .bytes .now
+
+  stop : {r : Repacked} → c .repack-into .result ≡ r → misfitIn (asked .args .layout) (asked .args .k) bytes ≡ misfitOf r
+  stop e = sym (c .repack-into .ensures .0) ∙ ap misfitOf e
+
 repack-into-requires : tie.Need-repack-into-requires
 repack-into-requires c κs = search needs
 
-enum-known-node : tie.Need-enum-known-node
-enum-known-node c = search needs
+enum-known-misfit : tie.Need-enum-known-misfit
+enum-known-misfit c = search needs
 
 stopped-at-requires : tie.Need-stopped-at-requires
-stopped-at-requires c κs = let a = c .before .before .before .before .before .before .before .before .before .args in
-    let e = sym (c .before .before .before .before .before .repack-into .ensures .0) ∙ ap misfitOf (c .before .node .given .1) in
-    omega (arith, misfit-within (placesOf (a .layout)) KBWG (wholeNodes (a .bytes .now)) (a .k) e, length-whole (a .bytes .now))
+stopped-at-requires c κs =
+    let b = c .before .before .before .before .before in
+    let a = asked b .args in
+    let within = misfit-within (bitLayout (a .layout)) KBWG (wholeNodes (bytes b)) (a .k) (stop b (c .before .misfit .given .1)) in
+    omega (arith, within, length-whole (bytes b))
 
 enum-told : tie.Need-enum-told
 enum-told c = search needs
@@ -44,37 +60,39 @@ part-hold-end c = search needs
 hold-requires : tie.Need-hold-requires
 hold-requires c κs = search needs
 
-mul-t16 : tie.Need-mul-t16
-mul-t16 c = search needs
+mul-taken : tie.Need-mul-taken
+mul-taken c = search needs
 
-add-t22 : tie.Need-add-t22
-add-t22 c = search needs
+add-taken : tie.Need-add-taken
+add-taken c = search needs
 
 same-length : tie.Need-same-length
 same-length c = search needs
 
 returns : tie.Need-returns
-returns c = let a = c .before .before .before .before .before .before .before .before .before .before .args in
-    let e = sym (c .before .before .before .before .before .before .repack-into .ensures .0) ∙ ap misfitOf (c .before .before .node .given .1) in
-    (c .stopped-at .ensures ∙ sym (state-stopped (a .announced) (a .layout) (a .k) (a .bytes .now) e), c .before .before .before .before .before .before .repack-into .ensures .1)
+returns c =
+    let told = c .before .before in
+    let b = told .before .before .before .before in
+    (c .stopped-at .ensures ∙ sym (state-stopped _ _ _ (bytes b) (stop b (told .misfit .given .1))), b .repack-into .ensures .1)
 
 same-length-2 : tie.Need-same-length-2
 same-length-2 c = search needs
 
 returns-2 : tie.Need-returns-2
-returns-2 c = let a = c .before .before .before .before .before .before .before .before .before .before .args in
-    let e = sym (c .before .before .before .before .before .before .repack-into .ensures .0) ∙ ap misfitOf (c .before .before .enum-told .given .1) in
-    let s = a .bytes .now in
+returns-2 c =
+    let told = c .before .before in
+    let b = told .before .before .before .before in
+    let s = bytes b in
     let cut = length s - length s % 4 in
-    let t = take-all (length s - cut) (drop cut s) (simp length-drop (omega arith)) in
-    (state-cut (a .announced) (a .layout) (a .k) s e (c .hold .ensures .0 ∙ ap places t), c .before .before .before .before .before .before .repack-into .ensures .1)
+    let rest = take-all (length s - cut) (drop cut s) (simp length-drop (omega arith)) in
+    (state-cut _ _ _ s (stop b (told .enum-told .given .1)) (c .hold .ensures .0 ∙ ap places rest), b .repack-into .ensures .1)
 
 pub read-whole-spec : {M : Type 1} → statement M
 read-whole-spec =
     tie.close
     (tie.spec
     repack-into-requires
-    enum-known-node
+    enum-known-misfit
     stopped-at-requires
     enum-told
     sub-cut
@@ -82,8 +100,8 @@ read-whole-spec =
     part-hold-start
     part-hold-end
     hold-requires
-    mul-t16
-    add-t22
+    mul-taken
+    add-taken
     same-length
     returns
     same-length-2

@@ -1,3 +1,4 @@
+-- `started` meets its contract, field by field.
 use mathlib.Core.Path.{refl}
 use Rattle.load.specs.Loading.{holding}
 use Rattle.load.proofs.loader.started.Statement.{statement}

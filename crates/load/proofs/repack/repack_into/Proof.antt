@@ -1,12 +1,16 @@
+-- `repack_into` meets its contract: the bytes from place i on, put at node k, give the stop and the nodes that all give.
 use borrow.Author.Needs.{needs}
 use native.Mathlib.Omega.{arith}
-use Prim.Native.Nat.{_+_, _*_, _-_, _≤_}
+use Prim.Native.Nat.{ℕ, _+_, _*_, _-_, _≤_}
 use native.Mathlib.Numerals.{add-one}
 use mathlib.Core.Path.{_≡_, sym, ap, _∙_}
+use mathlib.Core.List.{List}
 use lib.ListN.{length, drop, length-set}
-use Rattle.node.specs.Nodes.{KBWG}
-use Rattle.node.specs.Said.{placesOf, repackNodeAnswer, said as saidNode}
-use Rattle.load.specs.RepackingLaws.{next-fits, next-stops, none-left}
+use Rattle.node.specs.Nodes.{BitLayout, KBWG}
+use Rattle.node.specs.Said.{bitLayout, repackNodeAnswer, saidNode}
+use Rattle.node.specs.declared.Packed.{Packed}
+use Rattle.endian.specs.Bytes.{nodeAt}
+use Rattle.load.proofs.NextNode.{next-fits, next-stops, none-left}
 use Rattle.load.specs.Loading.{misfitIn, nodesAfter}
 use Rattle.load.proofs.repack.repack_into.Statement.{statement}
 use Rattle.load.proofs.repack.repack_into.Tie as tie
@@ -48,14 +52,29 @@ enum-known-tile c = search needs
 same-length : tie.Need-same-length Inv-loop μ-loop
 same-length c = search needs
 
+-- the node at place i, as it is repacked
+module _ (c : tie.After-repack-node Inv-loop μ-loop) where
+  abbrev turn : tie.At-loop Inv-loop μ-loop
+  turn = c .before .before .before
+
+  abbrev asked : tie.Start Inv-loop μ-loop
+  asked = turn .before .before .before
+
+  abbrev layout : BitLayout
+  layout = bitLayout (asked .args .from)
+
+  abbrev bytes : List ℕ
+  bytes = asked .args .bytes .now
+
+  repacked : {r : Packed} → c .repack-node .result ≡ r → saidNode r ≡ repackNodeAnswer layout KBWG (nodeAt bytes (turn .loop .i))
+  repacked e = ap saidNode (sym e) ∙ c .repack-node .ensures ∙ ap (repackNodeAnswer layout KBWG) (c .before .read-le-u32 .ensures)
+
 returns : tie.Need-returns Inv-loop μ-loop
 unfolding nodesAfter
-returns c = let m = c .before .before .before in
-    let l = c .before .before .before .before .before .before .loop in
-    let a = c .before .before .before .before .before .before .before .before .before .args in
-    let w = ap (repackNodeAnswer (placesOf (a .from)) KBWG) (m .before .read-le-u32 .ensures) in
-    let n = next-stops (placesOf (a .from)) KBWG (a .bytes .now) (l .i) (l .k) (omega arith)
-    (ap saidNode (sym (c .before .tile .given .1)) ∙ m .repack-node .ensures ∙ w) in
+returns c =
+    let b = c .before .before .before in
+    let l = turn b .loop in
+    let n = next-stops (layout b) KBWG (bytes b) (l .i) (l .k) (omega arith) (repacked b (c .before .tile .given .1)) in
     (sym (n .0) ∙ l .inv .3, sym (rw (n .1)) ∙ l .inv .4)
 
 add-i : tie.Need-add-i Inv-loop μ-loop
@@ -69,22 +88,26 @@ loop-less c = search needs
 
 loop-again : tie.Need-loop-again Inv-loop μ-loop
 unfolding nodesAfter
-loop-again c = let m = c .before .before .before in
-    let l = c .before .before .before .before .before .before .loop in
-    let a = c .before .before .before .before .before .before .before .before .before .args in
-    let w = ap (repackNodeAnswer (placesOf (a .from)) KBWG) (m .before .read-le-u32 .ensures) in
-    let n = next-fits (placesOf (a .from)) KBWG (a .bytes .now) (l .i) (l .k) (omega arith)
-    (ap saidNode (sym (c .before .new .given .1)) ∙ m .repack-node .ensures ∙ w) in
-    (omega arith, omega arith, simp length-set (l .inv .2), rw add-one (sym (n .0) ∙ l .inv .3), rw add-one (sym (rw (n .1)) ∙ l .inv .4))
+loop-again c =
+    let b = c .before .before .before in
+    let l = turn b .loop in
+    let n = next-fits (layout b) KBWG (bytes b) (l .i) (l .k) (omega arith) (repacked b (c .before .new .given .1)) in (
+      omega arith,
+      omega arith,
+      simp length-set (l .inv .2),
+      rw add-one (sym (n .0) ∙ l .inv .3),
+      rw add-one (sym (rw (n .1)) ∙ l .inv .4),
+    )
 
 same-length-2 : tie.Need-same-length-2 Inv-loop μ-loop
 same-length-2 c = search needs
 
 returns-2 : tie.Need-returns-2 Inv-loop μ-loop
 unfolding nodesAfter
-returns-2 c = let l = c .before .loop in
+returns-2 c =
+    let l = c .before .loop in
     let a = c .before .before .before .before .args in
-    let n = none-left (placesOf (a .from)) KBWG (a .bytes .now) (l .i) (l .k) (omega arith) in
+    let n = none-left (bitLayout (a .from)) KBWG (a .bytes .now) (l .i) (l .k) (omega arith) in
     (sym (n .0) ∙ l .inv .3, sym (rw (n .1)) ∙ l .inv .4)
 
 pub repack-into-spec : {M : Type 1} → statement M

@@ -1,3 +1,4 @@
+-- `get_word_by_index` meets its contract: `word_from` over the lent parts.
 use Rattle.lookup.specs.Walks.{wordByIndex}
 use borrow.Author.Needs.{needs}
 use Rattle.lookup.proofs.by_number.get_word_by_index.Statement.{statement}
@@ -17,7 +18,9 @@ same-length c = search needs
 
 returns : tie.Need-returns
 unfolding wordByIndex
-returns c = rw (← c .before .before .before .before .before .lent-part .ensures, ← c .before .before .before .before .lent-part2 .ensures) (c .before .before .word-from .ensures)
+returns c =
+    let w = c .before .before in
+    rw (← w .before .before .before .lent-part .ensures, ← w .before .before .lent-part2 .ensures) (w .word-from .ensures)
 
 pub get-word-by-index-spec : {M : Type 1} → statement M
 get-word-by-index-spec =

@@ -1,36 +1,45 @@
--- `lookup::words_here` meets its contract: where the count after the node is lent, so is its own.
-use mathlib.Core.Path.{sym}
+-- `words_here` meets its contract: where the count after the node is lent, so is its own.
+use mathlib.Core.Path.{_≡_, sym, _∙_}
+use mathlib.Core.Bool.{false}
 use native.Mathlib.Omega.{arith}
 use lib.Dec.{ltb}
 use lib.ListN.{length}
 use borrow.Author.Tests.{ltb-true, ltb-false}
 use Rattle.laws.specs.Cases.{split}
-use Rattle.lookup.specs.WalkLaws.{here-out, here-end, here-last, here-below, here-words}
+use Rattle.node.specs.Nodes.{KBWG, isEnd}
+use Rattle.lookup.proofs.WordByIndexLaws.{here-out, here-end, here-last, here-below, here-words}
 use borrow.Author.Needs.{needs}
 use Rattle.lookup.proofs.by_number.words_here.Statement.{statement}
 use Rattle.lookup.proofs.by_number.words_here.Tie as tie
 
+is-end-requires : tie.Need-is-end-requires
+is-end-requires c κs = search needs
+
 returns : tie.Need-returns
-returns c = let a = c .before .before .args in sym (here-out (a .counts .now) (a .v) (a .p) (omega arith))
+returns c = sym (here-out _ _ _ (c .if2 .taken))
 
-mul-t9 : tie.Need-mul-t9
-mul-t9 c = search needs
+mul-t8 : tie.Need-mul-t8
+mul-t8 c = search needs
 
-shared-slice-read-t12 : tie.Need-shared-slice-read-t12
-shared-slice-read-t12 c = search needs
+shared-slice-read-t11 : tie.Need-shared-slice-read-t11
+shared-slice-read-t11 c = search needs
 
 returns-2 : tie.Need-returns-2
-returns-2 c = let a = c .before .before .before .args in sym (here-end (a .counts .now) (a .v) (a .p) (omega arith) (omega arith))
+returns-2 c = let e = c .before .before in sym (here-end _ _ _ (c .before .if2 .left) (sym (e .before .is-end .ensures) ∙ e .if1 .taken))
+
+-- a node that is no end
+more : (c : tie.Else1) → isEnd KBWG (c .before .before .before .args .v) ≡ false
+more c = sym (c .before .is-end .ensures) ∙ c .if1 .left
 
 add-if3 : tie.Need-add-if3
 add-if3 c = search needs
 
 returns-3 : tie.Need-returns-3
 returns-3 c =
-    let a = c .before .before .args in
+    let a = c .before .before .before .before .args in
     split (ltb (a .p) (length (a .counts .now)))
-    (λ t. let l = ltb-true _ _ t in sym (here-last (a .counts .now) (a .v) (a .p) l (λ e. omega arith) (omega arith)))
-    (λ t. let l = ltb-false _ _ t in sym (here-out (a .counts .now) (a .v) (a .p) l))
+    (λ t. sym (here-last _ _ _ (ltb-true _ _ t) (more (c .before)) (c .if3 .taken)))
+    (λ t. sym (here-out _ _ _ (ltb-false _ _ t)))
 
 mul-own : tie.Need-mul-own
 mul-own c = search needs
@@ -48,18 +57,19 @@ shared-slice-read-next : tie.Need-shared-slice-read-next
 shared-slice-read-next c = search needs
 
 returns-4 : tie.Need-returns-4
-returns-4 c = let a = c .before .before .before .before .before .args in sym (here-below (a .counts .now) (a .v) (a .p) (omega arith) (λ e. omega arith) (omega arith) (omega arith))
+returns-4 c = let l = c .before .before .before in sym (here-below _ _ _ (omega arith) (more (l .before)) (l .if3 .left) (c .if4 .taken))
 
 returns-5 : tie.Need-returns-5
-returns-5 c = let a = c .before .before .before .before .before .args in sym (here-words (a .counts .now) (a .v) (a .p) (omega arith) (λ e. omega arith) (omega arith) (omega arith))
+returns-5 c = let l = c .before .before .before in sym (here-words _ _ _ (omega arith) (more (l .before)) (l .if3 .left) (c .if4 .left))
 
 pub words-here-spec : {M : Type 1} → statement M
 words-here-spec =
     tie.close
     (tie.spec
+    is-end-requires
     returns
-    mul-t9
-    shared-slice-read-t12
+    mul-t8
+    shared-slice-read-t11
     returns-2
     add-if3
     returns-3

@@ -1,3 +1,4 @@
+-- `get_word_index` meets its contract: `index_from` over the lent parts.
 use borrow.Author.Needs.{needs}
 use Rattle.lookup.specs.Walks.{wordIndex}
 use Rattle.lookup.proofs.by_word.get_word_index.Statement.{statement}

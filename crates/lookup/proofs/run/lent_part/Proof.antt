@@ -1,3 +1,4 @@
+-- `lent_part` meets its contract: a list that is no longer than the part is the part.
 use native.Mathlib.Omega.{arith}
 use mathlib.Core.Path.{sym}
 use lib.Seq.{take-all, length-take-le}

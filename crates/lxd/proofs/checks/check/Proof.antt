@@ -1,8 +1,10 @@
 -- `check` meets its contract: what the graph is refused by, and past that what `check_lists` says.
 use mathlib.Core.Path.{_≡_, refl, sym, ap, _∙_}
+use mathlib.Core.List.{List}
 use mathlib.Core.Option.{some}
-use Rattle.node.specs.Answers.{Answer, firstOf}
-use Rattle.node.specs.RowLaws.{rows-refuse}
+use Prim.Native.Nat.{ℕ}
+use Rattle.answers.specs.Answers.{Answer, firstOf}
+use Rattle.answers.specs.RowLaws.{rows-refuse}
 use Rattle.graph.specs.Checks.{graphRow, graphRefusal}
 use Rattle.graph.specs.declared.GraphCheck.{GraphCheck}
 use Rattle.lxd.proofs.RowLaws.{row, listsRow}
@@ -11,14 +13,21 @@ use Rattle.lxd.proofs.checks.check.Statement.{statement}
 use Rattle.lxd.proofs.checks.check.Tie as tie
 
 -- what the check of the graph says
-judged : (c : tie.After-check-graph) {k : GraphCheck} → c .check-graph .result ≡ k → firstOf (graphRow (c .before .before .before .before .before .args .nodes .now)) ≡ graphRefusal k
-judged c e = sym (c .check-graph .ensures) ∙ ap graphRefusal e
+module _ (c : tie.After-check-graph) where
+  abbrev asked : tie.Start
+  asked = c .before .before .before .before .before
 
-refused-there : (c : tie.After-check-graph) {k : GraphCheck} → c .check-graph .result ≡ k → {r : Answer} → graphRefusal k ≡ some r
-    → let a = c .before .before .before .before .before .args in some r ≡ firstOf (row (a .nodes .now) (a .labels .now) (a .title .now) (a .date .now) (a .lent-work))
-refused-there c e i =
-    let a = c .before .before .before .before .before .args in
-    sym (rows-refuse (graphRow (a .nodes .now)) (listsRow (a .nodes .now) (a .labels .now) (a .title .now) (a .date .now) (a .lent-work)) (judged c e ∙ i))
+  abbrev g : List ℕ
+  g = asked .args .nodes .now
+
+  judged : {k : GraphCheck} → c .check-graph .result ≡ k → firstOf (graphRow g) ≡ graphRefusal k
+  judged e = sym (c .check-graph .ensures) ∙ ap graphRefusal e
+
+  refused-there : {k : GraphCheck} → c .check-graph .result ≡ k → {r : Answer} → graphRefusal k ≡ some r → let a = asked .args in
+      some r ≡ firstOf (row g (a .labels .now) (a .title .now) (a .date .now) (a .lent-work))
+  refused-there e i =
+      let a = asked .args in
+      sym (rows-refuse (graphRow g) (listsRow g (a .labels .now) (a .title .now) (a .date .now) (a .lent-work)) (judged e ∙ i))
 
 check-graph-requires : tie.Need-check-graph-requires
 check-graph-requires c κs = search needs

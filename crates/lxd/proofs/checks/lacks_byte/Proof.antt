@@ -2,10 +2,11 @@
 use borrow.Author.Needs.{needs}
 use native.Mathlib.Omega.{arith}
 use mathlib.Core.Path.{_≡_, refl, sym, _∙_}
-use Prim.Native.Nat.{_≤_, _-_}
+use mathlib.Core.List.{List}
+use Prim.Native.Nat.{ℕ, _≤_, _-_}
 use lib.ListN.{length, drop}
 use Rattle.laws.specs.Lists.{someOf}
-use Rattle.export.specs.Latin1.{noByte}
+use Rattle.latin1.specs.Latin1.{noByte}
 use Rattle.laws.specs.Members.{some-here, some-next, some-past}
 use Rattle.lxd.proofs.checks.lacks_byte.Statement.{statement}
 use Rattle.lxd.proofs.checks.lacks_byte.Tie as tie
@@ -28,11 +29,22 @@ shared-slice-read-no-byte c = search needs
 no-byte-requires : tie.Need-no-byte-requires Inv-loop μ-loop
 no-byte-requires c κs = search needs
 
+-- a turn of the loop, by what its code point has
+module _ (c : tie.After-no-byte Inv-loop μ-loop) where
+  abbrev test : tie.In-loop Inv-loop μ-loop
+  test = c .before .before
+
+  abbrev turn : tie.At-loop Inv-loop μ-loop
+  turn = test .before
+
+  abbrev text : List ℕ
+  text = turn .before .before .args .text .now
+
 returns : tie.Need-returns Inv-loop μ-loop
-returns c = let text = c .before .before .before .before .before .before .args .text .now in
-    let w = c .before .before .before .before .loop in
-    let here = sym (c .before .no-byte .ensures) ∙ c .if1 .taken in
-    sym (some-here noByte text 0 (w .i) (c .before .before .before .loop-test .taken) here) ∙ w .inv .1
+returns c =
+    let k = c .before in
+    let here = sym (k .no-byte .ensures) ∙ c .if1 .taken in
+    sym (some-here noByte (text k) 0 (turn k .loop .i) (test k .loop-test .taken) here) ∙ turn k .loop .inv .1
 
 add-i : tie.Need-add-i Inv-loop μ-loop
 add-i c = search needs
@@ -41,10 +53,10 @@ loop-less : tie.Need-loop-less Inv-loop μ-loop
 loop-less c = search needs
 
 loop-again : tie.Need-loop-again Inv-loop μ-loop
-loop-again c = let text = c .before .before .before .before .before .before .args .text .now in
-    let w = c .before .before .before .before .loop in
-    let not = sym (c .before .no-byte .ensures) ∙ c .if1 .left in
-    (omega arith, sym (some-next noByte text 0 (w .i) (c .before .before .before .loop-test .taken) not) ∙ w .inv .1)
+loop-again c =
+    let k = c .before in
+    let not = sym (k .no-byte .ensures) ∙ c .if1 .left in
+    (omega arith, sym (some-next noByte (text k) 0 (turn k .loop .i) (test k .loop-test .taken) not) ∙ turn k .loop .inv .1)
 
 returns-2 : tie.Need-returns-2 Inv-loop μ-loop
 returns-2 c = let text = c .before .before .before .args .text .now in

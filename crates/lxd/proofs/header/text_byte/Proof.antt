@@ -15,7 +15,7 @@ byte-of-requires : tie.Need-byte-of-requires
 byte-of-requires c κs = search needs
 
 returns : tie.Need-returns
-returns c = c .byte-of .ensures ∙ text-inside (c .before .before .before .before .args .text .now) (c .before .before .before .before .args .i)
+returns c = let a = c .before .before .before .before .args in c .byte-of .ensures ∙ text-inside (a .text .now) (a .i)
 
 returns-2 : tie.Need-returns-2
 returns-2 c = text-past (c .before .before .args .text .now) (c .before .before .args .i) (c .if1 .left)

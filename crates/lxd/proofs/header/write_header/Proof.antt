@@ -23,12 +23,15 @@ same-length : tie.Need-same-length
 same-length c = search needs
 
 returns : tie.Need-returns
-returns c = let a = c .before .before .before .before .before .before .before .before .before .before .before .before .before .before .before .before .before .before .before .before .before .before .before .args in
-    let first = c .before .before .before .before .before .before .before .before .before .before .before .before .before .before .before .before .before .before .write-le-u32 .ensures in
-    let nodes = c .before .before .before .before .before .before .before .before .before .before .before .before .before .before .write-le-u322 .ensures in
-    let title = c .before .before .before .before .before .before .before .before .before .before .write-text .ensures in
-    let date = c .before .before .before .before .before .before .write-text2 .ensures in
-    header-written (a .file .now) (a .nodes) (a .title .now) (a .date .now) (a .words) first nodes title date (c .before .before .write-le-u323 .ensures)
+returns c =
+    let words = c .before .before in
+    let date = words .before .before .before .before in
+    let title = date .before .before .before .before in
+    let nodes = title .before .before .before .before in
+    let first = nodes .before .before .before .before in
+    let a = first .before .before .before .before .before .args in
+    header-written (a .file .now) (a .nodes) (a .title .now) (a .date .now) (a .words) (first .write-le-u32 .ensures)
+    (nodes .write-le-u322 .ensures) (title .write-text .ensures) (date .write-text2 .ensures) (words .write-le-u323 .ensures)
 
 pub write-header-spec : {M : Type 1} → statement M
 write-header-spec =

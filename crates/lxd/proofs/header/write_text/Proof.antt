@@ -6,7 +6,7 @@ use Prim.Native.Nat.{ℕ, _+_, _-_, _≤_}
 use native.Mathlib.Nat.{add-zero}
 use lib.ListN.{length, drop, set, length-set}
 use lib.Seq.{sets}
-use Rattle.laws.specs.Sets.{sets-next, sets-done}
+use Rattle.laws.specs.ListWrites.{sets-next, sets-done}
 use Rattle.lxd_file.specs.File.{field}
 use Rattle.lxd_file.specs.FileLaws.{length-field}
 use Rattle.lxd.proofs.HeaderLaws.{field-at}
@@ -14,7 +14,8 @@ use Rattle.lxd.proofs.header.write_text.Statement.{statement}
 use Rattle.lxd.proofs.header.write_text.Tie as tie
 
 abbrev Inv-loop : tie.InvT-loop
-Inv-loop file₀ from size text i₀ file i = (i ≤ size) × (length file ≡ length file₀) × (sets file (from + i) (drop i (field size text)) ≡ sets file₀ from (field size text))
+Inv-loop file₀ from size text i₀ file i =
+    (i ≤ size) × (length file ≡ length file₀) × (sets file (from + i) (drop i (field size text)) ≡ sets file₀ from (field size text))
 
 abbrev μ-loop : tie.MeasureT-loop
 μ-loop file₀ from size text i₀ file i = size - i

@@ -8,9 +8,13 @@ use Rattle.lxd_blocks.proofs.nodes.child_place.Tie as tie
 place-of-requires : tie.Need-place-of-requires
 place-of-requires c κs = search needs
 
+-- the call, where the record is asked
+module _ (c : tie.After-place-of) where
+  abbrev asked : tie.Start
+  asked = c .before .before
+
 returns : tie.Need-returns
-returns c = let a = c .before .before .before .args in
-    child-none (a .work .now) (a .arc) (c .if1 .taken)
+returns c = let a = asked (c .before) .args in child-none (a .work .now) (a .arc) (c .if1 .taken)
 
 enum-known-place : tie.Need-enum-known-place
 enum-known-place c = search needs
@@ -19,14 +23,17 @@ enum-told : tie.Need-enum-told
 enum-told c = search needs
 
 returns-2 : tie.Need-returns-2
-returns-2 c = let a = c .before .before .before .before .before .args in
-    child-unnumbered (a .work .now) (a .arc) (c .before .before .if1 .left) (sym (c .before .before .before .place-of .ensures) ∙ c .enum-told .given .1)
+returns-2 c =
+    let e = c .before .before in
+    let a = asked (e .before) .args in
+    child-unnumbered (a .work .now) (a .arc) (e .if1 .left) (sym (e .before .place-of .ensures) ∙ c .enum-told .given .1)
 
 returns-3 : tie.Need-returns-3
-returns-3 c = let a = c .before .before .before .before .before .before .args in
-    let some = c .before .before .before .if1 .left in
+returns-3 c =
+    let e = c .before .before .before in
+    let a = asked (e .before) .args in
     let place = c .before .place .given in
-    child-numbered (a .work .now) (a .arc) some (place .0 .0) (sym (c .before .before .before .before .place-of .ensures) ∙ place .1)
+    child-numbered (a .work .now) (a .arc) (e .if1 .left) (place .0 .0) (sym (e .before .place-of .ensures) ∙ place .1)
 
 pub child-place-spec : {M : Type 1} → statement M
 child-place-spec =

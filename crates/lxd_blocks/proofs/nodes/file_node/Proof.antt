@@ -2,8 +2,8 @@
 use mathlib.Core.Path.{_≡_, sym, ap, _∙_, subst}
 use Prim.Native.Nat.{ℕ, _^_, _<_}
 use lib.ListN.{getD}
-use Rattle.node.specs.Nodes.{KBWG, arc}
-use Rattle.export.specs.Latin1.{byteWritten}
+use Rattle.node.specs.Nodes.{KBWG, tile, arc}
+use Rattle.latin1.specs.Latin1.{byteWritten}
 use Rattle.lxd_blocks.specs.Placed.{childIn}
 use Rattle.lxd_blocks.proofs.PlacedLaws.{node-packed}
 use borrow.Author.Needs.{needs}
@@ -37,23 +37,32 @@ arc-index-requires c κs = search needs
 child-place-requires : tie.Need-child-place-requires
 child-place-requires c κs = search needs
 
-child-is : (c : tie.After-child-place) →
-    let a = c .before .before .before .before .before .before .before .before .before .args in
-    c .child-place .result ≡ childIn (a .work .now) (arc KBWG (a .node))
-child-is c =
-    let a = c .before .before .before .before .before .before .before .before .before .args in
-    c .child-place .ensures ∙ ap (childIn (a .work .now)) (c .before .arc-index .ensures)
+-- the call, where the letter is read
+module _ (c : tie.After-byte-of) where
+  abbrev asked : tie.Start
+  asked = c .before .before .before .before .before
+
+  letter-is : c .byte-of .result ≡ byteWritten (getD (asked .args .labels .now) (tile KBWG (asked .args .node)) 0)
+  letter-is = c .byte-of .ensures ∙ ap (λ (t : ℕ). byteWritten (getD (asked .args .labels .now) t 0)) (c .before .before .tile .ensures)
+
+-- and where the place of the child is
+module _ (c : tie.After-child-place) where
+  abbrev read : tie.After-byte-of
+  read = c .before .before .before .before
+
+  child-is : c .child-place .result ≡ childIn (asked read .args .work .now) (arc KBWG (asked read .args .node))
+  child-is = c .child-place .ensures ∙ ap (childIn (asked read .args .work .now)) (c .before .arc-index .ensures)
 
 pack-requires : tie.Need-pack-requires
-pack-requires c κs = subst (λ (k : ℕ). k < 2 ^ 22) (sym (child-is c)) (c .before .before .before .before .before .before .before .before .before .pre .1 .1)
+pack-requires c κs = subst (λ (k : ℕ). k < 2 ^ 22) (sym (child-is c)) (asked (read c) .pre .1 .1)
 
 returns : tie.Need-returns
-returns c = let a = c .before .before .before .before .before .before .before .before .before .before .args in
-    let tile = c .before .before .before .before .before .before .before .tile .ensures in
-    let letter = c .before .before .before .before .before .byte-of .ensures ∙ ap (λ (t : ℕ). byteWritten (getD (a .labels .now) t 0)) tile in
-    let accepts = c .before .before .before .before .accepts .ensures in
-    let end = c .before .before .before .is-end .ensures in
-    c .pack .ensures ∙ node-packed (a .labels .now) (a .work .now) (a .node) letter accepts end (child-is (c .before))
+returns c =
+    let k = c .before in
+    let a = asked (read k) .args in
+    let accepts = k .before .before .before .accepts .ensures in
+    let end = k .before .before .is-end .ensures in
+    c .pack .ensures ∙ node-packed (a .labels .now) (a .work .now) (a .node) (letter-is (read k)) accepts end (child-is k)
 
 pub file-node-spec : {M : Type 1} → statement M
 file-node-spec =

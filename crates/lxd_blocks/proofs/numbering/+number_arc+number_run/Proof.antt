@@ -14,29 +14,29 @@ use Rattle.node.specs.Nodes.{KBWG, arc}
 use Rattle.graph.specs.Runs.{node}
 use Rattle.export.specs.Starts.{runOf, hasArc, deeper}
 use Rattle.export.specs.Blocks.{met, total}
-use Rattle.export.specs.Places.{orderIn, metBy}
-use Rattle.export.specs.PlacesLaws.{place-none, place-some}
-use Rattle.export.specs.ChainLaws.{arcsFrom}
+use Rattle.block_record.specs.Record.{orderIn, metBy}
+use Rattle.block_record.specs.RecordLaws.{place-none, place-some}
+use Rattle.export.specs.ChainLaws.{arcsFrom, deep-at-once}
 use Rattle.lxd_file.specs.RunsLaws.{size}
-use Rattle.export.specs.declared.places.Tally.{Tally}
-use Rattle.export.specs.Depths.{depthAt, Below, NoneBut}
-use Rattle.export.specs.SurveyLaws.{deep-at-once}
-use Rattle.lxd_blocks.specs.Numbered.{Held, Known, Recorded, Numbered, NumberedAs}
-use Rattle.lxd_blocks.specs.NumberedLaws.{held-here, held-past}
+use Rattle.block_record.specs.declared.BlockTally.{BlockTally}
+use Rattle.block_record.specs.Depths.{depthAt, Below, NoneBut}
+use Rattle.lxd_blocks.specs.RunsNumbered.{RunsHeld, Known, RunsRecorded, RunsNumbered, NumberedAs}
+use Rattle.lxd_blocks.proofs.HeldLaws.{held-here, held-past}
 use Rattle.lxd_blocks.specs.declared.numbering.Walked.{Walked}
-use Rattle.lxd_blocks.specs.declared.numbering.Numbering.{Numbering}
-use Rattle.lxd_blocks.specs.declared.numbering.Numbering.the-variants.{Done, TooDeep, TooMany}
+use Rattle.lxd_blocks.specs.declared.numbering.RunNumbering.{RunNumbering}
+use Rattle.lxd_blocks.specs.declared.numbering.RunNumbering.the-variants.{Done, TooDeep, TooMany}
 use Rattle.lxd_blocks.proofs.KnownLaws.{begun-known, begun-followed}
-use Rattle.lxd_blocks.proofs.NumberingLaws.{walk, blocks-left, no-arc, known-run, arc-run, run-met, run-over, run-pushed, Along, along-starts, along-below, along-deep, along-over, along-goes, along-ends}
+use Rattle.lxd_blocks.proofs.NumberingLaws.{walk, blocks-left, no-arc, known-run, arc-run, run-met, run-over, run-pushed}
+use Rattle.lxd_blocks.proofs.NumberingLaws.{Along, along-starts, along-below, along-deep, along-over, along-goes, along-ends}
 use Rattle.lxd_blocks.proofs.numbering.number_arc.Reads as number-arc
 use Rattle.lxd_blocks.proofs.numbering.number_arc.Kinds as number-arc-kinds
 use Rattle.lxd_blocks.proofs.numbering.+number_arc+number_run.Lts-number_arc as arc-lts
 use Rattle.lxd_blocks.proofs.numbering.number_run.Reads as number-run
 use Rattle.lxd_blocks.proofs.numbering.number_run.Kinds as number-run-kinds
 use Rattle.lxd_blocks.proofs.numbering.+number_arc+number_run.Lts-number_run as run-lts
-use Rattle.export.proofs.place_of.Reads as place-of
-use Rattle.export.proofs.push_block.Reads as push-block
-use Rattle.export.proofs.keep_depth.Reads as keep-depth
+use Rattle.block_record.proofs.place_of.Reads as place-of
+use Rattle.block_record.proofs.push_block.Reads as push-block
+use Rattle.block_record.proofs.keep_depth.Reads as keep-depth
 use Rattle.lxd_blocks.proofs.numbering.look_up.Reads as look-up
 use Rattle.lxd_blocks.proofs.numbering.pass_node.Reads as pass-node
 use Rattle.lxd_blocks.proofs.numbering.close_run.Reads as close-run
@@ -76,18 +76,42 @@ module _ (t : ℕ) where
   cast-child : arc-lts.Need-cast-child arc-calls arc-at number-arc.Post
   cast-child c = search needs
 
+  -- the call, where the arc is read, and the node that the arc leads to
+  module _ (c : arc-lts.After-arc-index arc-calls arc-at number-arc.Post) where
+    abbrev asked : arc-lts.Start arc-calls arc-at number-arc.Post
+    asked = c .before .before .before
+
+    abbrev graph : List ℕ
+    graph = asked .args .nodes .now
+
+    abbrev work : List ℕ
+    work = asked .args .work .now
+
+    abbrev left : ℕ
+    left = asked .args .chain-left
+
+    abbrev order : List ℕ
+    order = orderIn (length graph) work (asked .args .t)
+
+    abbrev child : ℕ
+    child = c .arc-index .result
+
+    child-arc : child ≡ arc KBWG (asked .args .node)
+    child-arc = c .arc-index .ensures
+
+    child-inside : child < length graph
+    child-inside = subst (λ (q : ℕ). q < length graph) (sym child-arc) (asked .pre .1 .1 .0)
+
   arc-returns : arc-lts.Need-returns arc-calls arc-at number-arc.Post
   arc-returns c =
-      let s = c .before .before .before .before in
-      no-arc (s .args .nodes .now) (s .pre .1 .0) (s .args .chain-left) (s .args .node) (sym (c .before .arc-index .ensures) ∙ c .if1 .taken)
+      let a = c .before in
+      no-arc (graph a) (asked a .pre .1 .0) (left a) (asked a .args .node) (sym (child-arc a) ∙ c .if1 .taken)
 
   place-of-requires : arc-lts.Need-place-of-requires arc-calls arc-at number-arc.Post
   place-of-requires c κs =
-      let s = c .before .before .before .before .before in
-      let room = s .pre .1 .0 .room in
-      let inside = s .pre .1 .1 .0 in
-      let same = c .before .before .arc-index .ensures in
-      omega arith
+      let a = c .before .before in
+      let inside = child-inside a in
+      omega (arith, asked a .pre .1 .0 .room)
 
   arc-enum-told : arc-lts.Need-enum-told arc-calls arc-at number-arc.Post
   arc-enum-told c = search needs
@@ -95,61 +119,58 @@ module _ (t : ℕ) where
   arc-enum-told-2 : arc-lts.Need-enum-told-2 arc-calls arc-at number-arc.Post
   arc-enum-told-2 c = search needs
 
-  -- an arc that is not 0: its child, a node below those that are being followed
-  module _ (c : arc-lts.After-place-of arc-calls arc-at number-arc.Post) where
-    abbrev asked : arc-lts.Start arc-calls arc-at number-arc.Post
-    asked = c .before .before .before .before .before .before
+  -- an arc that is not 0: its child is below those that are being followed
+  module _ (c : arc-lts.Else1 arc-calls arc-at number-arc.Post) where
+    abbrev read : arc-lts.After-arc-index arc-calls arc-at number-arc.Post
+    read = c .before
 
-    abbrev child : ℕ
-    child = c .before .before .before .arc-index .result
-
-    child-arc : child ≡ arc KBWG (asked .args .node)
-    child-arc = c .before .before .before .arc-index .ensures
-
-    child-inside : child < length (asked .args .nodes .now)
-    child-inside = subst (λ (q : ℕ). q < length (asked .args .nodes .now)) (sym child-arc) (asked .pre .1 .1 .0)
-
-    child-below : Below (asked .args .nodes .now) (asked .args .work .now) child
+    child-below : Below (graph read) (work read) (child read)
     child-below =
-        subst (Below (asked .args .nodes .now) (asked .args .work .now)) (sym child-arc)
-        (asked .pre .1 .1 .1 (ap not (ne-eqb _ _ (λ z. c .before .before .if1 .left (child-arc ∙ z)))))
+        subst (Below (graph read) (work read)) (sym (child-arc read))
+        (asked read .pre .1 .1 .1 (ap not (ne-eqb _ _ (λ z. c .if1 .left (child-arc read ∙ z)))))
 
-    led : (w : List ℕ) (r : Numbering) → let g = asked .args .nodes .now in
-        let o = orderIn (length g) (asked .args .work .now) (asked .args .t) in
-        NumberedAs g (asked .args .work .now) w (met (arcsFrom g) (asked .args .chain-left) o child) true child (asked .args .chain-left) r
-        → NumberedAs g (asked .args .work .now) w (metBy (arcsFrom g) (asked .args .chain-left) o (arc KBWG (asked .args .node))) (hasArc (asked .args .node))
-        (arc KBWG (asked .args .node)) (asked .args .chain-left) r
-    led w r = arc-run _ _ w _ _ (asked .args .node) r child-arc (c .before .before .if1 .left)
+    led : (w : List ℕ) (r : RunNumbering) → let v = asked read .args .node in
+        NumberedAs (graph read) (work read) w (met (arcsFrom (graph read)) (left read) (order read) (child read)) true (child read) (left read) r
+        → NumberedAs (graph read) (work read) w (metBy (arcsFrom (graph read)) (left read) (order read) (arc KBWG v)) (hasArc v) (arc KBWG v) (left read) r
+    led w r = arc-run _ _ w _ _ (asked read .args .node) r (child-arc read) (c .if1 .left)
+
+  -- the same, where the record has no run for it, and where it has one
+  abbrev unnumbered : arc-lts.After-enum-told2 arc-calls arc-at number-arc.Post → arc-lts.Else1 arc-calls arc-at number-arc.Post
+  unnumbered c = c .before .before .before .before
+
+  abbrev numbered : arc-lts.After-enum-told arc-calls arc-at number-arc.Post → arc-lts.Else1 arc-calls arc-at number-arc.Post
+  numbered c = c .before .before .before .before
 
   number-run-requires : arc-lts.Need-number-run-requires arc-calls arc-at number-arc.Post
   number-run-requires c κs =
-      let p = c .before .before .before in
-      let s = asked p in
-      let new = place-none (s .args .work .now) (child p) (sym (p .place-of .ensures) ∙ c .before .enum-told2 .given .1) in
-      (omega arith, (s .pre .1 .0, (child-inside p, (new, child-below p))))
+      let told = c .before in
+      let e = unnumbered told in
+      let a = read e in
+      let new = place-none (work a) (child a) (sym (told .before .before .place-of .ensures) ∙ told .enum-told2 .given .1) in
+      (omega (arith, asked a .pre .0), (asked a .pre .1 .0, (child-inside a, (new, child-below e))))
 
   arc-same-length : arc-lts.Need-same-length arc-calls arc-at number-arc.Post
   arc-same-length c = search needs
 
   arc-returns-2 : arc-lts.Need-returns-2 arc-calls arc-at number-arc.Post
-  arc-returns-2 c = let run = c .before .before .number-run in led (c .before .before .before .before .before .before) (run .last .1 .0) (run .result) (run .ensures)
+  arc-returns-2 c =
+      let run = c .before .before .number-run in
+      led (unnumbered (c .before .before .before .before)) (run .last .1 .0) (run .result) (run .ensures)
 
   look-up-requires : arc-lts.Need-look-up-requires arc-calls arc-at number-arc.Post
-  look-up-requires c κs = (child-inside (c .before .before .before), asked (c .before .before .before) .pre .1 .0 .room)
+  look-up-requires c κs = let a = read (numbered (c .before)) in (child-inside a, asked a .pre .1 .0 .room)
 
   arc-same-length-2 : arc-lts.Need-same-length-2 arc-calls arc-at number-arc.Post
   arc-same-length-2 c = search needs
 
   arc-returns-3 : arc-lts.Need-returns-3 arc-calls arc-at number-arc.Post
   arc-returns-3 c =
-      let p = c .before .before .before .before in
-      let s = asked p in
-      let g = s .args .nodes .now in
-      let w = s .args .work .now in
-      let numbered = place-some w (child p) _ (sym (p .place-of .ensures) ∙ c .before .before .enum-told .given .1) in
-      led p w (c .look-up .result)
-      (subst (NumberedAs g w w (met (arcsFrom g) (s .args .chain-left) (orderIn (length g) w (s .args .t)) (child p)) true (child p) (s .args .chain-left))
-      (sym (c .look-up .ensures)) (known-run g (s .pre .1 .0) (s .args .chain-left) (child p) (child-inside p) numbered (child-below p)))
+      let told = c .before .before in
+      let e = numbered told in
+      let a = read e in
+      let some = place-some (work a) (child a) _ (sym (told .before .before .place-of .ensures) ∙ told .enum-told .given .1) in
+      led e (work a) (c .look-up .result)
+      (known-run (graph a) (asked a .pre .1 .0) (left a) (child a) (child-inside a) some (child-below e) (c .look-up .ensures))
 
   -- ---- number_run
   abbrev Inv-loop : run-lts.InvT-loop
@@ -188,7 +209,7 @@ module _ (t : ℕ) where
     abbrev seen : List ℕ
     seen = orderIn (length g) (s .args .work .now) (s .args .t)
 
-    held : Held g lent (s .args .t) seen
+    held : RunsHeld g lent (s .args .t) seen
     held = s .pre .1 .0 .held
 
     room : 4 * length g ≤ length lent
@@ -204,82 +225,133 @@ module _ (t : ℕ) where
     below = s .pre .1 .1 .1 .1
 
   run-returns : run-lts.Need-returns run-calls run-at number-run.Post Inv-loop μ-loop
-  run-returns c = deep-at-once (g (c .before .before .before)) (c .before .before .before .args .p) (c .before .before .before .args .chain-left) (c .if1 .taken)
+  run-returns c = let s = c .before .before .before in deep-at-once (g s) (s .args .p) (s .args .chain-left) (c .if1 .taken)
+
+  -- the call, where a run is left in the chain
+  abbrev called : run-lts.Else1 run-calls run-at number-run.Post Inv-loop μ-loop → run-lts.Start run-calls run-at number-run.Post Inv-loop μ-loop
+  called c = c .before .before .before
+
+  -- and where its run's nodes are counted
+  abbrev counted : run-lts.After-struct-known run-calls run-at number-run.Post Inv-loop μ-loop → run-lts.Else1 run-calls run-at number-run.Post Inv-loop μ-loop
+  counted c = c .before .before
 
   run-length-requires : run-lts.Need-run-length-requires run-calls run-at number-run.Post Inv-loop μ-loop
-  run-length-requires c κs = (c .before .before .before .pre .1 .0 .fit, inside (c .before .before .before))
+  run-length-requires c κs = let s = called c in (s .pre .1 .0 .fit, inside s)
 
   sub-if2 : run-lts.Need-sub-if2 run-calls run-at number-run.Post Inv-loop μ-loop
-  sub-if2 c = c .before .before .before .before .before .pre .1 .0 .held .within
+  sub-if2 c = held (called (counted c)) .within
 
   run-returns-2 : run-lts.Need-returns-2 run-calls run-at number-run.Post Inv-loop μ-loop
   run-returns-2 c =
-      let s = c .before .before .before .before .before .before in
+      let e = counted (c .before) in
+      let s = called e in
       let size = c .before .before .run-length .ensures in
-      run-over (g s) (held s) (s .args .p) (inside s) (new s) (s .args .chain-left) (c .before .before .before .if1 .left) (omega (arith, c .if2 .taken))
+      run-over (g s) (held s) (s .args .p) (inside s) (new s) (s .args .chain-left) (e .if1 .left) (omega (arith, c .if2 .taken))
 
   push-block-requires : run-lts.Need-push-block-requires run-calls run-at number-run.Post Inv-loop μ-loop
   push-block-requires c κs =
-      let s = c .before .before .before .before .before .before .before in
+      let s = called (counted (c .before .before)) in
       let few = blocks-left (g s) (held s) (s .args .p) (inside s) (new s) in
-      let within = s .pre .1 .0 .held .within in
+      let within = held s .within in
       let fits = c .before .if2 .left in
       let space = room s in
       (s .pre .1 .0 .fit .most, omega arith, inside s, few, omega arith, omega arith)
 
+  -- where the run is pushed, and the call
+  module _ (c : run-lts.After-push-block run-calls run-at number-run.Post Inv-loop μ-loop) where
+    abbrev sized : run-lts.Else2 run-calls run-at number-run.Post Inv-loop μ-loop
+    sized = c .before .before
+
+    abbrev some-left : run-lts.Else1 run-calls run-at number-run.Post Inv-loop μ-loop
+    some-left = counted (sized .before)
+
   keep-depth-requires : run-lts.Need-keep-depth-requires run-calls run-at number-run.Post Inv-loop μ-loop
   keep-depth-requires c κs =
-      let s = c .before .before .before .before .before .before .before .before .before .before .before in
+      let push = c .before .before .before in
+      let s = called (some-left push) in
       let space = room s in
-      (inside s, omega (arith, c .before .before .before .push-block .kept .1 .0))
+      (inside s, omega (arith, push .push-block .kept .1 .0))
 
   -- where the run itself is numbered, with no chain yet
   module _ (c : run-lts.After-keep-depth run-calls run-at number-run.Post Inv-loop μ-loop) where
+    abbrev push : run-lts.After-push-block run-calls run-at number-run.Post Inv-loop μ-loop
+    push = c .before .before .before .before
+
     abbrev from : run-lts.Start run-calls run-at number-run.Post Inv-loop μ-loop
-    from = c .before .before .before .before .before .before .before .before .before .before .before .before
+    from = called (some-left push)
+
+    abbrev p : ℕ
+    p = from .args .p
 
     abbrev begun : List ℕ
     begun = c .keep-depth .last .1 .0
 
-    abbrev tally : Tally
-    tally = c .before .before .before .before .push-block .result
+    abbrev tally : BlockTally
+    tally = push .push-block .result
 
-    put : begun ≡ set (set (set (lent from) (from .args .p) (from .args .t .nodes + 1)) (length (g from) + from .args .t .blocks) (from .args .p)) (depthAt (length (g from)) (from .args .p)) 0
-    put = c .keep-depth .ensures ∙ ap (λ (w : List ℕ). set w (depthAt (length (g from)) (from .args .p)) 0) (c .before .before .before .before .push-block .ensures .0)
+    put : begun
+        ≡ set (set (set (lent from) p (from .args .t .nodes + 1)) (length (g from) + from .args .t .blocks) p) (depthAt (length (g from)) p) 0
+    put = c .keep-depth .ensures ∙ ap (λ (w : List ℕ). set w (depthAt (length (g from)) p) 0) (push .push-block .ensures .0)
 
     few : from .args .t .blocks < length (g from)
-    few = blocks-left (g from) (held from) (from .args .p) (inside from) (new from)
+    few = blocks-left (g from) (held from) p (inside from) (new from)
 
-    pushed : Held (g from) begun tally (seen from ++ from .args .p ∷ [])
+    pushed : RunsHeld (g from) begun tally (seen from ++ p ∷ [])
     pushed =
-        subst (λ (w : List ℕ). Held (g from) w tally (seen from ++ from .args .p ∷ [])) (sym (c .keep-depth .ensures))
-        (held-past (g from) (depthAt (length (g from)) (from .args .p)) 0 (omega arith)
-        (run-pushed (g from) (held from) (from .args .p) (inside from) (new from) _ _ _ (room from) (c .before .before .before .before .before .before .before .before .run-length .ensures) (c .before .before .before .before .before .before .if2 .left) (c .before .before .before .before .push-block .ensures)))
+        subst (λ (w : List ℕ). RunsHeld (g from) w tally (seen from ++ p ∷ [])) (sym (c .keep-depth .ensures))
+        (held-past (g from) (depthAt (length (g from)) p) 0 (omega arith)
+        (run-pushed (g from) (held from) p (inside from) (new from) _ _ _ (room from)
+        (sized push .before .before .run-length .ensures) (sized push .if2 .left) (push .push-block .ensures)))
 
     known : Known (g from) begun
     known =
-        subst (Known (g from)) (sym put)
-        (begun-known (g from) (lent from) (from .args .p) (inside from) (room from) _ _ few (from .pre .1 .0 .known))
+        subst (Known (g from)) (sym put) (begun-known (g from) (lent from) p (inside from) (room from) _ _ few (from .pre .1 .0 .known))
 
-    followed : NoneBut (g from) (from .args .p) (lent from) begun
-    followed =
-        subst (NoneBut (g from) (from .args .p) (lent from)) (sym put)
-        (begun-followed (g from) (lent from) (from .args .p) (inside from) (room from) _ _ few)
+    followed : NoneBut (g from) p (lent from) begun
+    followed = subst (NoneBut (g from) p (lent from)) (sym put) (begun-followed (g from) (lent from) p (inside from) (room from) _ _ few)
 
     same-room : length begun ≡ length (lent from)
-    same-room = c .keep-depth .kept .1 .0 ∙ c .before .before .before .before .push-block .kept .1 .0
+    same-room = c .keep-depth .kept .1 .0 ∙ push .push-block .kept .1 .0
 
     -- what is met from its arcs is what is met from it
-    whole : walk (g from) (from .args .chain-left - 1) (orderIn (length (g from)) begun tally) (runOf (g from) (from .args .p))
-        ≡ met (arcsFrom (g from)) (from .args .chain-left) (seen from) (from .args .p)
+    whole : walk (g from) (from .args .chain-left - 1) (orderIn (length (g from)) begun tally) (runOf (g from) p)
+        ≡ met (arcsFrom (g from)) (from .args .chain-left) (seen from) p
     whole =
-        run-met (g from) (held from) (from .args .p) (inside from) (new from) (from .args .chain-left) (orderIn (length (g from)) begun tally)
-        (c .before .before .before .before .before .before .before .before .before .if1 .left) (pushed .runs .order)
+        run-met (g from) (held from) p (inside from) (new from) (from .args .chain-left) (orderIn (length (g from)) begun tally)
+        (some-left push .if1 .left) (pushed .runs .order)
+
+    one-more : suc (from .args .chain-left - 1) ≡ from .args .chain-left
+    one-more = omega (arith, some-left push .if1 .left)
 
   loop-holds : run-lts.Need-loop-holds run-calls run-at number-run.Post Inv-loop μ-loop
   loop-holds c =
-      let s = c .before .before .before .before .before .before .before .before .before .before .before .before .before .before in
-      (refl, along-starts (g s) (inside s) (held-here (g s) (pushed (c .before .before))) (known (c .before .before)))
+      let k = c .before .before in
+      (refl, along-starts (g (from k)) (inside (from k)) (held-here (g (from k)) (pushed k)) (known k))
+
+  -- ---- a turn of the loop
+  module _ (c : run-lts.At-loop run-calls run-at number-run.Post Inv-loop μ-loop) where
+    abbrev first : run-lts.After-keep-depth run-calls run-at number-run.Post Inv-loop μ-loop
+    first = c .before .before .before
+
+    abbrev s : run-lts.Start run-calls run-at number-run.Post Inv-loop μ-loop
+    s = from first
+
+    abbrev v : ℕ
+    v = node (g s) (c .loop .at)
+
+    -- the chain left to the runs that its arcs lead to
+    abbrev left-below : ℕ
+    left-below = s .args .chain-left - 1
+
+    -- the runs met after the arc of the node at hand
+    abbrev next : List ℕ
+    next = metBy (arcsFrom (g s)) left-below (orderIn (length (g s)) (c .loop .work) (c .loop .sum .tally)) (arc KBWG v)
+
+    recorded : RunsRecorded (g s) (c .loop .work) (c .loop .sum .tally)
+    recorded =
+        let k = c .loop .inv in
+        let space = room s in
+        record { fit = s .pre .1 .0 .fit; room = omega (arith, k .0, same-room first); held = k .1 .held; known = k .1 .known }
 
   mul-node : run-lts.Need-mul-node run-calls run-at number-run.Post Inv-loop μ-loop
   mul-node c = search needs
@@ -292,15 +364,11 @@ module _ (t : ℕ) where
 
   number-arc-requires : run-lts.Need-number-arc-requires run-calls run-at number-run.Post Inv-loop μ-loop
   number-arc-requires c κs =
-      let s = c .before .before .before .before .before .before .before .before .before .before .before .before .before .before .before .before .before in
-      let k = c .before .before .before .before .before in
-      let w = c .before .before .loop in
-      let space = room s in
-      let same = same-room k in
-      let leads = s .pre .1 .0 .fit .steps .arcs (w .at) (w .inv .1 .inside) in
-      let recorded : Recorded (g s) (w .work) (w .sum .tally) =
-      record { fit = s .pre .1 .0 .fit; room = omega (arith, w .inv .0); held = w .inv .1 .held; known = w .inv .1 .known } in
-      (omega (arith, c .before .before .before .before .before .before .before .before .before .before .before .before .before .before .if1 .left, s .pre .0), (recorded, (leads, along-below (g s) (w .inv .1) (lent s) (followed k) (below s))))
+      let t = c .before .before in
+      let k = t .loop .inv .1 in
+      let leads = s t .pre .1 .0 .fit .steps .arcs (t .loop .at) (k .inside) in
+      let below-here = along-below (g (s t)) k (lent (s t)) (followed (first t)) (below (s t)) in
+      (omega (arith, some-left (push (first t)) .if1 .left, s t .pre .0), (recorded t, (leads, below-here)))
 
   enum-known-numbered : run-lts.Need-enum-known-numbered run-calls run-at number-run.Post Inv-loop μ-loop
   enum-known-numbered c = search needs
@@ -308,41 +376,29 @@ module _ (t : ℕ) where
   run-enum-told : run-lts.Need-enum-told run-calls run-at number-run.Post Inv-loop μ-loop
   run-enum-told c = search needs
 
-  -- ---- a turn of the loop
+  -- the arc of the node at hand followed
   module _ (c : run-lts.After-number-arc run-calls run-at number-run.Post Inv-loop μ-loop) where
-    abbrev first : run-lts.After-keep-depth run-calls run-at number-run.Post Inv-loop μ-loop
-    first = c .before .before .before .before .before .before
+    abbrev turn : run-lts.At-loop run-calls run-at number-run.Post Inv-loop μ-loop
+    turn = c .before .before .before
 
-    abbrev w : run-lts.At-loop·own run-calls run-at number-run.Post Inv-loop μ-loop (c .before .before .before .before)
-    w = c .before .before .before .loop
-
-    abbrev v : ℕ
-    v = node (g (from first)) (w .at)
-
-    -- the runs met after the arc of the node at hand
-    abbrev next : List ℕ
-    next = metBy (arcsFrom (g (from first))) (from first .args .chain-left - 1) (orderIn (length (g (from first))) (w .work) (w .sum .tally)) (arc KBWG v)
-
-    turn : (r : Numbering) → c .number-arc .result ≡ r
-        → NumberedAs (g (from first)) (w .work) (c .number-arc .last .1 .0) next (hasArc v) (arc KBWG v) (from first .args .chain-left - 1) r
-    turn r e =
-        subst (NumberedAs (g (from first)) (w .work) (c .number-arc .last .1 .0) next (hasArc v) (arc KBWG v) (from first .args .chain-left - 1)) e
+    answers : (r : RunNumbering) → c .number-arc .result ≡ r
+        → NumberedAs (g (s turn)) (turn .loop .work) (c .number-arc .last .1 .0) (next turn) (hasArc (v turn)) (arc KBWG (v turn)) (left-below turn) r
+    answers r e =
+        subst (NumberedAs (g (s turn)) (turn .loop .work) (c .number-arc .last .1 .0) (next turn) (hasArc (v turn)) (arc KBWG (v turn)) (left-below turn)) e
         (c .number-arc .ensures)
 
-    as-long : length (c .number-arc .last .1 .0) ≡ length (lent (from first))
-    as-long = c .number-arc .kept .1 .0 ∙ w .inv .0 ∙ same-room first
-
-    one-more : suc (from first .args .chain-left - 1) ≡ from first .args .chain-left
-    one-more = let some = first .before .before .before .before .before .before .before .before .before .if1 .left in omega (arith, some)
+    as-long : length (c .number-arc .last .1 .0) ≡ length (lent (s turn))
+    as-long = c .number-arc .kept .1 .0 ∙ turn .loop .inv .0 ∙ same-room (first turn)
 
   run-same-length : run-lts.Need-same-length run-calls run-at number-run.Post Inv-loop μ-loop
   run-same-length c = as-long (c .before .before .before .before)
 
   run-returns-3 : run-lts.Need-returns-3 run-calls run-at number-run.Post Inv-loop μ-loop
   run-returns-3 c =
-      let t = c .before .before .before .before in
-      let s = from (first t) in
-      subst (λ (k : ℕ). deeper (g s) k (s .args .p) ≡ true) (one-more t) (along-deep (g s) (w t .inv .1) (turn t TooDeep (c .enum-told .given .1)))
+      let a = c .before .before .before .before in
+      let t = turn a in
+      subst (λ (k : ℕ). deeper (g (s t)) k (s t .args .p) ≡ true) (one-more (first t))
+      (along-deep (g (s t)) (t .loop .inv .1) (answers a TooDeep (c .enum-told .given .1)))
 
   run-enum-told-2 : run-lts.Need-enum-told-2 run-calls run-at number-run.Post Inv-loop μ-loop
   run-enum-told-2 c = search needs
@@ -352,9 +408,10 @@ module _ (t : ℕ) where
 
   run-returns-4 : run-lts.Need-returns-4 run-calls run-at number-run.Post Inv-loop μ-loop
   run-returns-4 c =
-      let t = c .before .before .before .before in
-      let s = from (first t) in
-      subst (λ (x : List ℕ). 2 ^ 22 < 2 + total (size (g s)) x) (whole (first t)) (along-over (g s) (w t .inv .1) (turn t TooMany (c .enum-told2 .given .1)))
+      let a = c .before .before .before .before in
+      let t = turn a in
+      subst (λ (x : List ℕ). 2 ^ 22 < 2 + total (size (g (s t))) x) (whole (first t))
+      (along-over (g (s t)) (t .loop .inv .1) (answers a TooMany (c .enum-told2 .given .1)))
 
   pass-node-requires : run-lts.Need-pass-node-requires run-calls run-at number-run.Post Inv-loop μ-loop
   pass-node-requires c κs = search needs
@@ -362,55 +419,68 @@ module _ (t : ℕ) where
   is-end-requires : run-lts.Need-is-end-requires run-calls run-at number-run.Post Inv-loop μ-loop
   is-end-requires c κs = search needs
 
+  -- what the arc leads to is found
+  module _ (c : run-lts.After-numbered run-calls run-at number-run.Post Inv-loop μ-loop) where
+    abbrev arc-end : run-lts.After-number-arc run-calls run-at number-run.Post Inv-loop μ-loop
+    arc-end = c .before .before .before .before
+
+    abbrev here : run-lts.At-loop run-calls run-at number-run.Post Inv-loop μ-loop
+    here = turn arc-end
+
+    found : RunsNumbered (g (s here)) (here .loop .work) (arc-end .number-arc .last .1 .0) (next here) (hasArc (v here)) (arc KBWG (v here))
+        (left-below here) (c .numbered .given .0 .0)
+    found = answers arc-end (Done (c .numbered .given .0 .0)) (c .numbered .given .1)
+
+  -- and whether the node ends its run is asked
+  abbrev done : run-lts.After-is-end run-calls run-at number-run.Post Inv-loop μ-loop → run-lts.After-numbered run-calls run-at number-run.Post Inv-loop μ-loop
+  done c = c .before .before .before
+
   add-at : run-lts.Need-add-at run-calls run-at number-run.Post Inv-loop μ-loop
-  add-at c = omega (arith, w (c .before .before .before .before .before .before .before .before) .inv .1 .inside, from (first (c .before .before .before .before .before .before .before .before)) .pre .1 .0 .fit .most)
+  add-at c = let t = here (done (c .before)) in omega (arith, t .loop .inv .1 .inside, s t .pre .1 .0 .fit .most)
 
   loop-less : run-lts.Need-loop-less run-calls run-at number-run.Post Inv-loop μ-loop
   loop-less c = search needs
 
-  -- what the arc of the node at hand leads to is found
-  module _ (c : run-lts.After-numbered run-calls run-at number-run.Post Inv-loop μ-loop) where
-    abbrev arc-turn : run-lts.After-number-arc run-calls run-at number-run.Post Inv-loop μ-loop
-    arc-turn = c .before .before .before .before
-
-    found : let s = from (first arc-turn) in
-        Numbered (g s) (w arc-turn .work) (arc-turn .number-arc .last .1 .0) (next arc-turn) (hasArc (v arc-turn)) (arc KBWG (v arc-turn))
-        (s .args .chain-left - 1) (c .numbered .given .0 .0)
-    found = turn arc-turn (Done (c .numbered .given .0 .0)) (c .numbered .given .1)
-
   loop-again : run-lts.Need-loop-again run-calls run-at number-run.Post Inv-loop μ-loop
   loop-again c =
-      let n = c .before .before .before .before in
-      let t = arc-turn n in
-      let s = from (first t) in
-      let k = w t .inv .1 in
+      let n = done (c .before) in
+      let t = here n in
+      let k = t .loop .inv .1 in
       let more = sym (c .before .is-end .ensures) ∙ c .if3 .left in
-      let on = s .pre .1 .0 .fit .steps .runs (w t .at) (k .inside) more in
-      (t .number-arc .kept .1 .0 ∙ w t .inv .0, along-goes (g s) k (found n) (c .before .before .pass-node .ensures) more on)
+      let on = s t .pre .1 .0 .fit .steps .runs (t .loop .at) (k .inside) more in
+      (arc-end n .number-arc .kept .1 .0 ∙ t .loop .inv .0, along-goes (g (s t)) k (found n) (c .before .before .pass-node .ensures) more on)
 
   close-run-requires : run-lts.Need-close-run-requires run-calls run-at number-run.Post Inv-loop μ-loop
   close-run-requires c κs =
-      let n = c .before .before .before .before .before in
-      let t = arc-turn n in
-      let s = from (first t) in
-      let space = room s in
-      let before = w t .inv .1 .ends in
+      let n = done (c .before .before) in
+      let t = here n in
+      let asking = s t in
+      let space = room asking in
+      let before = t .loop .inv .1 .ends in
       let child = found n .ends in
       let runs = ap (λ (f : Walked). f .runs) (c .before .before .before .pass-node .ensures) in
-      (inside s, omega (arith, as-long t), omega arith)
+      (inside (s t), omega (arith, as-long (arc-end n)), omega arith)
+
+  -- the run closed
+  module _ (c : run-lts.After-close-run run-calls run-at number-run.Post Inv-loop μ-loop) where
+    abbrev ended : run-lts.Then3 run-calls run-at number-run.Post Inv-loop μ-loop
+    ended = c .before .before
+
+    abbrev last-arc : run-lts.After-numbered run-calls run-at number-run.Post Inv-loop μ-loop
+    last-arc = done (ended .before)
 
   run-same-length-3 : run-lts.Need-same-length-3 run-calls run-at number-run.Post Inv-loop μ-loop
-  run-same-length-3 c = c .before .before .close-run .kept .1 .0 ∙ as-long (arc-turn (c .before .before .before .before .before .before .before .before))
+  run-same-length-3 c = let k = c .before .before in k .close-run .kept .1 .0 ∙ as-long (arc-end (last-arc k))
 
   run-returns-5 : run-lts.Need-returns-5 run-calls run-at number-run.Post Inv-loop μ-loop
   run-returns-5 c =
-      let n = c .before .before .before .before .before .before .before .before in
-      let t = arc-turn n in
-      let s = from (first t) in
-      let last = sym (c .before .before .before .before .before .is-end .ensures) ∙ c .before .before .before .before .if3 .taken in
-      let space = room s in
-      along-ends (g s) (w t .inv .1) (found n) last (lent s) (followed (first t)) (inside s) (omega (arith, as-long t)) (c .before .before .before .before .before .before .pass-node .ensures)
-      (c .before .before .close-run .ensures) (whole (first t)) (one-more t)
+      let k = c .before .before in
+      let n = last-arc k in
+      let t = here n in
+      let last = sym (ended k .before .is-end .ensures) ∙ ended k .if3 .taken in
+      let space = room (s t) in
+      along-ends (g (s t)) (t .loop .inv .1) (found n) last (lent (s t)) (followed (first t)) (inside (s t)) (omega (arith, as-long (arc-end n)))
+      (ended k .before .before .pass-node .ensures) (k .close-run .ensures) (whole (first t)) (one-more (first t))
 
 pub +number-arc+number-run-spec : {M : Type 1} → statement M
 +number-arc+number-run-spec =

@@ -3,7 +3,7 @@ use mathlib.Core.Path.{refl, ap, _∙_}
 use mathlib.Core.List.{List}
 use Prim.Native.Nat.{ℕ}
 use lib.ListN.{set}
-use Rattle.lxd_blocks.specs.Numbered.{wordsAt}
+use Rattle.lxd_blocks.specs.RunsNumbered.{wordsAt}
 use borrow.Author.Needs.{needs}
 use Rattle.lxd_blocks.proofs.numbering.close_run.Statement.{statement}
 use Rattle.lxd_blocks.proofs.numbering.close_run.Tie as tie
@@ -20,10 +20,17 @@ keep-words-requires c κs = search needs
 same-length : tie.Need-same-length
 same-length c = search needs
 
+-- the chain kept
+module _ (c : tie.After-keep-depth) where
+  abbrev asked : tie.Start
+  asked = c .before .before .before .before
+
 returns : tie.Need-returns
-returns c = let s = c .before .before .before .before .before .before .before .before .before .before .before .args in
-    let depth = c .before .before .before .before .before .before .before .keep-depth .ensures in
-    (refl, c .before .before .before .keep-words .ensures ∙ ap (λ (w : List ℕ). set w (wordsAt (s .n) (s .p)) (s .sum .words)) depth)
+returns c =
+    let words = c .before .before .before in
+    let depth = words .before .before .before .before in
+    let a = asked depth .args in
+    (refl, words .keep-words .ensures ∙ ap (λ (w : List ℕ). set w (wordsAt (a .n) (a .p)) (a .sum .words)) (depth .keep-depth .ensures))
 
 pub close-run-spec : {M : Type 1} → statement M
 close-run-spec = tie.close (tie.spec add-runs keep-depth-requires keep-words-requires same-length returns)

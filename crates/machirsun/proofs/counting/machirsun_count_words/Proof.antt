@@ -16,7 +16,9 @@ same-length-2 : tie.Need-same-length-2
 same-length-2 c = search needs
 
 returns : tie.Need-returns
-returns c = let done = c .before .before .before .before .before .count-words .ensures in (rw (c .flat-counted .ensures .0) (done .0), (done .1, c .flat-counted .ensures .1))
+returns c =
+    let done = c .before .before .before .before .before .count-words .ensures in
+    (rw (c .flat-counted .ensures .0) (done .0), (done .1, c .flat-counted .ensures .1))
 
 pub machirsun-count-words-spec : {M : Type 1} → statement M
 machirsun-count-words-spec =

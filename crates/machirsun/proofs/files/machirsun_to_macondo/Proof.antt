@@ -22,11 +22,19 @@ same-length c = search needs
 same-length-2 : tie.Need-same-length-2
 same-length-2 c = search needs
 
+abbrev start : tie.After-format-of → tie.Start
+start s = s .before .before .before .before .before .before
+
 returns : tie.Need-returns
-returns c = let a = c .before .before .before .before .before .before .before .before .before .before .before .before .before .before .args in
-    let done = c .before .before .before .before .before .to-macondo .ensures in (
+returns c =
+    let call = c .before .before .before .before .before in
+    let read = call .before .before .before in
+    let a = start read .args in
+    let done = call .to-macondo .ensures in (
       rw (c .flat-macondo .ensures .0)
-          (done .0 ∙ ap (λ f. toMacondo (a .nodes .now) (a .labels .now) (a .name .now) (formatOf f) (length (a .work .now)) (a .file .now)) (c .before .before .before .before .before .before .before .before .format-of .ensures)),
+          (done .0
+          ∙ ap (λ f. toMacondo (a .nodes .now) (a .labels .now) (a .name .now) (formatOf f) (length (a .work .now)) (a .file .now))
+          (read .format-of .ensures)),
       (done .1, c .flat-macondo .ensures .1),
     )
 

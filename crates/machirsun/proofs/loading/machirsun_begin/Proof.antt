@@ -20,13 +20,15 @@ flat-loader-requires : tie.Need-flat-loader-requires
 flat-loader-requires c κs = search needs
 
 returns : tie.Need-returns
-returns c = let a = c .before .before .before .before .before .before .args in
-    let s = c .before .before .before .begin .result .loader in
+returns c =
+    let call = c .before .before .before in
+    let a = call .before .before .before .args in
+    let s = call .begin .result .loader in
     let refusal = c .before .begin-refusal .ensures in
     let state = c .flat-loader .ensures in (
       (λ i. record { answer = refusal .0 i; state = reads-state s state i })
-          ∙ c .before .before .before .begin .ensures
-          ∙ ap (λ y. begin (a .announced) y (length (a .nodes .now))) (c .before .before .before .before .layout-of .ensures),
+          ∙ call .begin .ensures
+          ∙ ap (λ y. begin (a .announced) y (length (a .nodes .now))) (call .before .layout-of .ensures),
       λ i. record { refusal = refusal .1 i; loader = flat-state s state i },
     )
 

@@ -22,12 +22,15 @@ same-length : tie.Need-same-length
 same-length c = search needs
 
 returns : tie.Need-returns
-returns c = let a = c .before .before .before .before .before .before .before .before .before .before .args in
-    let s = c .before .before .before .before .before .feed .result .loader in
+returns c =
+    let call = c .before .before .before .before .before in
+    let read = call .before .before in
+    let a = read .before .before .before .args in
+    let s = call .feed .result .loader in
     let answer = c .before .flat-feed .ensures in
     let state = c .flat-loader .ensures in (
       rw (answer .0, reads-state s state)
-          (c .before .before .before .before .before .feed .ensures ∙ ap (λ s. feed s (a .nodes .now) (a .piece .now)) (c .before .before .before .before .before .before .before .state-of .ensures)),
+          (call .feed .ensures ∙ ap (λ x. feed x (a .nodes .now) (a .piece .now)) (read .state-of .ensures)),
       λ i.
           record {
             refusal = answer .1 i .refusal;

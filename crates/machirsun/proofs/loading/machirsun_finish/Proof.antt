@@ -18,9 +18,12 @@ same-length : tie.Need-same-length
 same-length c = search needs
 
 returns : tie.Need-returns
-returns c = let a = c .before .before .before .before .before .before .before .args in
+returns c =
+    let call = c .before .before .before in
+    let read = call .before .before in
+    let a = read .before .before .args in
     let answer = c .flat-finished .ensures in (
-      rw (answer .0) (c .before .before .before .finish .ensures ∙ ap (λ s. finish s (a .nodes .now)) (c .before .before .before .before .before .state-of .ensures)),
+      rw (answer .0) (call .finish .ensures ∙ ap (λ s. finish s (a .nodes .now)) (read .state-of .ensures)),
       answer .1,
     )
 

@@ -28,20 +28,28 @@ same-length c = search needs
 same-length-2 : tie.Need-same-length-2
 same-length-2 c = search needs
 
-abbrev at-entry : tie.After-load-in-pieces → tie.Start
-at-entry c = c .before .before .before .before .before .before .before .before
+abbrev loaded : tie.After-begin-refusal → tie.After-load-in-pieces
+loaded s = s .before .before .before .before .before .before
+
+abbrev layout-read : tie.After-load-in-pieces → tie.After-layout-of
+layout-read call = call .before .before .before
+
+abbrev start : tie.After-layout-of → tie.Start
+start s = s .before .before .before .before .before
 
 returns : tie.Need-returns
-returns c = let m = c .before .before .before .before .before .before .before .before in
-    let a = at-entry m .args in
+returns c =
+    let made = c .before .before in
+    let m = loaded made in
+    let a = start (layout-read m) .args in
     let load = m .load-in-pieces in
     let state = c .before .flat-loader .ensures in
-    let begun = c .before .before .begin-refusal .ensures in
+    let begun = made .begin-refusal .ensures in
     let finished = c .flat-finished .ensures in (
       rw (begun .0, reads-state (load .result .loader) state, finished .0)
           (load .ensures
           ∙ ap (λ y. loadLeaves (a .answers .now) (loadPieces (a .announced) y (a .nodes .now) (cutAt (a .cuts .now) (a .bytes .now))))
-          (m .before .before .before .layout-of .ensures)),
+          (layout-read m .layout-of .ensures)),
       λ i. record { begun = begun .1 i; loader = flat-state (load .result .loader) state i; finished = finished .1 i },
     )
 

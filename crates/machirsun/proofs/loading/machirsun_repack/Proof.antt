@@ -1,6 +1,6 @@
 -- `machirsun::machirsun_repack` meets its contract: the numbers are layouts, and the answer is made flat.
 use mathlib.Core.Path.{ap₂, _∙_}
-use Rattle.node.specs.Said.{placesOf}
+use Rattle.node.specs.Said.{bitLayout}
 use Rattle.load.specs.Repacking.{repackAnswer, repackedBytes}
 use borrow.Author.Needs.{needs}
 use Rattle.machirsun.proofs.loading.machirsun_repack.Statement.{statement}
@@ -22,12 +22,16 @@ same-length : tie.Need-same-length
 same-length c = search needs
 
 returns : tie.Need-returns
-returns c = let bytes = c .before .before .before .before .before .before .before .before .args .bytes .now in
-    let from = c .before .before .before .before .before .before .layout-of .ensures in
-    let to = c .before .before .before .before .before .layout-of2 .ensures in
-    let done = c .before .before .before .repack-in-place .ensures in (
-      c .flat-repacked .ensures .0 ∙ done .0 ∙ ap₂ (λ old new. repackAnswer (placesOf old) (placesOf new) bytes) from to,
-      (done .1 ∙ ap₂ (λ old new. repackedBytes (placesOf old) (placesOf new) bytes) from to, c .flat-repacked .ensures .1),
+returns c =
+    let call = c .before .before .before in
+    let to = call .before .before in
+    let from = to .before in
+    let bytes = from .before .before .args .bytes .now in
+    let done = call .repack-in-place .ensures in
+    let old = from .layout-of .ensures in
+    let new = to .layout-of2 .ensures in (
+      c .flat-repacked .ensures .0 ∙ done .0 ∙ ap₂ (λ y z. repackAnswer (bitLayout y) (bitLayout z) bytes) old new,
+      (done .1 ∙ ap₂ (λ y z. repackedBytes (bitLayout y) (bitLayout z) bytes) old new, c .flat-repacked .ensures .1),
     )
 
 pub machirsun-repack-spec : {M : Type 1} → statement M

@@ -6,19 +6,22 @@ use borrow.Author.Needs.{needs}
 use Rattle.machirsun.proofs.lookups.machirsun_cursor_at.Statement.{statement}
 use Rattle.machirsun.proofs.lookups.machirsun_cursor_at.Tie as tie
 
+abbrev start : tie.After-lent-part → tie.Start
+start s = s .before .before
+
 -- made in the lent part
-lent-made : (c : tie.After-lent-part) → madeIn (c .lent-part .result .now) (c .before .before .args .at) ≡ madeAt (c .before .before .args .nodes .now) (c .before .before .args .at)
+lent-made : (s : tie.After-lent-part) → let a = start s .args in madeIn (s .lent-part .result .now) (a .at) ≡ madeAt (a .nodes .now) (a .at)
 unfolding madeAt
-lent-made c = ap (λ g. madeIn g (c .before .before .args .at)) (c .lent-part .ensures)
+lent-made s = ap (λ g. madeIn g (start s .args .at)) (s .lent-part .ensures)
 
 lent-part-requires : tie.Need-lent-part-requires
 lent-part-requires c κs = search needs
 
 returns : tie.Need-returns
-returns c = (made-out (c .before .lent-part .result .now) (c .before .before .before .args .at) (c .if1 .taken) ∙ lent-made (c .before), refl)
+returns c = (made-out (c .before .lent-part .result .now) (start (c .before) .args .at) (c .if1 .taken) ∙ lent-made (c .before), refl)
 
 returns-2 : tie.Need-returns-2
-returns-2 c = (made-lent (c .before .lent-part .result .now) (c .before .before .before .args .at) (c .if1 .left) ∙ lent-made (c .before), refl)
+returns-2 c = (made-lent (c .before .lent-part .result .now) (start (c .before) .args .at) (c .if1 .left) ∙ lent-made (c .before), refl)
 
 pub machirsun-cursor-at-spec : {M : Type 1} → statement M
 machirsun-cursor-at-spec = tie.close (tie.spec lent-part-requires returns returns-2)

@@ -1,7 +1,7 @@
 -- `machirsun::machirsun_cursor_step` meets its contract: the place answered is the one reached.
 use mathlib.Core.Path.{_≡_, refl, sym, ap, _∙_}
 use mathlib.Core.List.{[], _∷_}
-use Rattle.node.specs.Answers.{gives}
+use Rattle.answers.specs.Answers.{gives}
 use Rattle.cursor.specs.RunSteps.{Moves, moves}
 use Rattle.cursor.specs.Said.{saidStep}
 use Rattle.cursor.specs.declared.Stepped.{Stepped}
@@ -11,10 +11,13 @@ use borrow.Author.Needs.{needs}
 use Rattle.machirsun.proofs.lookups.machirsun_cursor_step.Statement.{statement}
 use Rattle.machirsun.proofs.lookups.machirsun_cursor_step.Tie as tie
 
+abbrev start : tie.After-step-once → tie.Start
+start s = s .before .before
+
 -- what the step says, and the node reached
-told : (c : tie.After-step-once) (r : Stepped) → c .step-once .result .answer ≡ r
-    → _≡_ {A = Moves} (record { answer = saidStep r; at = c .step-once .result .at }) (moves (c .before .before .args .nodes .now) (c .before .before .args .at))
-told c r e = (λ i. record { answer = ap saidStep (sym e) i; at = c .step-once .result .at }) ∙ c .step-once .ensures
+told : (s : tie.After-step-once) (r : Stepped) → s .step-once .result .answer ≡ r
+    → _≡_ {A = Moves} (record { answer = saidStep r; at = s .step-once .result .at }) (moves (start s .args .nodes .now) (start s .args .at))
+told s r e = (λ i. record { answer = ap saidStep (sym e) i; at = s .step-once .result .at }) ∙ s .step-once .ensures
 
 step-once-requires : tie.Need-step-once-requires
 step-once-requires c κs = search needs
@@ -29,11 +32,14 @@ enum-told-3 : tie.Need-enum-told-3
 enum-told-3 c = search needs
 
 returns : tie.Need-returns
-returns c = let m = c .before .before .step-once .result in
-    let a = c .before .before .before .before .args in
+returns c =
+    let s = c .before .before in
+    let m = s .step-once .result in
+    let a = start s .args in
     let q = c .enum-told .given .0 .0 in
     let e = c .enum-told .given .1 in
-    ((λ i. record { answer = gives (step-reached (a .nodes .now) (a .at) m q (c .before .before .step-once .ensures) e i ∷ []); at = m .at }) ∙ told (c .before .before) (To q) e, refl)
+    let place = step-reached (a .nodes .now) (a .at) m q (s .step-once .ensures) e in
+    ((λ i. record { answer = gives (place i ∷ []); at = m .at }) ∙ told s (To q) e, refl)
 
 returns-2 : tie.Need-returns-2
 returns-2 c = (told (c .before .before) Done (c .enum-told2 .given .1), refl)

@@ -3,7 +3,8 @@ use borrow.Author.Needs.{needs}
 use native.Mathlib.Omega.{arith}
 use mathlib.Core.Path.{_≡_, sym, ap, _∙_}
 use mathlib.Core.Bool.{not}
-use Prim.Native.Nat.{_-_}
+use mathlib.Core.List.{List}
+use Prim.Native.Nat.{ℕ, _-_, _<_}
 use lib.ListN.{length, drop}
 use Rattle.node.specs.Nodes.{KBWG}
 use Rattle.graph.specs.Runs.{ascends}
@@ -16,6 +17,17 @@ Inv-loop nodes lowest₀ i₀ lowest i = ascendsFrom lowest (drop i nodes) ≡ a
 
 abbrev μ-loop : tie.MeasureT-loop
 μ-loop nodes lowest₀ i₀ lowest i = length nodes - i
+
+-- at each node, its tile read
+module _ (c : tie.After-tile Inv-loop μ-loop) where
+  abbrev here : tie.At-loop Inv-loop μ-loop
+  here = c .before .before .before
+
+  abbrev nodes : List ℕ
+  nodes = here .before .before .args .nodes .now
+
+  inside : here .loop .i < length nodes
+  inside = c .before .before .loop-test .taken
 
 loop-holds : tie.Need-loop-holds Inv-loop μ-loop
 loop-holds c = from-any (c .before .args .nodes .now)
@@ -30,8 +42,11 @@ tile-requires : tie.Need-tile-requires Inv-loop μ-loop
 tile-requires c κs = search needs
 
 returns : tie.Need-returns Inv-loop μ-loop
-returns c = let i = c .before .before .before .before .loop in
-    sym (ap not (sym (i .inv) ∙ first-falls (i .lowest) (c .before .before .before .before .before .before .args .nodes .now) (i .i) (c .before .before .before .loop-test .taken) (omega (arith, c .before .tile .ensures, c .if1 .taken))))
+returns c =
+    let t = c .before in
+    let i = here t .loop in
+    let falls = first-falls (i .lowest) (nodes t) (i .i) (inside t) (omega (arith, t .tile .ensures, c .if1 .taken)) in
+    sym (ap not (sym (i .inv) ∙ falls))
 
 lowest-after-requires : tie.Need-lowest-after-requires Inv-loop μ-loop
 lowest-after-requires c κs = search needs
@@ -43,11 +58,17 @@ loop-less : tie.Need-loop-less Inv-loop μ-loop
 loop-less c = search needs
 
 loop-again : tie.Need-loop-again Inv-loop μ-loop
-loop-again c = let i = c .before .before .before .before .before .loop in
-    sym (first-passes (i .lowest) (c .before .before .before .before .before .before .before .args .nodes .now) (i .i) (c .before .before .before .before .loop-test .taken) (omega (arith, c .before .before .tile .ensures, c .before .if1 .left)) (c .lowest-after .result) (c .lowest-after .ensures)) ∙ i .inv
+loop-again c =
+    let t = c .before .before in
+    let i = here t .loop in
+    let passes = first-passes (i .lowest) (nodes t) (i .i) (inside t) (omega (arith, t .tile .ensures, c .before .if1 .left)) in
+    sym (passes (c .lowest-after .result) (c .lowest-after .ensures)) ∙ i .inv
 
 returns-2 : tie.Need-returns-2 Inv-loop μ-loop
-returns-2 c = let i = c .before .loop in sym (ap not (sym (i .inv) ∙ none-left (i .lowest) (c .before .before .before .args .nodes .now) (i .i) (omega (arith, c .loop-test .left))))
+returns-2 c =
+    let i = c .before .loop in
+    let none = none-left (i .lowest) (c .before .before .before .args .nodes .now) (i .i) (omega (arith, c .loop-test .left)) in
+    sym (ap not (sym (i .inv) ∙ none))
 
 pub descends-spec : {M : Type 1} → statement M
 descends-spec =

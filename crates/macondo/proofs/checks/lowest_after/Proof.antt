@@ -18,7 +18,9 @@ returns : tie.Need-returns
 returns c = λ t. any-after-end (c .before .before .args .v) t (sym (c .before .is-end .ensures) ∙ c .if1 .taken)
 
 returns-2 : tie.Need-returns-2
-returns-2 c = λ t. higher-after (c .before .before .before .args .v) t (c .tile .result) (sym (c .before .before .is-end .ensures) ∙ c .before .if1 .left) (c .tile .ensures)
+returns-2 c =
+    let e = c .before .before in
+    λ t. higher-after (e .before .args .v) t (c .tile .result) (sym (e .is-end .ensures) ∙ c .before .if1 .left) (c .tile .ensures)
 
 pub lowest-after-spec : {M : Type 1} → statement M
 lowest-after-spec = tie.close (tie.spec is-end-requires tile-requires add-result returns returns-2)

@@ -1,11 +1,17 @@
 -- `start_of` meets its contract: each format starts at its own node's arc.
 use mathlib.Core.Path.{sym, ap, _∙_}
-use Rattle.export.specs.Starts.{start}
+use mathlib.Core.List.{List}
+use Prim.Native.Nat.{ℕ}
+use Rattle.graph.specs.Runs.{startNode}
 use Rattle.macondo_file.specs.File.{marks}
+use Rattle.macondo.specs.declared.MacondoFormat.{MacondoFormat}
 use Rattle.macondo.specs.Said.{formatOf}
 use borrow.Author.Needs.{needs}
 use Rattle.macondo.proofs.walk.start_of.Statement.{statement}
 use Rattle.macondo.proofs.walk.start_of.Tie as tie
+
+abbrev first : List ℕ → MacondoFormat → ℕ
+first g f = startNode g (marks (formatOf f) .root)
 
 enum-told : tie.Need-enum-told
 enum-told c = search needs
@@ -32,10 +38,14 @@ cast-result-2 : tie.Need-cast-result-2
 cast-result-2 c = search needs
 
 returns : tie.Need-returns
-returns c = c .arc-index .ensures ∙ ap (λ f. start (c .before .before .before .before .before .args .nodes .now) (marks (formatOf f) .root)) (sym (c .before .before .enum-told .given .1))
+returns c =
+    let told = c .before .before in
+    c .arc-index .ensures ∙ ap (first (told .before .before .before .args .nodes .now)) (sym (told .enum-told .given .1))
 
 returns-2 : tie.Need-returns-2
-returns-2 c = c .arc-index2 .ensures ∙ ap (λ f. start (c .before .before .before .before .before .args .nodes .now) (marks (formatOf f) .root)) (sym (c .before .before .enum-told2 .given .1))
+returns-2 c =
+    let told = c .before .before in
+    c .arc-index2 .ensures ∙ ap (first (told .before .before .before .args .nodes .now)) (sym (told .enum-told2 .given .1))
 
 pub start-of-spec : {M : Type 1} → statement M
 start-of-spec =

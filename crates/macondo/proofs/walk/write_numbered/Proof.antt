@@ -1,16 +1,17 @@
 -- `write_numbered` meets its contract: the counts decide the sizes, and what the tables hold is the file of the definition.
 use native.Mathlib.Omega.{arith}
 use mathlib.Core.List.{List}
-use Prim.Native.Nat.{ℕ, _-_, _≤_}
-use lib.ListN.{length}
+use Prim.Native.Nat.{ℕ, _-_, _≤_, _<_}
+use lib.ListN.{length, take}
+use Rattle.laws.specs.Lists.{All}
 use Rattle.macondo_file.specs.File.{Format}
-use Rattle.macondo_blocks.specs.NumbersLaws.{blocks-few}
+use Rattle.macondo_file.specs.RowLaws.{MacondoChecked}
 use Rattle.letter_sets.specs.Letters.{Ranks, Small}
+use Rattle.macondo_writing.specs.declared.tables.SectionCounts.{SectionCounts}
 use Rattle.macondo.specs.Said.{formatOf}
-use Rattle.macondo.specs.Tables.{Tables}
 use Rattle.macondo.proofs.Rows.{all-labelled}
 use Rattle.macondo.proofs.RankLaws.{letters-tiles, letters-labelled, ranks-are, ranks-small}
-use Rattle.macondo.proofs.Ties.{filled}
+use Rattle.macondo.proofs.Ties.{FileTables, blocks-few, filled}
 use Rattle.macondo.proofs.SizeLaws.{too-many, too-short, all-written}
 use borrow.Author.Needs.{needs}
 use Rattle.macondo.proofs.walk.write_numbered.Statement.{statement}
@@ -26,30 +27,89 @@ module _ (s : tie.Start) where
   abbrev labels : List ℕ
   labels = s .args .labels .now
 
+  abbrev file : List ℕ
+  file = s .args .file .now
+
+  abbrev checked : MacondoChecked g labels (s .args .name .now) (length (s .args .work .now))
+  checked = s .pre .0
+
+abbrev begun : tie.After-struct-known → tie.Start
+begun c = c .before .before .before .before .before .before
+
+-- the list made is that of the letters
+module _ (c : tie.After-letters) where
+  abbrev asked : tie.Start
+  asked = begun (c .before .before)
+
+  abbrev letters : List ℕ
+  letters = c .letters .result
+
+  letters-fit : length (labels asked) - 1 ≤ length letters
+  letters-fit = omega (arith, checked asked .fifty, c .letters .ensures .0)
+
+  letters-tile : All (λ t. t < 64) (take (length (labels asked) - 1) letters)
+  letters-tile = letters-tiles (labels asked) letters (c .letters .ensures .1) (checked asked .fifty)
+
 -- the ranks are those of the labels
 module _ (c : tie.After-ranks) where
-  ranked : Ranks (labels (c .before .before .before .before .before .before .before .before .before .before)) (c .ranks .result)
-  ranked = ranks-are (labels (c .before .before .before .before .before .before .before .before .before .before)) (c .before .before .letters .result) (c .before .before .letters .ensures .1) (c .before .before .before .before .before .before .before .before .before .before .pre .0 .fifty) (c .ranks .result) (c .ranks .ensures .1)
+  abbrev with-letters : tie.After-letters
+  with-letters = c .before .before
 
-  small : Small (c .ranks .result)
-  small = ranks-small (labels (c .before .before .before .before .before .before .before .before .before .before)) (c .before .before .letters .result) (c .before .before .letters .ensures .1) (c .before .before .before .before .before .before .before .before .before .before .pre .0 .fifty) (c .ranks .result) (c .ranks .ensures .1) (c .ranks .ensures .0)
+  abbrev ranks : List ℕ
+  ranks = c .ranks .result
+
+  ranked : Ranks (labels (asked with-letters)) ranks
+  ranked =
+      ranks-are (labels (asked with-letters)) (letters with-letters) (with-letters .letters .ensures .1) (checked (asked with-letters) .fifty) ranks
+      (c .ranks .ensures .1)
+
+  small : Small ranks
+  small =
+      ranks-small (labels (asked with-letters)) (letters with-letters) (with-letters .letters .ensures .1) (checked (asked with-letters) .fifty) ranks
+      (c .ranks .ensures .1) (c .ranks .ensures .0)
 
 -- the sets of the blocks stand after their record
-tables : (c : tie.After-number-sets) → let s = c .before .before .before .before .before .before .before .before .before .before .before .before .before .before in
-    Tables (g s) (labels s) (f s) (c .number-sets .last .1 .1 .0) (record { blocks = s .args .tally .blocks; sets = c .number-sets .result; nodes = s .args .tally .nodes })
-tables c = let s = c .before .before .before .before .before .before .before .before .before .before .before .before .before .before in
-    record {
-      recorded = s .args .work .now;
-      room = omega (arith, s .pre .0 .work);
-      first = s .pre .1;
-      numbered = c .number-sets .ensures (labels s) (all-labelled (s .pre .0)) (ranked (c .before .before .before .before));
-    }
+module _ (c : tie.After-number-sets) where
+  abbrev with-ranks : tie.After-ranks
+  with-ranks = c .before .before .before .before
+
+  abbrev start : tie.Start
+  start = asked (with-letters with-ranks)
+
+  abbrev counts : SectionCounts
+  counts = record { blocks = start .args .tally .blocks; sets = c .number-sets .result; nodes = start .args .tally .nodes }
+
+  few : counts .nodes ≤ 16777216
+  few = omega (arith, with-letters with-ranks .before .if1 .left)
+
+  tables : FileTables (g start) (labels start) (f start) (c .number-sets .last .1 .1 .0) counts
+  tables =
+      record {
+        recorded = start .args .work .now;
+        room = omega (arith, checked start .work);
+        first = start .pre .1;
+        numbered = c .number-sets .ensures (labels start) (all-labelled (checked start)) (ranked with-ranks);
+      }
+
+-- the size is known
+abbrev numbered : tie.After-file-size → tie.After-number-sets
+numbered c = c .before .before .before
+
+-- there is room for it, and the magic is known, where the file is written
+module _ (c : tie.After-write-file-arg2) where
+  abbrev marked : tie.After-magic
+  marked = c .before .before .before .before
+
+  abbrev fits : tie.Else2
+  fits = marked .before
 
 returns : tie.Need-returns
-returns c = let s = c .before .before .before .before .before .before .before in too-many (s .pre .1) (s .args .name .now) (s .args .file .now) (c .if1 .taken)
+returns c =
+    let s = begun (c .before) in
+    too-many (s .pre .1) (s .args .name .now) (file s) (c .if1 .taken)
 
 letters-requires : tie.Need-letters-requires
-letters-requires c κs = let k = c .before .before .before .before .before .before .before .pre .0 in (omega (arith, k .some-label), k .fifty)
+letters-requires c κs = let k = checked (begun (c .before)) in (omega (arith, k .some-label), k .fifty)
 
 slice-aggregate-ranks : tie.Need-slice-aggregate-ranks
 slice-aggregate-ranks c = search needs
@@ -58,40 +118,53 @@ sub-ranks : tie.Need-sub-ranks
 sub-ranks c = search needs
 
 ranks-requires : tie.Need-ranks-requires
-ranks-requires c κs = let s = c .before .before .before .before .before .before .before .before .before in
-    let k = s .pre .0 in
-    let e = c .before .letters .ensures in
-    (omega (arith, k .fifty), omega (arith, k .fifty, e .0), letters-tiles (labels s) (c .before .letters .result) (e .1) (k .fifty))
+ranks-requires c κs =
+    let l = c .before in
+    (omega (arith, checked (asked l) .fifty), letters-fit l, letters-tile l)
 
 cast-number-sets : tie.Need-cast-number-sets
 cast-number-sets c = search needs
 
 number-sets-requires : tie.Need-number-sets-requires
-number-sets-requires c κs = let s = c .before .before .before .before .before .before .before .before .before .before .before .before .before in
-    let k = s .pre .0 in
-    (small (c .before .before .before), (k .sound .most, (omega (arith, k .work), blocks-few (s .pre .1 .holds))))
+number-sets-requires c κs =
+    let r = c .before .before .before in
+    let s = asked (with-letters r) in
+    (small r, (checked s .sound .most, (omega (arith, checked s .work), blocks-few (s .pre .1 .holds))))
 
 file-size-requires : tie.Need-file-size-requires
-file-size-requires c κs = let k = c .before .before .before .before .before .before .before .before .before .before .before .before .before .before .before .before .pre .0 in (k .some-label, k .fifty, k .short-name)
+file-size-requires c κs = let k = checked (start (c .before .before)) in (k .some-label, k .fifty, k .short-name)
 
 same-length : tie.Need-same-length
 same-length c = search needs
 
 returns-2 : tie.Need-returns-2
-returns-2 c = let s = c .before .before .before .before .before .before .before .before .before .before .before .before .before .before .before .before .before .before in
-    too-short (s .pre .0) (f s) (tables (c .before .before .before .before)) (s .args .file .now) (c .before .before .before .before .before .before .before .before .before .before .before .if1 .left) (c .before .file-size .result) (c .before .file-size .ensures) (omega (arith, c .if2 .taken))
+returns-2 c =
+    let n = numbered (c .before) in
+    let s = start n in
+    let size = c .before .file-size in
+    too-short (checked s) (f s) (tables n) (file s) (few n) (size .result) (size .ensures) (omega (arith, c .if2 .taken))
+
+magic-requires : tie.Need-magic-requires
+magic-requires c κs = search needs
 
 slice-aggregate-write-file : tie.Need-slice-aggregate-write-file
 slice-aggregate-write-file c = search needs
 
 write-file-requires : tie.Need-write-file-requires
-write-file-requires c κs = let s = c .before .before .before .before .before .before .before .before .before .before .before .before .before .before .before .before .before .before .before .before .before .before in
-    let k = s .pre .0 in
-    let l = c .before .before .before .before .before .before .before .before .before .before .before .before .before .before .letters in
-    let r = c .before .before .before .before .before .before .before .before .before .before .before .before in
-    let fits : length (labels s) - 1 ≤ length (l .result) = omega (arith, k .fifty, l .ensures .0) in (
-      filled k (f s) (tables (c .before .before .before .before .before .before .before .before)) (r .ranks .result) (ranked r) (small r) (omega (arith, k .work, c .before .before .before .before .before .before .before .before .number-sets .kept .1 .1 .0)) (c .before .before .before .before .before .before .before .before .before .before .before .before .before .before .before .if1 .left),
-      ((k .some-label, fits, k .short-name), (letters-labelled (labels s) (l .result) (l .ensures .1) fits, omega (arith, c .before .before .before .before .if2 .left, c .before .before .before .before .before .file-size .ensures))),
+write-file-requires c κs =
+    let sized = fits c .before in
+    let n = numbered sized in
+    let r = with-ranks n in
+    let l = with-letters r in
+    let s = start n in (
+      filled (checked s) (f s) (tables n) (ranks r) (ranked r) (small r) (omega (arith, checked s .work, n .number-sets .kept .1 .1 .0)) (few n),
+      (
+        (checked s .some-label, letters-fit l, checked s .short-name),
+        (
+          letters-labelled (labels s) (letters l) (l .letters .ensures .1) (letters-fit l),
+          omega (arith, fits c .if2 .left, sized .file-size .ensures),
+        ),
+      ),
     )
 
 same-length-2 : tie.Need-same-length-2
@@ -101,11 +174,15 @@ same-length-3 : tie.Need-same-length-3
 same-length-3 c = search needs
 
 returns-3 : tie.Need-returns-3
-returns-3 c = let s = c .before .before .before .before .before .before .before .before .before .before .before .before .before .before .before .before .before .before .before .before .before .before .before .before .before in
-    let l = c .before .before .before .before .before .before .before .before .before .before .before .before .before .before .before .before .before .letters in
-    let r = c .before .before .before .before .before .before .before .before .before .before .before .before .before .before .before in
-    let size = c .before .before .before .before .before .before .before .before .file-size in
-    all-written (s .pre .0) (f s) (tables (c .before .before .before .before .before .before .before .before .before .before .before)) (s .args .file .now) (c .before .before .before .before .before .before .before .before .before .before .before .before .before .before .before .before .before .before .if1 .left) (size .result) (size .ensures) (r .ranks .result) (ranked r) (l .result) (l .ensures .1) (omega (arith, c .before .before .before .before .before .before .before .if2 .left)) (c .before .before .write-file .ensures)
+returns-3 c =
+    let w = c .before .before .before in
+    let room = fits w in
+    let size = room .before .file-size in
+    let n = numbered (room .before) in
+    let r = with-ranks n in
+    let s = start n in
+    all-written (checked s) (f s) (tables n) (file s) (few n) (size .result) (size .ensures) (marked w .magic .result) (marked w .magic .ensures)
+    (ranks r) (ranked r) (letters (with-letters r)) (with-letters r .letters .ensures .1) (omega (arith, room .if2 .left)) (c .before .before .write-file .ensures)
 
 pub write-numbered-spec : {M : Type 1} → statement M
 write-numbered-spec =
@@ -121,6 +198,7 @@ write-numbered-spec =
     file-size-requires
     same-length
     returns-2
+    magic-requires
     slice-aggregate-write-file
     write-file-requires
     same-length-2

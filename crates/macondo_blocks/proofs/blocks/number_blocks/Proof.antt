@@ -1,32 +1,68 @@
 -- `number_blocks` meets its contract: a cleared list holds the record of no block, and none is being followed.
-use mathlib.Core.Path.{refl}
-use Rattle.macondo_blocks.proofs.Numbering.{clear-at, clear-recorded, clear-below, clear-numbering}
+use mathlib.Core.Path.{_≡_, refl}
+use mathlib.Core.List.{List}
+use Prim.Native.Nat.{ℕ}
+use lib.ListN.{getD}
+use Rattle.block_record.specs.Depths.{Below}
+use Rattle.block_record.specs.declared.BlockTally.{BlockTally}
+use Rattle.macondo_blocks.specs.declared.blocks.BlockNumbering.{BlockNumbering}
+use Rattle.macondo_blocks.specs.Blocks.{BlocksRecorded, NumberingFrom, NumberingIs}
+use Rattle.macondo_blocks.proofs.BlockNumbering.{clear-at, clear-recorded, clear-below, clear-numbering}
 use borrow.Author.Needs.{needs}
 use Rattle.macondo_blocks.proofs.blocks.number_blocks.Statement.{statement}
 use Rattle.macondo_blocks.proofs.blocks.number_blocks.Tie as tie
+
+-- the list is cleared
+module _ (c : tie.After-clear) where
+  abbrev asked : tie.Start
+  asked = c .before .before .before .before .before
+
+  abbrev g : List ℕ
+  g = asked .args .nodes .now
+
+  abbrev labels : List ℕ
+  labels = asked .args .labels .now
+
+  abbrev work : List ℕ
+  work = asked .args .work .now
+
+  abbrev cleared : List ℕ
+  cleared = c .clear .last .0
+
+  -- no block is numbered
+  abbrev none : BlockTally
+  none = record { blocks = 0; nodes = 0 }
+
+  nothing-recorded : BlocksRecorded g labels cleared none
+  nothing-recorded = clear-recorded work cleared (asked .pre .0) (asked .pre .1 .1) (c .clear .ensures) none refl refl
+
+  none-followed : Below g cleared (asked .args .s)
+  none-followed = clear-below work cleared (asked .pre .0) (asked .pre .1 .1) (c .clear .ensures) (asked .args .s)
+
+  start-new : getD cleared (asked .args .s) 0 ≡ 0
+  start-new = clear-at work cleared (asked .pre .0) (asked .pre .1 .1) (c .clear .ensures) (asked .args .s) (asked .pre .1 .0)
+
+  answered : (after : List ℕ) (r : BlockNumbering) → NumberingFrom g labels cleared none 64 (asked .args .s) after r
+      → NumberingIs g labels (asked .args .s) work after r
+  answered = clear-numbering work cleared (asked .pre .0) (asked .pre .1 .1) (c .clear .ensures) none refl (asked .args .s)
 
 clear-requires : tie.Need-clear-requires
 clear-requires c κs = search needs
 
 number-run-requires : tie.Need-number-run-requires
-number-run-requires c κs = let s = c .before .before .before .before .before .before .before .before in
-    let w = c .before .before .before .clear in
-    let room = s .pre .1 .1 in (
-      clear-recorded (s .args .work .now) (w .last .0) (s .pre .0) room (w .ensures) (record { blocks = 0; nodes = 0 }) refl refl,
-      (
-        (s .pre .1 .0, clear-below (s .args .work .now) (w .last .0) (s .pre .0) room (w .ensures) (s .args .s)),
-        clear-at (s .args .work .now) (w .last .0) (s .pre .0) room (w .ensures) (s .args .s) (s .pre .1 .0),
-      ),
-    )
+number-run-requires c κs =
+    let k = c .before .before .before in
+    let s = asked k in
+    (nothing-recorded k, ((s .pre .1 .0, none-followed k), start-new k))
 
 same-length : tie.Need-same-length
 same-length c = search needs
 
 returns : tie.Need-returns
-returns c = let s = c .before .before .before .before .before .before .before .before .before .before .before in
-    let w = c .before .before .before .before .before .before .clear in
+returns c =
     let r = c .before .before .number-run in
-    clear-numbering (s .args .work .now) (w .last .0) (s .pre .0) (s .pre .1 .1) (w .ensures) (record { blocks = 0; nodes = 0 }) refl (s .args .s) (r .last .1 .1 .0) (r .result) (r .ensures)
+    let k = c .before .before .before .before .before .before in
+    answered k (r .last .1 .1 .0) (r .result) (r .ensures)
 
 pub number-blocks-spec : {M : Type 1} → statement M
 number-blocks-spec = tie.close (tie.spec clear-requires number-run-requires same-length returns)

@@ -1,9 +1,10 @@
+-- `Node22::pack` meets its contract: an arc over the limit is refused; every tile of a byte fits, and the sum is the packed node.
 use native.Mathlib.Omega.{arith}
 use mathlib.Core.Path.{sym, ap, _∙_}
 use mathlib.Core.List.{[], _∷_}
-use Rattle.node.specs.Answers.{gives}
+use Rattle.answers.specs.Answers.{gives}
 use Rattle.node.specs.Nodes.{KWG}
-use Rattle.node.specs.SaidLaws.{pack-within, pack-arc-over}
+use Rattle.node.proofs.PackAnswers.{pack-within, pack-arc-over}
 use borrow.Author.Needs.{needs}
 use Rattle.node.proofs.Node22.pack.Statement.{statement}
 use Rattle.node.proofs.Node22.pack.Tie as tie

@@ -1,9 +1,10 @@
+-- `Node24::pack` meets its contract: a tile or an arc over its limit is refused, else the sum is the packed node.
 use native.Mathlib.Omega.{arith}
 use mathlib.Core.Path.{sym, ap, _∙_}
 use mathlib.Core.List.{[], _∷_}
-use Rattle.node.specs.Answers.{gives}
+use Rattle.answers.specs.Answers.{gives}
 use Rattle.node.specs.Nodes.{KBWG}
-use Rattle.node.specs.SaidLaws.{pack-within, pack-tile-over, pack-arc-over}
+use Rattle.node.proofs.PackAnswers.{pack-within, pack-tile-over, pack-arc-over}
 use borrow.Author.Needs.{needs}
 use Rattle.node.proofs.Node24.pack.Statement.{statement}
 use Rattle.node.proofs.Node24.pack.Tie as tie

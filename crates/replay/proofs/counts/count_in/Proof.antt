@@ -30,10 +30,9 @@ same-length-2 c = search needs
 
 returns : tie.Need-returns
 returns c =
-    let at10 = c .before .before .before .before .before .before .before .before .before .before in
-    let at17 = at10 .before .before .before .before .before .before .before in
-    let args = at17 .args in
-    let asked = at10 .machirsun-count-words in
+    let call = c .before .before .before .before .before .before .before .before .before .before in
+    let args = call .before .before .before .before .before .before .before .args in
+    let asked = call .machirsun-count-words in
     count-replies (args .nodes .now) (args .counts .now) (args .stored .now) _ (asked .result) _ _ (asked .ensures .0) (asked .ensures .1 .1)
     (c .before .words-to .ensures)
     (c .same-then-words .ensures)

@@ -60,25 +60,25 @@ same-length-2 c = search needs
 
 returns : tie.Need-returns
 returns c =
-    let at6 = c .before .before .before .before .before .before in
-    let at9 = at6 .before .before .before in
-    let at10 = at9 .before in
-    let at11 = at10 .before in
-    let at12 = at11 .before in
-    let at13 = at12 .before in
-    let at14 = at13 .before in
-    let at15 = at14 .before in
-    let at16 = at15 .before in
-    let at17 = at16 .before in
-    let at18 = at17 .before in
-    let at23 = at18 .before .before .before .before .before in
-    let args = at23 .args in
-    let asked = at6 .machirsun-to-lxd in
+    let call = c .before .before .before .before .before .before in
+    let date-part = call .before .before .before in
+    let title-part = date-part .before in
+    let label-part = title-part .before in
+    let nodes = label-part .before in
+    let date-length = nodes .before in
+    let date = date-length .before in
+    let title-length = date .before in
+    let title = title-length .before in
+    let label-count = title .before in
+    let labels = label-count .before in
+    let args = labels .before .before .before .before .before .args in
+    let asked = call .machirsun-to-lxd in
     c .same-file .ensures
     ∙ ap (same (args .stored .now))
     (lxd-replies (args .words .now) (asked .result) _ (args .file .now) (length (args .work .now)) (asked .ensures .1 .1) _ _ _ _ _ _ _ _ _ _
-    (at18 .words-from .ensures) (at17 .word-at .ensures) (at16 .words-from2 .ensures) (at15 .word-at2 .ensures) (at14 .words-from3 .ensures)
-    (at13 .word-at3 .ensures) (at12 .words-from4 .ensures) (at11 .words-to .ensures) (at10 .words-to2 .ensures) (at9 .words-to3 .ensures)
+    (labels .words-from .ensures) (label-count .word-at .ensures) (title .words-from2 .ensures) (title-length .word-at2 .ensures) (date .words-from3 .ensures)
+    (date-length .word-at3 .ensures) (nodes .words-from4 .ensures)
+    (label-part .words-to .ensures) (title-part .words-to2 .ensures) (date-part .words-to3 .ensures)
     (asked .ensures .0))
 
 pub lxd-in-spec : {M : Type 1} → statement M

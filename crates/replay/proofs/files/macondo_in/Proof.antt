@@ -39,19 +39,18 @@ same-length-2 c = search needs
 
 returns : tie.Need-returns
 returns c =
-    let at6 = c .before .before .before .before .before .before in
-    let at9 = at6 .before .before .before in
-    let at10 = at9 .before in
-    let at11 = at10 .before in
-    let at12 = at11 .before in
-    let at13 = at12 .before in
-    let at19 = at13 .before .before .before .before .before .before in
-    let args = at19 .args in
-    let asked = at6 .machirsun-to-macondo in
+    let call = c .before .before .before .before .before .before in
+    let format = call .before .before .before in
+    let labels = format .before in
+    let nodes = labels .before in
+    let rest = nodes .before in
+    let count = rest .before in
+    let args = count .before .before .before .before .before .before .args in
+    let asked = call .machirsun-to-macondo in
     c .same-file .ensures
     ∙ ap (same (args .stored .now))
     (macondo-replies (args .words .now) (asked .result) _ (args .file .now) (length (args .work .now)) (asked .ensures .1 .1) (args .name .now) _ _ _ _ _
-    (at13 .word-at .ensures) (at12 .words-from .ensures) (at11 .words-from2 .ensures) (at10 .words-to .ensures) (at9 .word-at2 .ensures)
+    (count .word-at .ensures) (rest .words-from .ensures) (nodes .words-from2 .ensures) (labels .words-to .ensures) (format .word-at2 .ensures)
     (asked .ensures .0))
 
 pub macondo-in-spec : {M : Type 1} → statement M

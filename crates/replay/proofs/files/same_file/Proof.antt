@@ -25,8 +25,8 @@ same-then-bytes-requires c κs = search needs
 
 returns : tie.Need-returns
 returns c =
-    let at7 = c .before .before .before .before .before .before .before in
-    let args = at7 .args in
+    let numbers = c .before .before in
+    let args = numbers .before .before .before .before .before .args in
     c .same-then-bytes .ensures ∙ ap (λ (l : List ℕ). same (args .stored .now) (fileFields (args .written) ++ l)) (c .before .bytes-to .ensures)
 
 pub same-file-spec : {M : Type 1} → statement M

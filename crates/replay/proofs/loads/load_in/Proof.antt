@@ -32,19 +32,18 @@ same-length c = search needs
 
 returns : tie.Need-returns
 returns c =
-    let at4 = c .before .before .before .before in
-    let at6 = at4 .before .before in
-    let at7 = at6 .before in
-    let at12 = at7 .before .before .before .before .before in
-    let args = at12 .args in
-    let begun = at4 .machirsun-begin in
+    let began = c .before .before .before .before in
+    let layout = began .before .before in
+    let cut-read = layout .before in
+    let args = cut-read .before .before .before .before .before .args in
+    let begun = began .machirsun-begin in
     let bytes = args .bytes .now in
-    let cut = at7 .word-at .result in
+    let cut = cut-read .word-at .result in
     c .same-words .ensures
     ∙ ap (same (args .stored .now))
-    (refused-load (length bytes) (layoutOf (at6 .word-at2 .result)) (args .nodes .now) (take cut bytes) (drop cut bytes) (begun .result)
+    (refused-load (length bytes) (layoutOf (layout .word-at2 .result)) (args .nodes .now) (take cut bytes) (drop cut bytes) (begun .result)
     (begun .ensures .0) (c .before .before .if1 .taken)
-    ∙ load-is (args .words .now) bytes (args .nodes .now) _ _ _ cut (at6 .word-at2 .ensures) (at7 .word-at .ensures) refl refl)
+    ∙ load-is (args .words .now) bytes (args .nodes .now) _ _ _ cut (layout .word-at2 .ensures) (cut-read .word-at .ensures) refl refl)
 
 bytes-to-requires : tie.Need-bytes-to-requires
 bytes-to-requires c κs = search needs
@@ -69,30 +68,29 @@ same-length-2 c = search needs
 
 returns-2 : tie.Need-returns-2
 returns-2 c =
-    let at4 = c .before .before .before .before in
-    let at9 = at4 .before .before .before .before .before in
-    let at11 = at9 .before .before in
-    let at15 = at11 .before .before .before .before in
-    let at17 = at15 .before .before in
-    let at19 = at17 .before .before in
-    let at21 = at19 .before .before in
-    let at23 = at21 .before .before in
-    let at24 = at23 .before in
-    let at29 = at24 .before .before .before .before .before in
-    let args = at29 .args in
-    let begun = at21 .machirsun-begin in
-    let first = at15 .machirsun-feed in
-    let second = at9 .machirsun-feed2 in
-    let finish = at4 .machirsun-finish in
+    let ended = c .before .before .before .before in
+    let fed-rest = ended .before .before .before .before .before in
+    let second-piece = fed-rest .before .before in
+    let fed = second-piece .before .before .before .before in
+    let first-piece = fed .before .before in
+    let not-refused = first-piece .before .before in
+    let began = not-refused .before .before in
+    let layout = began .before .before in
+    let cut-read = layout .before in
+    let args = cut-read .before .before .before .before .before .args in
+    let begun = began .machirsun-begin in
+    let first = fed .machirsun-feed in
+    let second = fed-rest .machirsun-feed2 in
+    let finish = ended .machirsun-finish in
     let bytes = args .bytes .now in
     c .same-finished .ensures
     ∙ ap (same (args .stored .now))
-    (whole-load (length bytes) (layoutOf (at23 .word-at2 .result)) (args .nodes .now) (at17 .bytes-to .result .now) (at11 .bytes-from .result .now)
-    (begun .result) (begun .ensures .0)
+    (whole-load (length bytes) (layoutOf (layout .word-at2 .result)) (args .nodes .now)
+    (first-piece .bytes-to .result .now) (second-piece .bytes-from .result .now) (begun .result) (begun .ensures .0)
     (first .result) _ (first .ensures .0) (second .result) _ (second .ensures .0) (finish .result) _ (finish .ensures .0) (finish .ensures .1)
-    (at19 .if1 .left)
-    ∙ load-is (args .words .now) bytes (args .nodes .now) _ _ _ _ (at23 .word-at2 .ensures) (at24 .word-at .ensures) (at17 .bytes-to .ensures)
-    (at11 .bytes-from .ensures))
+    (not-refused .if1 .left)
+    ∙ load-is (args .words .now) bytes (args .nodes .now) _ _ _ _ (layout .word-at2 .ensures) (cut-read .word-at .ensures) (first-piece .bytes-to .ensures)
+    (second-piece .bytes-from .ensures))
 
 pub load-in-spec : {M : Type 1} → statement M
 load-in-spec =

@@ -35,15 +35,14 @@ same-length c = search needs
 
 returns : tie.Need-returns
 returns c =
-    let at8 = c .before .before .before .before .before .before .before .before in
-    let at9 = at8 .before in
-    let at10 = at9 .before in
-    let at15 = at10 .before .before .before .before .before in
-    let args = at15 .args in
-    let asked = at8 .machirsun-repack in
+    let call = c .before .before .before .before .before .before .before .before in
+    let to = call .before in
+    let from = to .before in
+    let args = from .before .before .before .before .before .args in
+    let asked = call .machirsun-repack in
     c .same-then-bytes .ensures
     ∙ ap (same (args .stored .now))
-    (repack-replies (args .words .now) (args .bytes .now) _ (asked .result) _ _ (at10 .word-at .ensures) (at9 .word-at2 .ensures) (asked .ensures .0)
+    (repack-replies (args .words .now) (args .bytes .now) _ (asked .result) _ _ (from .word-at .ensures) (to .word-at2 .ensures) (asked .ensures .0)
     (asked .ensures .1 .0) (asked .ensures .1 .1))
 
 pub repack-spec : {M : Type 1} → statement M

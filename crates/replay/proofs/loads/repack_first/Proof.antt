@@ -15,8 +15,8 @@ slice-relend-prefix-repack c = search needs
 
 slice-aggregate-repack : tie.Need-slice-aggregate-repack
 slice-aggregate-repack c =
-    let at5 = c .before .before .before .before .before in
-    sym (length-take-le (at5 .args .count) (at5 .args .bytes .now) (omega (arith, c .before .if1 .taken)))
+    let after-args = c .before .before .before .before .before in
+    sym (length-take-le (after-args .args .count) (after-args .args .bytes .now) (omega (arith, c .before .if1 .taken)))
 
 repack-requires : tie.Need-repack-requires
 repack-requires c κs = search needs
@@ -35,12 +35,11 @@ same-length-2 c = search needs
 
 returns-2 : tie.Need-returns-2
 returns-2 c =
-    let at4 = c .before .before .before .before in
-    let at8 = at4 .before .before .before .before in
-    let args = at8 .args in
+    let not-more = c .before .before .before .before in
+    let args = not-more .before .before .before .before .args in
     c .before .before .repack2 .ensures
     ∙ ap (λ (l : List ℕ). same (args .stored .now) (repackReply (args .words .now) l)) (sym (take-all (args .count) (args .bytes .now) (omega
-    (arith, at4 .if1 .left))))
+    (arith, not-more .if1 .left))))
 
 pub repack-first-spec : {M : Type 1} → statement M
 repack-first-spec =

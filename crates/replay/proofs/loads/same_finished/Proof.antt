@@ -28,8 +28,7 @@ same-then-words-requires c κs = search needs
 
 returns : tie.Need-returns
 returns c =
-    let at8 = c .before .before .before .before .before .before .before .before in
-    let args = at8 .args in
+    let args = c .before .before .before .before .before .before .before .before .args in
     c .same-then-words .ensures ∙ ap (λ (l : List ℕ). same (args .stored .now) (finishedFields (args .finished) ++ l)) (c .before .words-to .ensures)
 
 pub same-finished-spec : {M : Type 1} → statement M

@@ -23,14 +23,15 @@ shared-slice-read-if1 : tie.Need-shared-slice-read-if1 Inv-loop μ-loop
 shared-slice-read-if1 c = omega arith
 
 slice-aggregate-result : tie.Need-slice-aggregate-result Inv-loop μ-loop
-slice-aggregate-result c = sym (length-take-le (c .before .before .before .before .loop .i) (c .before .before .before .before .before .args .word .now) (omega arith))
+slice-aggregate-result c =
+    let turn = c .before .before .before .before in
+    sym (length-take-le (turn .loop .i) (turn .before .args .word .now) (omega arith))
 
 returns : tie.Need-returns Inv-loop μ-loop
 returns c =
-    let at4 = c .before .before .before .before in
-    let at5 = at4 .before in
-    let loop = at4 .loop in
-    let word = at5 .args .word .now in
+    let turn = c .before .before .before .before in
+    let loop = turn .loop in
+    let word = turn .before .args .word .now in
     sym (append-nil (take (loop .i) word)) ∙ ap (take (loop .i) word ++_) (sym (marked-here word (loop .i) (omega arith)
     (c .before .if1 .taken))) ∙ loop .inv .1
 
@@ -42,9 +43,8 @@ loop-less c = omega arith
 
 loop-again : tie.Need-loop-again Inv-loop μ-loop
 loop-again c =
-    let at4 = c .before .before .before .before in
     let loop = c .before .before .before .loop in
-    (omega arith, tile-here (at4 .args .word .now) (loop .i) (omega arith) (c .if1 .left) ∙ loop .inv .1)
+    (omega arith, tile-here (c .before .before .before .before .args .word .now) (loop .i) (omega arith) (c .if1 .left) ∙ loop .inv .1)
 
 returns-2 : tie.Need-returns-2 Inv-loop μ-loop
 returns-2 c =

@@ -29,15 +29,14 @@ same-words-requires c κs = search needs
 
 returns : tie.Need-returns
 returns c =
-    let at4 = c .before .before .before .before in
-    let at5 = at4 .before in
-    let at6 = at5 .before in
-    let at9 = at6 .before .before .before in
-    let args = at9 .args in
+    let tile = c .before .before .before .before in
+    let place = tile .before in
+    let nodes = place .before in
+    let args = nodes .before .before .before .args in
     let asked = c .before .before .before .machirsun-seek in
     c .same-words .ensures
     ∙ ap (same (args .stored .now))
-    (seek-fields (args .words .now) (asked .result) _ _ _ _ (at6 .words-from .ensures) (at5 .word-at .ensures) (at4 .byte-at .ensures)
+    (seek-fields (args .words .now) (asked .result) _ _ _ _ (nodes .words-from .ensures) (place .word-at .ensures) (tile .byte-at .ensures)
     (c .before .before .bit .ensures .0)
     (asked .ensures .0) (asked .ensures .1))
 

@@ -26,14 +26,13 @@ same-words-requires c κs = search needs
 
 returns : tie.Need-returns
 returns c =
-    let at4 = c .before .before .before .before in
-    let at5 = at4 .before in
-    let at8 = at5 .before .before .before in
-    let args = at8 .args in
+    let place = c .before .before .before .before in
+    let nodes = place .before in
+    let args = nodes .before .before .before .args in
     let asked = c .before .before .before .machirsun-cursor-step in
     c .same-words .ensures
     ∙ ap (same (args .stored .now))
-    (step-fields (args .words .now) (asked .result) _ _ _ (at5 .words-from .ensures) (at4 .word-at .ensures) (c .before .before .bit .ensures .0)
+    (step-fields (args .words .now) (asked .result) _ _ _ (nodes .words-from .ensures) (place .word-at .ensures) (c .before .before .bit .ensures .0)
     (asked .ensures .0) (asked .ensures .1))
 
 pub step-spec : {M : Type 1} → statement M

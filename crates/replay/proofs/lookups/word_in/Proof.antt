@@ -53,22 +53,21 @@ same-length c = search needs
 
 returns : tie.Need-returns
 returns c =
-    let at4 = c .before .before .before .before in
-    let at8 = at4 .before .before .before .before in
-    let at10 = at8 .before .before in
-    let at11 = at10 .before in
-    let at12 = at11 .before in
-    let at13 = at12 .before in
-    let at14 = at13 .before in
-    let at15 = at14 .before in
-    let at19 = at15 .before .before .before .before in
-    let args = at19 .args in
-    let asked = at8 .machirsun-word-by-index in
+    let found = c .before .before .before .before in
+    let call = found .before .before .before .before in
+    let number = call .before .before in
+    let place = number .before in
+    let counts = place .before in
+    let nodes = counts .before in
+    let count = nodes .before in
+    let graph = count .before in
+    let args = graph .before .before .before .before .args in
+    let asked = call .machirsun-word-by-index in
     c .same-then-bytes .ensures
     ∙ ap (same (args .stored .now))
-    (word-fields (args .words .now) (asked .result) (args .word .now) _ _ _ _ _ _ _ _ _ (at15 .words-from .ensures) (at14 .word-at .ensures)
-    (at13 .words-to .ensures)
-    (at12 .words-from2 .ensures) (at11 .word-at2 .ensures) (at10 .word-at3 .ensures) (at4 .bit .ensures .0) (asked .ensures)
+    (word-fields (args .words .now) (asked .result) (args .word .now) _ _ _ _ _ _ _ _ _ (graph .words-from .ensures) (count .word-at .ensures)
+    (nodes .words-to .ensures)
+    (counts .words-from2 .ensures) (place .word-at2 .ensures) (number .word-at3 .ensures) (found .bit .ensures .0) (asked .ensures)
     (c .before .put-tiles .ensures))
 
 pub word-in-spec : {M : Type 1} → statement M

@@ -38,19 +38,18 @@ same-words-requires c κs = search needs
 
 returns : tie.Need-returns
 returns c =
-    let at4 = c .before .before .before .before in
-    let at5 = at4 .before in
-    let at6 = at5 .before in
-    let at7 = at6 .before in
-    let at8 = at7 .before in
-    let at12 = at8 .before .before .before .before in
-    let args = at12 .args in
+    let place = c .before .before .before .before in
+    let counts = place .before in
+    let nodes = counts .before in
+    let count = nodes .before in
+    let graph = count .before in
+    let args = graph .before .before .before .before .args in
     let asked = c .before .before .before .machirsun-word-index in
     c .same-words .ensures
     ∙ ap (same (args .stored .now))
-    (index-fields (args .words .now) (asked .result) (args .word .now) _ _ _ _ _ _ (at8 .words-from .ensures) (at7 .word-at .ensures)
-    (at6 .words-to .ensures)
-    (at5 .words-from2 .ensures) (at4 .word-at2 .ensures) (c .before .before .bit .ensures .0) (asked .ensures .0) (asked .ensures .1))
+    (index-fields (args .words .now) (asked .result) (args .word .now) _ _ _ _ _ _ (graph .words-from .ensures) (count .word-at .ensures)
+    (nodes .words-to .ensures)
+    (counts .words-from2 .ensures) (place .word-at2 .ensures) (c .before .before .bit .ensures .0) (asked .ensures .0) (asked .ensures .1))
 
 pub word-index-spec : {M : Type 1} → statement M
 word-index-spec =

@@ -20,11 +20,11 @@ same-fields-requires c κs = search needs
 
 returns : tie.Need-returns
 returns c =
-    let at6 = c .before .before .before .before .before .before in
-    let args = at6 .args in
+    let number = c .before .before .before in
+    let args = number .before .before .before .args in
     c .same-fields .ensures
     ∙ ap (same (args .stored .now)) (fields-reply (args .words .now) _ _ _ (c .before .before .layout-of .ensures)
-    (c .before .before .before .word-at .ensures) (c .before .word-at2 .ensures))
+    (number .word-at .ensures) (c .before .word-at2 .ensures))
 
 pub node-fields-spec : {M : Type 1} → statement M
 node-fields-spec =

@@ -32,17 +32,16 @@ same-packed-requires c κs = search needs
 
 returns : tie.Need-returns
 returns c =
-    let at4 = c .before .before .before .before in
-    let at5 = at4 .before in
-    let at6 = at5 .before in
-    let at7 = at6 .before in
-    let at10 = at7 .before .before .before in
-    let args = at10 .args in
+    let is-end = c .before .before .before .before in
+    let accepts = is-end .before in
+    let layout = accepts .before in
+    let number = layout .before in
+    let args = number .before .before .before .args in
     c .same-packed .ensures
     ∙ ap (same (args .stored .now))
-    (pack-reply (args .words .now) (c .before .pack .result) _ _ _ _ _ _ (at6 .layout-of .ensures) (at7 .word-at .ensures)
+    (pack-reply (args .words .now) (c .before .pack .result) _ _ _ _ _ _ (layout .layout-of .ensures) (number .word-at .ensures)
     (c .before .before .before .byte-at .ensures)
-    (at5 .word-at2 .ensures) (at4 .word-at3 .ensures) (c .before .before .word-at4 .ensures) (c .before .pack .ensures))
+    (accepts .word-at2 .ensures) (is-end .word-at3 .ensures) (c .before .before .word-at4 .ensures) (c .before .pack .ensures))
 
 pub pack-spec : {M : Type 1} → statement M
 pack-spec =

@@ -29,16 +29,15 @@ same-packed-requires c κs = search needs
 
 returns : tie.Need-returns
 returns c =
-    let at4 = c .before .before .before .before in
-    let at5 = at4 .before in
-    let at6 = at5 .before in
-    let at9 = at6 .before .before .before in
-    let args = at9 .args in
+    let second = c .before .before .before .before in
+    let from = second .before in
+    let first = from .before in
+    let args = first .before .before .before .args in
     c .same-packed .ensures
     ∙ ap (same (args .stored .now))
-    (repack-reply (args .words .now) (c .before .repack-node .result) _ _ _ _ _ (at5 .layout-of .ensures) (at6 .word-at .ensures)
+    (repack-reply (args .words .now) (c .before .repack-node .result) _ _ _ _ _ (from .layout-of .ensures) (first .word-at .ensures)
     (c .before .before .before .layout-of2 .ensures)
-    (at4 .word-at2 .ensures) (c .before .before .word-at3 .ensures) (c .before .repack-node .ensures))
+    (second .word-at2 .ensures) (c .before .before .word-at3 .ensures) (c .before .repack-node .ensures))
 
 pub repack-node-spec : {M : Type 1} → statement M
 repack-node-spec =

@@ -1,7 +1,7 @@
 -- `nodes::same_fields` compares the fields of the layout.
 use mathlib.Core.Path.{sym, ap, _∙_}
 use Rattle.stored.specs.Answers.{same}
-use Rattle.node.specs.Said.{placesOf}
+use Rattle.node.specs.Said.{bitLayout}
 use Rattle.node.specs.declared.Layout.{Layout}
 use Rattle.replay.specs.Nodes.{fieldsOf}
 use borrow.Author.Needs.{needs}
@@ -23,12 +23,12 @@ same-kbwg-requires c κs = search needs
 returns : tie.Need-returns
 returns c =
     let args = c .before .before .before .before .args in
-    c .same-kwg .ensures ∙ ap (λ (l : Layout). same (args .stored .now) (fieldsOf (placesOf l) (args .word))) (sym (c .before .enum-told .given .1))
+    c .same-kwg .ensures ∙ ap (λ (l : Layout). same (args .stored .now) (fieldsOf (bitLayout l) (args .word))) (sym (c .before .enum-told .given .1))
 
 returns-2 : tie.Need-returns-2
 returns-2 c =
     let args = c .before .before .before .before .args in
-    c .same-kbwg .ensures ∙ ap (λ (l : Layout). same (args .stored .now) (fieldsOf (placesOf l) (args .word))) (sym (c .before .enum-told2 .given .1))
+    c .same-kbwg .ensures ∙ ap (λ (l : Layout). same (args .stored .now) (fieldsOf (bitLayout l) (args .word))) (sym (c .before .enum-told2 .given .1))
 
 pub same-fields-spec : {M : Type 1} → statement M
 same-fields-spec =

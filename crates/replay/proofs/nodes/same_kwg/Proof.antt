@@ -36,15 +36,14 @@ same-words-requires c κs = search needs
 
 returns : tie.Need-returns
 returns c =
-    let at4 = c .before .before .before .before in
-    let at5 = at4 .before in
-    let at6 = at5 .before in
-    let at7 = at6 .before in
-    let at9 = at7 .before .before in
-    let args = at9 .args in
+    let is-end = c .before .before .before .before in
+    let accepts-bit = is-end .before in
+    let accepts = accepts-bit .before in
+    let tile = accepts .before in
+    let args = tile .before .before .args in
     c .same-words .ensures
     ∙ ap (same (args .stored .now))
-    (fields-are KWG (args .node .0) (at7 .tile .ensures) (at6 .accepts .ensures) (at5 .bit .ensures .0) (at4 .is-end .ensures)
+    (fields-are KWG (args .node .0) (tile .tile .ensures) (accepts .accepts .ensures) (accepts-bit .bit .ensures .0) (is-end .is-end .ensures)
     (c .before .before .before .bit2 .ensures .0) (c .before .before .arc-index .ensures))
 
 pub same-kwg-spec : {M : Type 1} → statement M

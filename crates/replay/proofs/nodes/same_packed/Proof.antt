@@ -1,7 +1,7 @@
 -- `nodes::same_packed` compares the answer in numbers, by its cases.
 use mathlib.Core.Path.{sym, ap, _∙_}
 use Rattle.stored.specs.Answers.{same}
-use Rattle.node.specs.Said.{said}
+use Rattle.node.specs.Said.{saidNode}
 use Rattle.node.specs.declared.Packed.{Packed}
 use Rattle.replay.specs.Nodes.{flat}
 use borrow.Author.Needs.{needs}
@@ -31,15 +31,15 @@ same-words-requires-2 c κs = search needs
 
 returns : tie.Need-returns
 returns c =
-    let at6 = c .before .before .before .before .before .before in
-    let args = at6 .args in
-    c .same-words .ensures ∙ ap (λ (p : Packed). same (args .stored .now) (flat (said p))) (sym (c .before .before .before .packed .given .1))
+    let told = c .before .before .before in
+    let args = told .before .before .before .args in
+    c .same-words .ensures ∙ ap (λ (p : Packed). same (args .stored .now) (flat (saidNode p))) (sym (told .packed .given .1))
 
 returns-2 : tie.Need-returns-2
 returns-2 c =
-    let at6 = c .before .before .before .before .before .before in
-    let args = at6 .args in
-    c .same-words2 .ensures ∙ ap (λ (p : Packed). same (args .stored .now) (flat (said p))) (sym (c .before .before .before .packed2 .given .1))
+    let told = c .before .before .before in
+    let args = told .before .before .before .args in
+    c .same-words2 .ensures ∙ ap (λ (p : Packed). same (args .stored .now) (flat (saidNode p))) (sym (told .packed2 .given .1))
 
 pub same-packed-spec : {M : Type 1} → statement M
 same-packed-spec =

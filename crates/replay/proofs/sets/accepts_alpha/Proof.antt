@@ -20,9 +20,9 @@ same-words-requires c κs = search needs
 
 returns : tie.Need-returns
 returns c =
-    let at7 = c .before .before .before .before .before .before .before in
-    let args = at7 .args in
-    let asked = c .before .before .before .machirsun-accepts-alpha in
+    let call = c .before .before .before in
+    let args = call .before .before .before .before .args in
+    let asked = call .machirsun-accepts-alpha in
     c .same-words .ensures
     ∙ ap (same (args .stored .now)) (accepts-replies (args .nodes .now) (args .tally .now) (asked .result) _ (c .before .before .bit .ensures .0)
     (asked .ensures .0) (asked .ensures .1))

@@ -20,9 +20,9 @@ same-numbers-requires c κs = search needs
 
 returns : tie.Need-returns
 returns c =
-    let at7 = c .before .before .before .before .before .before .before in
-    let args = at7 .args in
-    let asked = c .before .before .before .machirsun-alpha-cross-set in
+    let call = c .before .before .before in
+    let args = call .before .before .before .before .args in
+    let asked = call .machirsun-alpha-cross-set in
     c .same-numbers .ensures ∙ ap (same (args .stored .now)) (cross-replies (args .nodes .now) (args .tally .now) (asked .result) (asked .ensures .0)
     (asked .ensures .1))
 

@@ -26,10 +26,9 @@ same-length-2 c = search needs
 
 returns : tie.Need-returns
 returns c =
-    let at9 = c .before .before .before .before .before .before .before .before .before in
-    let at16 = at9 .before .before .before .before .before .before .before in
-    let args = at16 .args in
-    let asked = at9 .machirsun-letter-bits in
+    let call = c .before .before .before .before .before .before .before .before .before in
+    let args = call .before .before .before .before .before .before .before .args in
+    let asked = call .machirsun-letter-bits in
     c .same-then-both .ensures
     ∙ ap (same (args .stored .now))
     (bits-replies (args .nodes .now) (args .all .now) (args .accepting .now) _ _ _ _ (asked .result) (asked .ensures)

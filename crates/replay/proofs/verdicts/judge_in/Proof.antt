@@ -9,14 +9,23 @@ use Rattle.replay.proofs.verdicts.judge_in.Tie as tie
 
 returns : tie.Need-returns
 returns c =
-    let at4 = c .before .before .before .before in
-    let args = at4 .args in low-call (length (args .words .now)) (length (args .bytes .now)) (args .call) (args .case .now) (c .if1 .taken)
+    let args = c .before .before .before .before .args in
+    low-call (length (args .words .now)) (length (args .bytes .now)) (args .call) (args .case .now) (c .if1 .taken)
 
 returns-2 : tie.Need-returns-2
 returns-2 c =
-    let at5 = c .before .before .before .before .before in
-    let args = at5 .args in high-call (length (args .words .now)) (length (args .bytes .now)) (args .call) (args .case .now) (c .before .if1 .left)
-    (c .if2 .taken)
+    let args = c .before .before .before .before .before .args in
+    high-call (length (args .words .now)) (length (args .bytes .now)) (args .call) (args .case .now) (c .before .if1 .left) (c .if2 .taken)
+
+abbrev start : tie.After-words-in → tie.Start
+start s = s .before .before .before .before .before .before .before
+
+-- the rest of the case stands after the words that were read, and the answer after the bytes
+abbrev words-read : tie.After-after-list → tie.After-words-in
+words-read s = s .before .before .before .before .before .before
+
+abbrev bytes-read : tie.After-after-list2 → tie.After-bytes-in
+bytes-read s = s .before .before .before .before .before .before
 
 words-in-requires : tie.Need-words-in-requires
 words-in-requires c κs = search needs
@@ -32,10 +41,10 @@ same-length c = search needs
 
 returns-3 : tie.Need-returns-3
 returns-3 c =
-    let at4 = c .before .before .before .before in
-    let at11 = at4 .before .before .before .before .before .before .before in
-    let args = at11 .args in no-words (length (args .words .now)) (length (args .bytes .now)) (args .call) (args .case .now) (sym
-    (at4 .words-in .ensures .0) ∙ c .enum-told .given .1)
+    let words = c .before .before .before .before in
+    let args = start words .args in
+    no-words (length (args .words .now)) (length (args .bytes .now)) (args .call) (args .case .now)
+    (sym (words .words-in .ensures .0) ∙ c .enum-told .given .1)
 
 after-list-requires : tie.Need-after-list-requires
 after-list-requires c κs = search needs
@@ -57,15 +66,13 @@ same-length-3 c = search needs
 
 returns-4 : tie.Need-returns-4
 returns-4 c =
-    let at4 = c .before .before .before .before in
-    let at6 = at4 .before .before in
-    let at8 = at6 .before .before in
-    let at12 = at8 .before .before .before .before in
-    let at19 = at12 .before .before .before .before .before .before .before in
-    let args = at19 .args in
-    let rest = at6 .after-list in
-    no-bytes (length (args .words .now)) (length (args .bytes .now)) (args .call) (args .case .now) (at8 .word-count .given .0 .0) (rest .result .now)
-    (sym (at12 .words-in .ensures .0) ∙ at8 .word-count .given .1) (rest .ensures) (sym (at4 .bytes-in .ensures .0) ∙ c .enum-told2 .given .1)
+    let bytes = c .before .before .before .before in
+    let rest = bytes .before .before in
+    let words = words-read rest in
+    let args = start words .args in
+    let count = rest .before .before .word-count .given in
+    no-bytes (length (args .words .now)) (length (args .bytes .now)) (args .call) (args .case .now) (count .0 .0) (rest .after-list .result .now)
+    (sym (words .words-in .ensures .0) ∙ count .1) (rest .after-list .ensures) (sym (bytes .bytes-in .ensures .0) ∙ c .enum-told2 .given .1)
 
 after-list-requires-2 : tie.Need-after-list-requires-2
 after-list-requires-2 c κs = search needs
@@ -75,9 +82,8 @@ words-to-requires c κs = search needs
 
 replies-requires : tie.Need-replies-requires
 replies-requires c κs =
-    let at19 = c .before .before .before .before .before .before .before .before .before .before .before .before .before .before .before .before .before .before .before in
-    let at20 = at19 .before in
-    (at20 .if1 .left, at19 .if2 .left)
+    let words = words-read (bytes-read (c .before .before .before) .before .before) in
+    (words .before .before .before .if1 .left, words .before .before .if2 .left)
 
 verdict-of-requires : tie.Need-verdict-of-requires
 verdict-of-requires c κs = search needs
@@ -90,22 +96,20 @@ same-length-5 c = search needs
 
 returns-5 : tie.Need-returns-5
 returns-5 c =
-    let at5 = c .before .before .before .before .before in
-    let at7 = at5 .before .before in
-    let at9 = at7 .before .before in
-    let at13 = at9 .before .before .before .before in
-    let at15 = at13 .before .before in
-    let at17 = at15 .before .before in
-    let at21 = at17 .before .before .before .before in
-    let at28 = at21 .before .before .before .before .before .before .before in
-    let args = at28 .args in
-    let rest = at15 .after-list in
+    let replied = c .before .before .before in
+    let part = replied .before .before in
+    let stored = part .before .before in
+    let bytes = bytes-read stored in
+    let rest = bytes .before .before in
+    let words = words-read rest in
+    let args = start words .args in
+    let word-count = rest .before .before .word-count .given in
+    let byte-count = stored .before .before .byte-count .given in
     subst (Judged (length (args .words .now)) (length (args .bytes .now)) (args .call) (args .case .now)) (sym (c .verdict-of .ensures))
-    (judged (length (args .words .now)) (length (args .bytes .now)) (args .call) (args .case .now) (at17 .word-count .given .0 .0) (rest .result .now)
-    (sym (at21 .words-in .ensures .0) ∙ at17 .word-count .given .1) (rest .ensures)
-    (at9 .byte-count .given .0 .0) (args .words .now) (args .bytes .now) _ _ _ _ (sym (at13 .bytes-in .ensures .0) ∙ at9 .byte-count .given .1) refl refl
-    (at21 .words-in .ensures .1) (at13 .bytes-in .ensures .1) (at7 .after-list2 .ensures) (at5 .words-to .ensures)
-    (c .before .before .before .replies .ensures))
+    (judged (length (args .words .now)) (length (args .bytes .now)) (args .call) (args .case .now) (word-count .0 .0) (rest .after-list .result .now)
+    (sym (words .words-in .ensures .0) ∙ word-count .1) (rest .after-list .ensures)
+    (byte-count .0 .0) (args .words .now) (args .bytes .now) _ _ _ _ (sym (bytes .bytes-in .ensures .0) ∙ byte-count .1) refl refl
+    (words .words-in .ensures .1) (bytes .bytes-in .ensures .1) (stored .after-list2 .ensures) (part .words-to .ensures) (replied .replies .ensures))
 
 pub judge-in-spec : {M : Type 1} → statement M
 judge-in-spec =

@@ -15,21 +15,24 @@ same-length : tie.Need-same-length
 same-length c = search needs
 
 returns : tie.Need-returns
-returns c = replies-as 4 (c .before .before .before .before .if1 .taken) repack-in-place (c .before .before .repack-first .ensures)
+returns c = let s = c .before .before in replies-as 4 (s .before .before .if1 .taken) repack-in-place (s .repack-first .ensures)
+
+-- past the call that writes the bytes
+abbrev start : tie.Else1 → tie.Start
+start s = s .before .before .before .before
 
 bytes-to-requires : tie.Need-bytes-to-requires
 bytes-to-requires c κs = search needs
 
 replies-to-requires : tie.Need-replies-to-requires
-replies-to-requires c κs = (c .before .before .before .before .before .before .pre .0, c .before .before .before .before .before .before .pre .1, c .before .before .if1 .left)
+replies-to-requires c κs = let s = c .before .before in (start s .pre .0, start s .pre .1, s .if1 .left)
 
 same-length-2 : tie.Need-same-length-2
 same-length-2 c = search needs
 
 returns-2 : tie.Need-returns-2
 returns-2 c =
-    let at7 = c .before .before .before .before .before .before .before in
-    let args = at7 .args in
+    let args = start (c .before .before .before) .args in
     subst (λ (l : List ℕ). Replied (args .words .now) l (args .call) (args .stored .now) (c .replies-to .result)) (c .before .bytes-to .ensures)
     (c .replies-to .ensures)
 

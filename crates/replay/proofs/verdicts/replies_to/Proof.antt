@@ -88,10 +88,10 @@ returns-13 c = replies-as 14 (c .before .match .keys13) R.macondo (c .to-macondo
 
 returns-14 : tie.Need-returns-14
 returns-14 c =
-    let at5 = c .before .before .before .before .before in
+    let start = c .before .before .before .before .before in
     let rest = c .before .match .rest in
-    let asked = at5 .pre in
-    let is = last-call (at5 .args .call) (asked .0) (asked .1) (asked .2) (rest .0 .0 .0 .0 .0 .0 .0 .0 .0 .0 .0 .0 .1)
+    let asked = start .pre in
+    let is = last-call (start .args .call) (asked .0) (asked .1) (asked .2) (rest .0 .0 .0 .0 .0 .0 .0 .0 .0 .0 .0 .0 .1)
     (rest .0 .0 .0 .0 .0 .0 .0 .0 .0 .0 .0 .1) (rest .0 .0 .0 .0 .0 .0 .0 .0 .0 .0 .1) (rest .0 .0 .0 .0 .0 .0 .0 .0 .0 .1)
     (rest .0 .0 .0 .0 .0 .0 .0 .0 .1) (rest .0 .0 .0 .0 .0 .0 .0 .1) (rest .0 .0 .0 .0 .0 .0 .1) (rest .0 .0 .0 .0 .0 .1) (rest .0 .0 .0 .0 .1)
     (rest .0 .0 .0 .1) (rest .0 .0 .1) (rest .0 .1) (rest .1) in

@@ -1,28 +1,24 @@
--- `answers::same_bytes` compares entry by entry; what is left compares as the whole.
+-- `answers::same_bytes` meets its contract: lists of one length are compared entry by entry, and what is left compares as the whole.
 use native.Mathlib.Omega.{arith}
-use Prim.Native.Nat.{_≤_, _-_}
-use mathlib.Core.Path.{_≡_, refl, sym, _∙_}
-use lib.ListN.{length, drop}
+use Prim.Native.Nat.{_-_}
+use mathlib.Core.Path.{refl}
+use lib.ListN.{length}
 use borrow.Author.Needs.{needs}
-use Rattle.stored.specs.Answers.{same}
-use Rattle.stored.proofs.SameLaws.{short, other, next, over}
+use Rattle.stored.proofs.SameLaws.{other-length, LeftSame, all-same, differs, agrees}
 use Rattle.stored.proofs.answers.same_bytes.Statement.{statement}
 use Rattle.stored.proofs.answers.same_bytes.Tie as tie
 
 abbrev Inv-loop : tie.InvT-loop
-Inv-loop left right i₀ i = (i ≤ length right) × (i ≤ length left) × (same (drop i left) (drop i right) ≡ same left right)
+Inv-loop left right i₀ i = LeftSame left right i
 
 abbrev μ-loop : tie.MeasureT-loop
 μ-loop left right i₀ i = length right - i
 
-loop-holds : tie.Need-loop-holds Inv-loop μ-loop
-loop-holds c = (omega arith, omega arith, refl)
-
 returns : tie.Need-returns Inv-loop μ-loop
-returns c =
-    let args = c .before .before .before .before .before .args in
-    let loop = c .before .before .loop in
-    short (args .left .now) (args .right .now) (loop .i) (omega arith) (omega arith) ∙ loop .inv .2
+returns c = other-length _ _ (c .if1 .taken)
+
+loop-holds : tie.Need-loop-holds Inv-loop μ-loop
+loop-holds c = (omega arith, refl)
 
 mul-if2 : tie.Need-mul-if2 Inv-loop μ-loop
 mul-if2 c = search needs
@@ -30,17 +26,16 @@ mul-if2 c = search needs
 shared-slice-read-if2 : tie.Need-shared-slice-read-if2 Inv-loop μ-loop
 shared-slice-read-if2 c = omega arith
 
-shared-slice-read-wide : tie.Need-shared-slice-read-wide Inv-loop μ-loop
-shared-slice-read-wide c = omega arith
+shared-slice-read-wide-byte : tie.Need-shared-slice-read-wide-byte Inv-loop μ-loop
+shared-slice-read-wide-byte c = omega arith
 
-wide-requires : tie.Need-wide-requires Inv-loop μ-loop
-wide-requires c κs = search needs
+wide-byte-requires : tie.Need-wide-byte-requires Inv-loop μ-loop
+wide-byte-requires c κs = search needs
 
 returns-2 : tie.Need-returns-2 Inv-loop μ-loop
 returns-2 c =
-    let args = c .before .before .before .before .before .before .before .before .before .args in
-    let loop = c .before .before .before .before .before .before .loop in
-    other (args .left .now) (args .right .now) (loop .i) (omega arith) (omega arith) (λ e. c .if2 .taken (e ∙ sym (c .before .wide .ensures))) ∙ loop .inv .2
+    let s = c .before .before .before .before .before in
+    differs _ _ (s .before .if1 .left) _ (s .loop .inv) (omega arith) _ (c .before .wide-byte .ensures) (c .if2 .taken)
 
 add-i : tie.Need-add-i Inv-loop μ-loop
 add-i c = omega arith
@@ -50,15 +45,11 @@ loop-less c = omega arith
 
 loop-again : tie.Need-loop-again Inv-loop μ-loop
 loop-again c =
-    let args = c .before .before .before .before .before .before .before .before .before .args in
-    let loop = c .before .before .before .before .before .before .loop in
-    (omega arith, omega arith, next (args .left .now) (args .right .now) (loop .i) (omega arith) (omega arith) (c .if2 .left ∙ c .before .wide .ensures) ∙ loop .inv .2)
+    let s = c .before .before .before .before .before in
+    agrees _ _ (s .before .if1 .left) _ (s .loop .inv) (omega arith) _ (c .before .wide-byte .ensures) (c .if2 .left)
 
 returns-3 : tie.Need-returns-3 Inv-loop μ-loop
-returns-3 c =
-    let args = c .before .before .before .before .args in
-    let loop = c .before .loop in
-    over (args .left .now) (args .right .now) (loop .i) (omega arith) (omega arith) ∙ loop .inv .2
+returns-3 c = all-same _ _ (c .before .before .if1 .left) _ (c .before .loop .inv) (omega arith)
 
 pub same-bytes-spec : {M : Type 1} → statement M
 same-bytes-spec =
@@ -66,12 +57,12 @@ same-bytes-spec =
     (tie.spec
     Inv-loop
     μ-loop
-    loop-holds
     returns
+    loop-holds
     mul-if2
     shared-slice-read-if2
-    shared-slice-read-wide
-    wide-requires
+    shared-slice-read-wide-byte
+    wide-byte-requires
     returns-2
     add-i
     loop-less

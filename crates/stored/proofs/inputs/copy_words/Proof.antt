@@ -1,17 +1,15 @@
--- `inputs::copy_words` stores number after number; what is left to store makes the same list as all of them.
+-- `inputs::copy_words` meets its contract: it stores number after number; what is left to store makes the same list as all of them.
 use native.Mathlib.Omega.{arith}
-use Prim.Native.Nat.{_≤_, _-_}
-use mathlib.Core.Path.{_≡_, refl, sym, _∙_}
-use lib.ListN.{length, drop, length-set}
-use lib.Seq.{sets}
+use Prim.Native.Nat.{_-_}
+use mathlib.Core.Path.{refl}
+use lib.ListN.{length}
 use borrow.Author.Needs.{needs}
-use Rattle.laws.specs.Sets.{sets-done}
-use Rattle.stored.proofs.InputLaws.{within-at, store-next}
+use Rattle.stored.proofs.InputLaws.{within-at, LeftToStore, stored-one, all-stored}
 use Rattle.stored.proofs.inputs.copy_words.Statement.{statement}
 use Rattle.stored.proofs.inputs.copy_words.Tie as tie
 
 abbrev Inv-loop : tie.InvT-loop
-Inv-loop numbers words₀ i₀ words i = (i ≤ length numbers) × (length words ≡ length words₀) × (sets words i (drop i numbers) ≡ sets words₀ 0 numbers)
+Inv-loop numbers words₀ i₀ words i = LeftToStore numbers words₀ words i
 
 abbrev μ-loop : tie.MeasureT-loop
 μ-loop numbers words₀ i₀ words i = length numbers - i
@@ -45,18 +43,13 @@ loop-less : tie.Need-loop-less Inv-loop μ-loop
 loop-less c = omega arith
 
 loop-again : tie.Need-loop-again Inv-loop μ-loop
-loop-again c =
-    let loop = c .before .before .loop in
-    let numbers = c .before .before .before .args .numbers .now in
-    (omega arith, simp length-set (loop .inv .1), store-next (loop .words) numbers (loop .i) (omega arith) ∙ loop .inv .2)
+loop-again c = let loop = c .before .before .loop in stored-one _ _ (loop .words) (loop .i) (loop .inv) (omega arith)
 
 same-length : tie.Need-same-length Inv-loop μ-loop
 same-length c = c .before .loop .inv .1
 
 returns : tie.Need-returns Inv-loop μ-loop
-returns c =
-    let loop = c .before .loop in
-    sym (sets-done (loop .words) (c .before .before .args .numbers .now) (loop .i) (loop .i) (omega arith)) ∙ loop .inv .2
+returns c = let loop = c .before .loop in all-stored _ _ (loop .words) (loop .i) (loop .inv) (omega arith)
 
 pub copy-words-spec : {M : Type 1} → statement M
 copy-words-spec =

@@ -1,9 +1,6 @@
--- `inputs::words_in` copies the list that `count_in` found: all of it is there, has room and is within the limit.
-use mathlib.Core.Path.{sym, ap, _∙_}
-use lib.ListN.{length, take}
+-- `inputs::words_in` meets its contract: the list that `count_in` found is all there, has room and is within the limit.
 use borrow.Author.Needs.{needs}
-use Rattle.stored.specs.Inputs.{listIn}
-use Rattle.stored.proofs.InputLaws.{listed, unlisted, can-copy, copied}
+use Rattle.stored.proofs.InputLaws.{not-copied, can-copy, copied}
 use Rattle.stored.proofs.inputs.words_in.Statement.{statement}
 use Rattle.stored.proofs.inputs.words_in.Tie as tie
 
@@ -16,34 +13,33 @@ enum-known-count c = search needs
 enum-told : tie.Need-enum-told
 enum-told c = search needs
 
+abbrev start : tie.After-count-in → tie.Start
+start s = s .before .before .before
+
 returns : tie.Need-returns
 returns c =
-    let e = sym (c .before .before .count-in .ensures) ∙ c .enum-told .given .1 in
-    let args = c .before .before .before .before .before .args in
-    (sym e, unlisted (args .words .now) (listIn 4_294_967_295 (length (args .words .now)) (args .case .now)) e)
+    let s = c .before .before in
+    not-copied 4_294_967_295 (start s .args .case .now) (start s .args .words .now) (s .count-in .ensures) (c .enum-told .given .1)
 
-numbers-from-requires : tie.Need-numbers-from-requires
-numbers-from-requires c κs = search needs
-
-numbers-to-requires : tie.Need-numbers-to-requires
-numbers-to-requires c κs = search needs
+list-of-requires : tie.Need-list-of-requires
+list-of-requires c κs = search needs
 
 copy-words-requires : tie.Need-copy-words-requires
 copy-words-requires c κs =
-    let args = c .before .before .before .before .before .before .before .before .before .args in
-    let l = listed 4_294_967_295 (length (args .words .now)) (args .case .now) _ (sym (c .before .before .before .before .before .before .count-in .ensures) ∙ c .before .before .before .before .count .given .1) in
-    can-copy 4_294_967_295 (args .case .now) (args .words .now) _ l _ (c .before .numbers-to .ensures ∙ ap (take (c .before .before .before .before .count .given .0 .0)) (c .before .before .numbers-from .ensures))
+    let t = c .before .before .before in
+    let s = t .before .before in
+    can-copy 4_294_967_295 (start s .args .case .now) (start s .args .words .now) (s .count-in .ensures) (t .count .given .1) (c .before .list-of .ensures)
 
 same-length : tie.Need-same-length
 same-length c = search needs
 
 returns-2 : tie.Need-returns-2
 returns-2 c =
-    let args = c .before .before .before .before .before .before .before .before .before .before .before .before .args in
-    let e = sym (c .before .before .before .before .before .before .before .before .before .count-in .ensures) ∙ c .before .before .before .before .before .before .before .count .given .1 in
-    let l = listed 4_294_967_295 (length (args .words .now)) (args .case .now) _ e in
-    let xs = c .before .before .before .before .numbers-to .ensures ∙ ap (take (c .before .before .before .before .before .before .before .count .given .0 .0)) (c .before .before .before .before .before .numbers-from .ensures) in
-    (sym e, copied 4_294_967_295 (args .case .now) (args .words .now) _ l _ xs _ (c .before .before .copy-words .ensures))
+    let u = c .before .before .before .before in
+    let t = u .before .before in
+    let s = t .before .before in
+    copied 4_294_967_295 (start s .args .case .now) (start s .args .words .now) (s .count-in .ensures) (t .count .given .1) (u .list-of .ensures)
+    (c .before .before .copy-words .ensures)
 
 pub words-in-spec : {M : Type 1} → statement M
 words-in-spec =
@@ -53,8 +49,7 @@ words-in-spec =
     enum-known-count
     enum-told
     returns
-    numbers-from-requires
-    numbers-to-requires
+    list-of-requires
     copy-words-requires
     same-length
     returns-2)

@@ -24,15 +24,19 @@ same-length : tie.Need-same-length
 same-length c = search needs
 
 returns-2 : tie.Need-returns-2
-returns-2 c = let blank = eq-eqb _ _ (c .before .before .before .before .before .if1 .left) in
-    (simp (blank, sym (c .before .before .before .keep .ensures .0) ∙ c .if2 .taken), rw blank (c .before .before .before .keep .ensures .1))
+returns-2 c =
+    let s = c .before .before .before in
+    let blank = eq-eqb _ _ (s .before .before .if1 .left) in
+    (simp (blank, sym (s .keep .ensures .0) ∙ c .if2 .taken), rw blank (s .keep .ensures .1))
 
 same-length-2 : tie.Need-same-length-2
 same-length-2 c = search needs
 
 returns-3 : tie.Need-returns-3
-returns-3 c = let blank = eq-eqb _ _ (c .before .before .before .before .before .if1 .left) in
-    (simp (blank, sym (c .before .before .before .keep .ensures .0) ∙ c .if2 .left), rw blank (c .before .before .before .keep .ensures .1))
+returns-3 c =
+    let s = c .before .before .before in
+    let blank = eq-eqb _ _ (s .before .before .if1 .left) in
+    (simp (blank, sym (s .keep .ensures .0) ∙ c .if2 .left), rw blank (s .keep .ensures .1))
 
 pub after-number-spec : {M : Type 1} → statement M
 after-number-spec =

@@ -32,15 +32,19 @@ same-length : tie.Need-same-length
 same-length c = search needs
 
 returns : tie.Need-returns
-returns c = let number = c .before .before .before .before .before .before .part .given .1 in
-    (rw (number, sym (c .before .before .before .keep .ensures .0) ∙ c .if1 .taken), rw number (c .before .before .before .keep .ensures .1))
+returns c =
+    let s = c .before .before .before in
+    let number = s .before .before .before .part .given .1 in
+    (rw (number, sym (s .keep .ensures .0) ∙ c .if1 .taken), rw number (s .keep .ensures .1))
 
 same-length-2 : tie.Need-same-length-2
 same-length-2 c = search needs
 
 returns-2 : tie.Need-returns-2
-returns-2 c = let number = c .before .before .before .before .before .before .part .given .1 in
-    (rw (number, sym (c .before .before .before .keep .ensures .0) ∙ c .if1 .left), rw number (c .before .before .before .keep .ensures .1))
+returns-2 c =
+    let s = c .before .before .before in
+    let number = s .before .before .before .part .given .1 in
+    (rw (number, sym (s .keep .ensures .0) ∙ c .if1 .left), rw number (s .keep .ensures .1))
 
 returns-3 : tie.Need-returns-3
 returns-3 c = search needs

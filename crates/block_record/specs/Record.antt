@@ -1,0 +1,40 @@
+-- The record of blocks in a work list: "Each looks the arc's child up in its record of blocks already numbered" (document 01).
+use mathlib.Core.Path.{_≡_}
+use mathlib.Core.Bool.{true, false}
+use mathlib.Core.List.{List}
+use Prim.Native.Nat.{ℕ, zero, suc, _+_, _-_, _<_}
+use lib.Dec.{eqb}
+use lib.ListN.{getD, take, drop}
+use Rattle.laws.specs.Lists.{member}
+use Rattle.export.specs.Blocks.{met, blockAt, total}
+use Rattle.block_record.specs.declared.Place.{Place}
+use Rattle.block_record.specs.declared.Place.the-variants.{Numbered, Unnumbered}
+use Rattle.block_record.specs.declared.BlockTally.{BlockTally}
+
+-- entry p is 0, or the place of p's block and 1
+abbrev pub placeAt : List ℕ → ℕ → Place
+placeAt w p = elim (eqb (getD w p 0) 0) [ true ↦ Unnumbered | false ↦ Numbered (getD w p 0 - 1) ]
+
+-- the blocks in order stand from entry n on: the first k of them, and those of a tally
+abbrev pub blocksIn : ℕ → List ℕ → ℕ → List ℕ
+blocksIn n w k = take k (drop n w)
+
+abbrev pub orderIn : ℕ → List ℕ → BlockTally → List ℕ
+orderIn n w t = blocksIn n w (t .blocks)
+
+-- how many of the first n entries are not 0
+unfoldable pub used : ℕ → List ℕ → ℕ
+used zero w = 0
+used (suc n) w = used n w + elim (eqb (getD w n 0) 0) [ true ↦ 0 | false ↦ 1 ]
+
+-- the work list holds the blocks of n nodes in the order o, the first at the place `base`
+pub record HoldsBlocks (n : ℕ) (size : ℕ → ℕ) (base : ℕ) (w : List ℕ) (t : BlockTally) (o : List ℕ) : Type 0 where
+  pub order : orderIn n w t ≡ o
+  pub many : used n w ≡ t .blocks
+  pub sum : t .nodes ≡ base + total size o
+  pub new : (p : ℕ) → p < n → member p o ≡ false → getD w p 0 ≡ 0
+  pub old : (p : ℕ) → p < n → member p o ≡ true → getD w p 0 ≡ blockAt size base o p + 1
+
+-- what is met through an arc, which may be none
+unfoldable pub metBy : (ℕ → List ℕ) → ℕ → List ℕ → ℕ → List ℕ
+metBy children left seen p = elim (eqb p 0) [ true ↦ seen | false ↦ met children left seen p ]

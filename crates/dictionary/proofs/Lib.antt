@@ -1,0 +1,4 @@
+pub mod GrowthLaws
+pub mod SearchLaws
+pub mod StoredLaws
+pub mod TableLaws

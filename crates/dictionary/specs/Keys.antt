@@ -1,0 +1,13 @@
+-- The keys in a dictionary with room for n of them.
+use mathlib.Core.List.{List}
+use Prim.Native.Nat.{ℕ, _+_, _*_}
+use lib.ListN.{getD}
+use Rattle.graph.specs.Counting.{table}
+
+-- key i by its halves
+abbrev pub keyAt : ℕ → List ℕ → ℕ → ℕ
+keyAt n d i = getD d (n + i) 0 * 0x100000000 + getD d i 0
+
+-- the first k keys
+abbrev pub keysIn : ℕ → List ℕ → ℕ → List ℕ
+keysIn n d k = table k (keyAt n d)

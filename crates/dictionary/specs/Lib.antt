@@ -1,0 +1,4 @@
+pub mod KeyNumbered
+pub mod Keys
+pub mod NumberingLaws
+pub mod Tree

@@ -1,0 +1,3 @@
+pub mod Latin1
+pub mod Latin1Laws
+pub mod Encoded

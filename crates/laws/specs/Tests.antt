@@ -1,0 +1,30 @@
+-- Tests of numbers, and tests joined.
+use mathlib.Core.Path.{_≡_, refl, sym, _∙_}
+use mathlib.Core.Bool.{Bool, true, false, _||_}
+use Prim.Native.Nat.{ℕ, suc, _+_, max}
+use native.Mathlib.Omega.{arith}
+use lib.Dec.{ltb}
+use borrow.Author.Tests.{ltb-true, ltb-false, lt-ltb, le-ltb}
+use Rattle.laws.specs.Cases.{split}
+
+pub ltb-max : (k a b : ℕ) → ltb k a || ltb k b ≡ ltb k (max a b)
+ltb-max k a b =
+    split (ltb k a)
+    (λ t. let h = ltb-true k a t in rw t (sym (lt-ltb k (max a b) (omega arith))))
+    (λ t. rw t (split (ltb k b)
+    (λ u. let h = ltb-true k b u in u ∙ sym (lt-ltb k (max a b) (omega arith)))
+    (λ u. let h = ltb-false k a t in let j = ltb-false k b u in u ∙ sym (le-ltb k (max a b) (omega arith)))))
+
+pub ltb-suc : (k a : ℕ) → ltb k a ≡ ltb (suc k) (a + 1)
+ltb-suc k a =
+    split (ltb k a)
+    (λ t. let h = ltb-true k a t in t ∙ sym (lt-ltb (suc k) (a + 1) (omega arith)))
+    (λ t. let h = ltb-false k a t in t ∙ sym (le-ltb (suc k) (a + 1) (omega arith)))
+
+pub or-assoc : (a b c : Bool) → (a || b) || c ≡ a || (b || c)
+or-assoc true b c = refl
+or-assoc false b c = refl
+
+pub or-later : (a b : Bool) → b ≡ true → a || b ≡ true
+or-later true b e = refl
+or-later false b e = e

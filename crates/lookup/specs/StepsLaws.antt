@@ -1,0 +1,28 @@
+-- A step goes on where what it asks is lent, and where its sum or difference is a number.
+use Prim.Native.Nat.{ℕ, _+_, _-_, _≤_, _<_}
+use mathlib.Core.Path.{_≡_}
+use mathlib.Core.List.{List, []}
+use native.Mathlib.Omega.{arith}
+use borrow.Author.Tests.{lt-ltb, le-ltb, le-leb}
+use lib.ListN.{length, getD, length-take}
+use Rattle.answers.specs.Answers.{refused}
+use Rattle.lookup.specs.Steps.{on, stop, lentPart, lent, difference, sum}
+
+pub lent-on : (l : List ℕ) (i : ℕ) → i < length l → lent l i ≡ on (getD l i 0)
+unfolding lent
+lent-on l i h = rw (lt-ltb i (length l) h, lent)
+
+pub lent-out : (l : List ℕ) (i : ℕ) → length l ≤ i → lent l i ≡ stop (refused 14 [])
+unfolding lent
+lent-out l i h = rw (le-ltb i (length l) h, lent)
+
+pub lent-part-length : (l : List ℕ) → length (lentPart l) ≤ 4_294_967_296
+lent-part-length l = simp length-take (omega arith)
+
+pub difference-on : (a b : ℕ) → b ≤ a → difference a b ≡ on (a - b)
+unfolding difference
+difference-on a b h = rw (le-leb b a h, difference)
+
+pub sum-on : (m a b : ℕ) → a + b ≤ m → sum m a b ≡ on (a + b)
+unfolding sum
+sum-on m a b h = rw (le-leb (a + b) m h, sum)

@@ -1,0 +1,2 @@
+pub mod BlockNodes
+pub mod SectionLaws

@@ -1,0 +1,13 @@
+-- `CaseTally::next_line` meets its contract: the line's number is the one that `one_more` gives.
+use borrow.Author.Needs.{needs}
+use Rattle.stored.proofs.tally.CaseTally.next_line.Statement.{statement}
+use Rattle.stored.proofs.tally.CaseTally.next_line.Tie as tie
+
+one-more-requires : tie.Need-one-more-requires
+one-more-requires c κs = search needs
+
+returns : tie.Need-returns
+returns c = rw (c .one-more .ensures)
+
+pub next-line-spec : {M : Type 1} → statement M
+next-line-spec = tie.close (tie.spec one-more-requires returns)

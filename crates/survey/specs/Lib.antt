@@ -1,0 +1,3 @@
+pub mod ByArc
+pub mod Survey
+pub mod ReachLaws
