@@ -11,9 +11,9 @@
  * Threads. There is no global state. Calls are safe at the same time from several threads as long as no buffer that one of them
  * writes is read or written by another.
  *
- * Answers. Every answer has `refusal`: 0, or a number from the table below; that of a whole load has `begun` and `finished.refusal`. A refused call has done nothing but what its comment
- * says. Fields that an answer has no value for are 0: `arc`, `node` and `tile` are filled by the refusals that carry them, the
- * other fields where nothing is refused.
+ * Answers. Every answer has `refusal`: 0, or a number from the table below. The answer of machirsun_load_in_pieces has two of them,
+ * `begun` and `finished.refusal`. A refused call has done nothing but what its comment says. Fields that an answer has no value for
+ * are 0: `arc`, `node` and `tile` are filled by the refusals that carry them, the other fields where nothing is refused.
  *
  * Nodes. The loaded table is 32-bit nodes: arc bits 8-31, accepts 7, end 6, tile 0-5. A place is the number of a node, from 0. The run from
  * a place is the nodes from there up to the first with the end bit, whatever leads to them: two runs may share their last nodes. Arc 0

@@ -48,7 +48,7 @@ impl Graph {
         self.rust.as_ref().filter(|_| paper.refusal == 0)
     }
 
-    fn described(&self) -> String {
+    fn description(&self) -> String {
         let words: Vec<String> = self.nodes.iter().map(|word| format!("{word:x}")).collect();
         format!("nodes [{}]", words.join(" "))
     }
@@ -115,7 +115,7 @@ impl Checker {
     pub fn nothing_changed(&mut self, graph: &Graph) {
         let nodes = |list: &[u32]| Outcome::default().with(Buffer::Numbers(list.to_vec()));
         let (got, expected) = (nodes(&graph.nodes), nodes(&graph.copy));
-        let input = || format!("one of all calls on {}", graph.described());
+        let input = || format!("one of all calls on {}", graph.description());
         let held_to = "its nodes unchanged";
         self.report
             .hold(Call::ToLxd, held_to, &got, &expected, &input);

@@ -201,16 +201,16 @@ fn parted(expected: &Outcome, got: &Outcome) -> (String, String) {
     for (number, (e, g)) in expected.buffers.iter().zip(&got.buffers).enumerate() {
         let (e, g) = (entries(e), entries(g));
         if e.len() != g.len() {
-            let described = |list: &[u64]| format!("buffer {number} of {} entries", list.len());
-            return (described(&e), described(&g));
+            let shown = |list: &[u64]| format!("buffer {number} of {} entries", list.len());
+            return (shown(&e), shown(&g));
         }
         if let Some(at) = (0..e.len()).find(|&at| e[at] != g[at]) {
-            let described = |list: &[u64]| format!("buffer {number}, entry {at}: {:x}", list[at]);
-            return (described(&e), described(&g));
+            let shown = |list: &[u64]| format!("buffer {number}, entry {at}: {:x}", list[at]);
+            return (shown(&e), shown(&g));
         }
     }
-    let described = |outcome: &Outcome| format!("{} buffers", outcome.buffers.len());
-    (described(expected), described(got))
+    let shown = |outcome: &Outcome| format!("{} buffers", outcome.buffers.len());
+    (shown(expected), shown(got))
 }
 
 fn entries(buffer: &Buffer) -> Vec<u64> {

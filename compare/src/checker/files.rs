@@ -40,8 +40,8 @@ impl Checker {
         let rust = rust.map(|(answer, bytes)| expected(answer, &bytes));
         let paper = expected(paper.answer, &bytes);
         self.compare(call, got, paper, rust, &|| {
-            let described = graph.described();
-            format!("{described}, {texts:x?}, {work_len} numbers and {file_len} bytes lent")
+            let nodes = graph.description();
+            format!("{nodes}, {texts:x?}, {work_len} numbers and {file_len} bytes lent")
         });
     }
 

@@ -157,11 +157,11 @@ fn rust_load_in_pieces(
     nodes: &Lent<u32>,
 ) -> Outcome {
     let mut end = 0;
-    let mut feeds = Vec::new();
+    let mut refusals = Vec::new();
     for piece in pieces.iter().take(answers.len()) {
         end += piece.len();
         let repacked = rust_side::repack(&mut file[..end].to_vec(), layout, 1);
-        feeds.push(repacked.map_or_else(|refusal| refusal.number, |()| 0));
+        refusals.push(repacked.map_or_else(|refusal| refusal.number, |()| 0));
     }
     let fitting = rust_fitting(file, layout).1;
     let loaded = rust_side::load(file, layout);
@@ -171,7 +171,7 @@ fn rust_load_in_pieces(
         state: paper.state,
         ..answered(loaded, |loaded| Answer::gives(loaded.len() as u64))
     };
-    let answers = answers.clone().after_writing(&feeds);
+    let answers = answers.clone().after_writing(&refusals);
     Outcome::of(answer).with(answers).with(nodes)
 }
 

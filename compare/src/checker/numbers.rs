@@ -39,8 +39,8 @@ impl Checker {
         let got = Outcome::of(got).with(lent).with(list);
         let paper = Outcome::of(paper.answer).with(expected).with(work);
         self.compare(Call::CountWords, got, paper, rust, &|| {
-            let described = graph.described();
-            format!("{described}, {counts_len} counts and {work_len} numbers lent")
+            let nodes = graph.description();
+            format!("{nodes}, {counts_len} counts and {work_len} numbers lent")
         });
     }
 
@@ -54,7 +54,7 @@ impl Checker {
             return;
         }
         let words = words(&graph.nodes, start as usize);
-        let input = || format!("{}, start {start}", graph.described());
+        let input = || format!("{}, start {start}", graph.description());
         let number = |value: u64| Outcome::of(Answer::gives(value));
         let (got, expected) = (number(count.into()), number(words.len() as u64));
         self.report
@@ -79,13 +79,13 @@ impl Checker {
         let paper = walks::found(walks::seek(&graph.nodes, place, tile));
         let rust = graph.asked(&paper);
         let rust = rust.map(|rust| answered(rust_side::seek(rust, place, tile), found));
-        let input = || format!("{}, place {place}, tile {tile}", graph.described());
+        let input = || format!("{}, place {place}, tile {tile}", graph.description());
         self.compare_answers(Call::Seek, got, paper, rust, &input);
     }
 
     /// A cursor at a place, and one step from there.
     pub fn cursor(&mut self, graph: &Graph, at: u32) {
-        let input = || format!("{}, at {at}", graph.described());
+        let input = || format!("{}, at {at}", graph.description());
         let got = engine::cursor_at(&graph.nodes, at);
         let paper = walks::cursor_at(&graph.nodes, at);
         self.compare_answers(Call::CursorAt, got, paper, None, &input);
@@ -108,8 +108,8 @@ impl Checker {
         let rust = rust.map(|rust| rust_side::word_index(rust, counts, start, word));
         let rust = rust.map(|answer| answered(answer, found));
         self.compare_answers(Call::WordIndex, got, paper, rust, &|| {
-            let described = graph.described();
-            format!("{described}, counts {counts:x?}, start {start}, word {word:?}")
+            let nodes = graph.description();
+            format!("{nodes}, counts {counts:x?}, start {start}, word {word:?}")
         })
     }
 
@@ -138,8 +138,8 @@ impl Checker {
         let got = Outcome::of(got).with(word);
         let paper = Outcome::of(paper).with(before.after_writing(&put));
         self.compare(Call::WordByIndex, got, paper, rust, &|| {
-            let described = graph.described();
-            format!("{described}, counts {counts:x?}, start {start}, number {number}, room {room}")
+            let nodes = graph.description();
+            format!("{nodes}, counts {counts:x?}, start {start}, number {number}, room {room}")
         });
         tiles
     }

@@ -27,7 +27,7 @@ impl Checker {
         let input = || {
             format!(
                 "{}, {all_len} and {accepting_len} sets lent",
-                graph.described()
+                graph.description()
             )
         };
         self.compare(Call::LetterBits, got, paper, rust, &input);
@@ -38,7 +38,7 @@ impl Checker {
         let paper = alpha::accepts_alpha(&graph.nodes, tally);
         let rust = graph.asked(&paper);
         let rust = rust.map(|rust| answered(rust_side::accepts_alpha(rust, tally), Answer::says));
-        let input = || format!("{}, tally {tally:?}", graph.described());
+        let input = || format!("{}, tally {tally:?}", graph.description());
         self.compare_answers(Call::AcceptsAlpha, got, paper, rust, &input);
     }
 
@@ -48,7 +48,7 @@ impl Checker {
         let rust = graph.asked(&paper);
         let rust =
             rust.map(|rust| answered(rust_side::alpha_cross_set(rust, tally), Answer::gives));
-        let input = || format!("{}, tally {tally:?}", graph.described());
+        let input = || format!("{}, tally {tally:?}", graph.description());
         self.compare_answers(Call::AlphaCrossSet, got, paper, rust, &input);
     }
 }

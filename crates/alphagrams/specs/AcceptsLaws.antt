@@ -12,12 +12,13 @@ use Rattle.laws.specs.Members.{map-in}
 use Rattle.node.specs.Nodes.{KBWG, tile, arc, accepts, isEnd}
 use Rattle.graph.specs.Runs.{Graph, node, ascends}
 use Rattle.graph.specs.Words.{Word, words, spelled}
+use Rattle.graph.specs.CountLaws.{words-end, words-on}
 use Rattle.lookup.specs.Steps.{Try, on, stop, _>>=_}
 use Rattle.lookup.specs.Walks.{stepTo}
 use Rattle.lookup.specs.StepsLaws.{lent-on}
 use Rattle.numbers.specs.Walkable.{Walkable}
-use Rattle.numbers.specs.RunWords.{own-leaf, own-arc, no-arc, words-end, words-on}
-use Rattle.numbers.specs.TileSearch.{NotIn, FoundIs, found, absent, find, in-found, alone, longer}
+use Rattle.numbers.specs.RunWords.{spelled-alone, spelled-both, spelled-arc}
+use Rattle.numbers.specs.TileSearch.{NotIn, FoundIs, found-at, found-none, find, in-found, alone, longer}
 use Rattle.letters.specs.AlphaSets.{copies, spent, ended}
 use Rattle.alphagrams.specs.Alphagrams.{alphagramFrom, ReadBelow}
 
@@ -63,24 +64,24 @@ module _ (g : Graph) (counted : List ℕ) (walk : Walkable g g counted) (up : as
   pub spelled-below : (q : ℕ) (w : Word) → ReadBelow g q w → List·Memᴰ (tile KBWG (node g q) ∷ w) (spelled KBWG W (node g q))
   spelled-below q [] a =
       split (eqb (arc KBWG (node g q)) 0)
-      (λ z. rw (own-leaf g (node g q) a z) (List·Memᴰ·head refl))
-      (λ z. rw (own-arc g (node g q) a z) (List·Memᴰ·head refl))
+      (λ z. rw (spelled-alone g (node g q) a z) (List·Memᴰ·head refl))
+      (λ z. rw (spelled-both g (node g q) a z) (List·Memᴰ·head refl))
   spelled-below q (u ∷ us) r =
       let z = ne-eqb (arc KBWG (node g q)) 0 (r .0) in
       let m = map-in (tile KBWG (node g q) ∷_) (W (arc KBWG (node g q))) (u ∷ us) (r .1) in
       split (accepts KBWG (node g q))
-      (λ a. rw (own-arc g (node g q) a z) (List·Memᴰ·tail m))
-      (λ a. rw (no-arc g (node g q) a z) m)
+      (λ a. rw (spelled-both g (node g q) a z) (List·Memᴰ·tail m))
+      (λ a. rw (spelled-arc g (node g q) a z) m)
 
   pub below-spelled : (q : ℕ) (w : Word) → List·Memᴰ (tile KBWG (node g q) ∷ w) (spelled KBWG W (node g q)) → ReadBelow g q w
-  below-spelled q [] m = split (accepts KBWG (node g q)) (λ a. a) (λ a. absurd (alone g g counted walk up (node g q) a m))
-  below-spelled q (u ∷ us) m = longer g g counted walk up (node g q) u us m
+  below-spelled q [] m = split (accepts KBWG (node g q)) (λ a. a) (λ a. absurd (alone g (node g q) a m))
+  below-spelled q (u ∷ us) m = longer g (node g q) u us m
 
   pub in-own-run : (q : ℕ) → q < length g → (w : Word) → List·Memᴰ w (spelled KBWG W (node g q)) → List·Memᴰ w (W q)
   in-own-run q h w m =
       split (isEnd KBWG (node g q))
-      (λ e. rw (words-end g (walk .steps) (walk .loopless) q h e) m)
-      (λ e. rw (words-on g (walk .steps) (walk .loopless) q h e) (Memᴰ·append-left (W (suc q)) m))
+      (λ e. rw (words-end KBWG g q h (walk .clear q) e) m)
+      (λ e. rw (words-on KBWG g q h (walk .clear q) e) (Memᴰ·append-left (W (suc q)) m))
 
   -- ---- the walk decides
   pub data Reads (p : ℕ) (w : Word) : Try Bool → Type 0 where
@@ -90,13 +91,10 @@ module _ (g : Graph) (counted : List ℕ) (walk : Walkable g g counted) (up : as
   found-reads : (p t : ℕ) (w : Word) → arc KBWG (node g p) ≢ 0 → {r : Try ℕ} → FoundIs g g counted walk up (arc KBWG (node g p)) t r
       → ((q : ℕ) → q < length g → Reads q w (ended g (walkTo g q w))) → Reads p (t ∷ w) (ended g (r >>= λ q. walkTo g q w))
   unfolding ended
-  found-reads p t w n (absent k) ih = no (λ r. k w (r .1))
-  found-reads p t w n (found {q} l e front f k) ih =
+  found-reads p t w n (found-none k) ih = no (λ r. k w (r .1))
+  found-reads p t w n (found-at {q} l e front f k) ih =
       turn (ended g (walkTo g q w)) (ih q l)
     where
-      a : ℕ
-      a = arc KBWG (node g p)
-
       turn : (x : Try Bool) → Reads q w x → Reads p (t ∷ w) x
       turn x (yes r) =
           let m = in-own-run q l (tile KBWG (node g q) ∷ w) (spelled-below q w r) in

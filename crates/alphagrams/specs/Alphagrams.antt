@@ -43,6 +43,7 @@ oneMore zero (n ∷ ns) = suc n ∷ ns
 oneMore (suc t) [] = 0 ∷ oneMore t []
 oneMore (suc t) (n ∷ ns) = n ∷ oneMore t ns
 
+-- `accepts_alpha` answers yes
 abbrev pub Accepted : Graph → List ℕ → Type 0
 Accepted g tally = acceptsAlpha g tally ≡ gives (1 ∷ [])
 

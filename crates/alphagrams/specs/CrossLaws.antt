@@ -14,23 +14,22 @@ use lib.Seq.{drop-cons, drop-drop}
 use Rattle.laws.specs.Bits.{hasBit, or-bit, power-bit}
 use Rattle.laws.specs.Cases.{split}
 use Rattle.laws.specs.Lists.{all-mem}
-use Rattle.answers.specs.Answers.{Answer, gives, nothing}
+use Rattle.answers.specs.Answers.{Answer, gives}
 use Rattle.node.specs.Nodes.{KBWG, tile, arc, accepts, isEnd}
 use Rattle.graph.specs.Runs.{Graph, node, run, ascends}
 use Rattle.graph.specs.Words.{Word, words, spelled, inOrder}
-use Rattle.graph.specs.WordsAscend.{From, BeginsWith, heads, spelled-begins, ascends-drop, words-ascend}
+use Rattle.graph.specs.WordsAscend.{From, BeginsWith, heads, spelled-begins, ascends-drop, words-nonempty}
+use Rattle.graph.specs.WordsEquation.{words-equation}
+use Rattle.graph.specs.CountLaws.{words-end, words-on}
 use Rattle.lookup.specs.Steps.{Try, on, stop}
+use Rattle.lookup.specs.StepsLaws.{on-eq}
 use Rattle.numbers.specs.Walkable.{Walkable}
-use Rattle.numbers.specs.RunWords.{words-run, words-end, words-on}
-use Rattle.numbers.specs.TileSearch.{nonempty, only-here}
+use Rattle.numbers.specs.TileSearch.{only-here}
 use Rattle.laws.specs.BitSets.{marked}
 use Rattle.letters.specs.AlphaSets.{closing, completes, along, crossCopies, crossLetters}
 use Rattle.alphagrams.specs.Alphagrams.{alphagramFrom, NeverDescends, ReadBelow}
-use Rattle.alphagrams.specs.InsertLaws.{insert, insert-low, insert-high, starts}
+use Rattle.alphagrams.specs.InsertLaws.{withLetter, with-letter-low, with-letter-high, starts}
 use Rattle.alphagrams.specs.AcceptsLaws.{spent-walk, Reads, yes, no, reads, spelled-below, below-spelled, in-own-run}
-
-on-eq : {a b : Bool} → on a ≡ on b → a ≡ b
-on-eq {a} {b} e = cc
 
 strictly : {a b : ℕ} → b ≤ a → (b ≡ a → ⊥) → b < a
 strictly {a} {b} k n = omega arith
@@ -66,25 +65,25 @@ module _ (g : Graph) (counted : List ℕ) (walk : Walkable g g counted) (up : as
   head-from : (p : ℕ) → p < length g → (w : Word) → List·Memᴰ w (W p) → From (tile KBWG (node g p)) w
   head-from p h w m =
       let first : getD (drop p g) 0 0 ≡ node g p = ap (λ l. getD l 0 0) (drop-cons g p 0 h) in
-      let all = heads KBWG W (nonempty g g counted walk up) (words-ascend KBWG g up) (drop p g) (tile KBWG (node g p)) (ascends-drop KBWG p g up)
+      let all = heads KBWG W (drop p g) (tile KBWG (node g p)) (ascends-drop KBWG p g up)
       (subst (λ v. tile KBWG (node g p) ≤ tile KBWG v) (sym first) (omega arith)) in
-      all-mem (From (tile KBWG (node g p))) (inOrder (spelled KBWG W) (run KBWG (drop p g))) w all (rw (words-run g (walk .steps) (walk .loopless) p h) at m)
+      all-mem (From (tile KBWG (node g p))) (inOrder (spelled KBWG W) (run KBWG (drop p g))) w all (rw (words-equation KBWG g p (walk .clear p)) at m)
 
   own-tile : (p a : ℕ) (w : Word) → List·Memᴰ (a ∷ w) (Sp p) → a ≡ tile KBWG (node g p)
   own-tile p a w m =
-      all-mem (BeginsWith (tile KBWG (node g p))) (Sp p) (a ∷ w) (spelled-begins KBWG W (nonempty g g counted walk up) (words-ascend KBWG g up) (node g p)) m
+      all-mem (BeginsWith (tile KBWG (node g p))) (Sp p) (a ∷ w) (spelled-begins KBWG W (node g p)) m
 
   -- ---- what a walk adds to a set
   pub record Adds (s : ℕ) (left : Word) (p : ℕ) (x : Answer) : Type 0 where
     pub set : ℕ
     pub is : x ≡ gives (set ∷ [])
-    pub bit : (u : ℕ) → Bit u set ↔ (Bit u s ⊎ List·Memᴰ (insert u left) (W p))
+    pub bit : (u : ℕ) → Bit u set ↔ (Bit u s ⊎ List·Memᴰ (withLetter u left) (W p))
 
-  adds-none : (s : ℕ) (left : Word) (p : ℕ) → ((u : ℕ) → List·Memᴰ (insert u left) (W p) → ⊥) → Adds s left p (gives (s ∷ []))
+  adds-none : (s : ℕ) (left : Word) (p : ℕ) → ((u : ℕ) → List·Memᴰ (withLetter u left) (W p) → ⊥) → Adds s left p (gives (s ∷ []))
   adds-none s left p n = record { set = s; is = refl; bit = λ u. ((λ e. inl e), (λ x. ⊎-elim (λ k. k) (λ k. absurd (n u k)) x)) }
 
   -- a node of the run whose words with the letters left are known: its tile, where b
-  module _ (s : ℕ) (left : Word) (p : ℕ) (b : Bool) (own : (u : ℕ) → List·Memᴰ (insert u left) (Sp p) ↔ ((u ≡ tile KBWG (node g p)) × (b ≡ true))) where
+  module _ (s : ℕ) (left : Word) (p : ℕ) (b : Bool) (own : (u : ℕ) → List·Memᴰ (withLetter u left) (Sp p) ↔ ((u ≡ tile KBWG (node g p)) × (b ≡ true))) where
     adds-last : W p ≡ Sp p → Adds s left p (gives (marked s (tile KBWG (node g p)) b ∷ []))
     adds-last e = record {
       set = marked s (tile KBWG (node g p)) b;
@@ -115,8 +114,7 @@ module _ (g : Graph) (counted : List ℕ) (walk : Walkable g g counted) (up : as
     }
 
   -- ---- the closing loop: no letters left
-  closing-own : (p u : ℕ) → List·Memᴰ (insert u []) (Sp p) ↔ ((u ≡ tile KBWG (node g p)) × (accepts KBWG (node g p) ≡ true))
-  unfolding insert
+  closing-own : (p u : ℕ) → List·Memᴰ (withLetter u []) (Sp p) ↔ ((u ≡ tile KBWG (node g p)) × (accepts KBWG (node g p) ≡ true))
   closing-own p u = (
     (λ m. let e = own-tile p u [] m in (e, below-spelled g counted walk up p [] (subst (λ a. List·Memᴰ (a ∷ []) (Sp p)) e m))),
     (λ k. subst (λ a. List·Memᴰ (a ∷ []) (Sp p)) (sym (k .0)) (spelled-below g counted walk up p [] (k .1))),
@@ -130,9 +128,9 @@ module _ (g : Graph) (counted : List ℕ) (walk : Walkable g g counted) (up : as
       let is : node g p ≡ v = head-eq-of-cons-eq c in
       rw (← is)
       (split (isEnd KBWG (node g p))
-      (λ x. rw (x, closing) (adds-last s [] p (accepts KBWG (node g p)) (closing-own p) (words-end g (walk .steps) (walk .loopless) p h x)))
+      (λ x. rw (x, closing) (adds-last s [] p (accepts KBWG (node g p)) (closing-own p) (words-end KBWG g p h (walk .clear p) x)))
       (λ x. rw (x, closing)
-      (adds-more s [] p (accepts KBWG (node g p)) (closing-own p) (words-on g (walk .steps) (walk .loopless) p h x)
+      (adds-more s [] p (accepts KBWG (node g p)) (closing-own p) (words-on KBWG g p h (walk .clear p) x)
       (closing-adds l (suc p) (marked s (tile KBWG (node g p)) (accepts KBWG (node g p))) (tail-eq-of-cons-eq c) (walk .steps .runs p h x)))))
 
   -- ---- words that go on from a letter m never descend
@@ -140,10 +138,10 @@ module _ (g : Graph) (counted : List ℕ) (walk : Walkable g g counted) (up : as
   Level m p = (w : Word) → List·Memᴰ w (W p) → NeverDescends (m ∷ w)
 
   level-on : (m p : ℕ) → p < length g → isEnd KBWG (node g p) ≡ false → Level m p → Level m (suc p)
-  level-on m p h e v w k = v w (rw (words-on g (walk .steps) (walk .loopless) p h e) (Memᴰ·append-right (Sp p) k))
+  level-on m p h e v w k = v w (rw (words-on KBWG g p h (walk .clear p) e) (Memᴰ·append-right (Sp p) k))
 
   some-word : (w : Word) (p : ℕ) → List·Memᴰ w (W p) → (a : ℕ) × (u : Word) × (w ≡ a ∷ u)
-  some-word [] p m = absurd (all-mem (From 0) (W p) [] (nonempty g g counted walk up p) m)
+  some-word [] p m = absurd (all-mem (From 0) (W p) [] (words-nonempty KBWG g p) m)
   some-word (a ∷ u) p m = (a, u, refl)
 
   below-arc : (p : ℕ) (w : Word) → p < length g → arc KBWG (node g p) ≢ 0 → List·Memᴰ w (W (arc KBWG (node g p))) → List·Memᴰ (tile KBWG (node g p) ∷ w) (W p)
@@ -168,63 +166,60 @@ module _ (g : Graph) (counted : List ℕ) (walk : Walkable g g counted) (up : as
     );
   }
     where
-      A : ℕ
-      A = arc KBWG (node g p)
-
-      high : (u : ℕ) → List·Memᴰ (insert u left) (W (arc KBWG (node g p))) → t ≤ u
+      high : (u : ℕ) → List·Memᴰ (withLetter u left) (W (arc KBWG (node g p))) → t ≤ u
       high u m =
           let c = starts u left in
           let d = v (c .first ∷ c .rest) (subst (λ x. List·Memᴰ x (W (arc KBWG (node g p)))) (c .is) m) .0 in
           let l = c .low in omega arith
 
-      up-to : (u : ℕ) → List·Memᴰ (insert u left) (W (arc KBWG (node g p))) → List·Memᴰ (insert u (t ∷ left)) (W p)
-      up-to u m = rw (insert-high u t left (high u m)) (subst (λ a. List·Memᴰ (a ∷ insert u left) (W p)) e (below-arc p (insert u left) h n m))
+      up-to : (u : ℕ) → List·Memᴰ (withLetter u left) (W (arc KBWG (node g p))) → List·Memᴰ (withLetter u (t ∷ left)) (W p)
+      up-to u m = rw (with-letter-high u t left (high u m)) (subst (λ a. List·Memᴰ (a ∷ withLetter u left) (W p)) e (below-arc p (withLetter u left) h n m))
 
-      down-from : (u : ℕ) → List·Memᴰ (insert u (t ∷ left)) (W p) → List·Memᴰ (insert u left) (W (arc KBWG (node g p)))
+      down-from : (u : ℕ) → List·Memᴰ (withLetter u (t ∷ left)) (W p) → List·Memᴰ (withLetter u left) (W (arc KBWG (node g p)))
       down-from u m =
           split (ltb u t)
-          (λ l. let f = head-from p h (u ∷ t ∷ left) (rw (insert-low u t left (ltb-true u t l)) at m) in let k = ltb-true u t l in absurd (omega arith))
+          (λ l. let f = head-from p h (u ∷ t ∷ left) (rw (with-letter-low u t left (ltb-true u t l)) at m) in let k = ltb-true u t l in absurd (omega arith))
           (λ l.
           let c = starts u left in
-          let m₁ = rw (insert-high u t left (ltb-false u t l)) at m in
-          let m₂ = subst (λ a. List·Memᴰ (a ∷ insert u left) (W p)) (sym e) m₁ in
-          let m₃ = only-here g g counted walk up p h (insert u left) m₂ in
+          let m₁ = rw (with-letter-high u t left (ltb-false u t l)) at m in
+          let m₂ = subst (λ a. List·Memᴰ (a ∷ withLetter u left) (W p)) (sym e) m₁ in
+          let m₃ = only-here g g counted walk up p h (withLetter u left) m₂ in
           let m₄ = subst (λ x. List·Memᴰ (tile KBWG (node g p) ∷ x) (Sp p)) (c .is) m₃ in
           subst (λ x. List·Memᴰ x (W (arc KBWG (node g p)))) (sym (c .is)) (below-spelled g counted walk up p (c .first ∷ c .rest) m₄ .1))
 
   -- no word of the run begins with a letter up to t, nor with t and more
-  past-letter : (t : ℕ) (left : Word) (p : ℕ) → p < length g → t < tile KBWG (node g p) → (u : ℕ) → List·Memᴰ (insert u (t ∷ left)) (W p) → ⊥
+  past-letter : (t : ℕ) (left : Word) (p : ℕ) → p < length g → t < tile KBWG (node g p) → (u : ℕ) → List·Memᴰ (withLetter u (t ∷ left)) (W p) → ⊥
   past-letter t left p h l u m =
       split (ltb u t)
-      (λ k. let f = head-from p h (u ∷ t ∷ left) (rw (insert-low u t left (ltb-true u t k)) at m) in let j = ltb-true u t k in omega arith)
-      (λ k. let f = head-from p h (t ∷ insert u left) (rw (insert-high u t left (ltb-false u t k)) at m) in omega arith)
+      (λ k. let f = head-from p h (u ∷ t ∷ left) (rw (with-letter-low u t left (ltb-true u t k)) at m) in let j = ltb-true u t k in omega arith)
+      (λ k. let f = head-from p h (t ∷ withLetter u left) (rw (with-letter-high u t left (ltb-false u t k)) at m) in omega arith)
 
   no-arc-there : (t : ℕ) (left : Word) (p : ℕ) → p < length g → tile KBWG (node g p) ≡ t → arc KBWG (node g p) ≡ 0
-      → (u : ℕ) → List·Memᴰ (insert u (t ∷ left)) (W p) → ⊥
+      → (u : ℕ) → List·Memᴰ (withLetter u (t ∷ left)) (W p) → ⊥
   no-arc-there t left p h e z u m =
       split (ltb u t)
-      (λ k. let f = head-from p h (u ∷ t ∷ left) (rw (insert-low u t left (ltb-true u t k)) at m) in let j = ltb-true u t k in omega arith)
+      (λ k. let f = head-from p h (u ∷ t ∷ left) (rw (with-letter-low u t left (ltb-true u t k)) at m) in let j = ltb-true u t k in omega arith)
       (λ k.
       let c = starts u left in
-      let m₁ = rw (insert-high u t left (ltb-false u t k)) at m in
-      let m₂ = subst (λ a. List·Memᴰ (a ∷ insert u left) (W p)) (sym e) m₁ in
-      let m₃ = only-here g g counted walk up p h (insert u left) m₂ in
+      let m₁ = rw (with-letter-high u t left (ltb-false u t k)) at m in
+      let m₂ = subst (λ a. List·Memᴰ (a ∷ withLetter u left) (W p)) (sym e) m₁ in
+      let m₃ = only-here g g counted walk up p h (withLetter u left) m₂ in
       below-spelled g counted walk up p (c .first ∷ c .rest) (subst (λ x. List·Memᴰ (tile KBWG (node g p) ∷ x) (Sp p)) (c .is) m₃) .0 z)
 
   -- a node below the letter t: its tile, where the letters left are read below it
   lower-own : (t : ℕ) (left : Word) (p : ℕ) (b : Bool) → tile KBWG (node g p) < t → (b ≡ true ↔ ReadBelow g p (t ∷ left))
-      → (u : ℕ) → List·Memᴰ (insert u (t ∷ left)) (Sp p) ↔ ((u ≡ tile KBWG (node g p)) × (b ≡ true))
+      → (u : ℕ) → List·Memᴰ (withLetter u (t ∷ left)) (Sp p) ↔ ((u ≡ tile KBWG (node g p)) × (b ≡ true))
   lower-own t left p b l k u = (
     (λ m. split (ltb u t)
         (λ j.
-        let m₁ = rw (insert-low u t left (ltb-true u t j)) at m in
+        let m₁ = rw (with-letter-low u t left (ltb-true u t j)) at m in
         let e = own-tile p u (t ∷ left) m₁ in
         (e, k .1 (below-spelled g counted walk up p (t ∷ left) (subst (λ a. List·Memᴰ (a ∷ t ∷ left) (Sp p)) e m₁))))
         (λ j.
-        let e = own-tile p t (insert u left) (rw (insert-high u t left (ltb-false u t j)) at m) in absurd (omega arith))),
+        let e = own-tile p t (withLetter u left) (rw (with-letter-high u t left (ltb-false u t j)) at m) in absurd (omega arith))),
     (λ x.
         let e = x .0 in
-        rw (insert-low u t left (omega arith))
+        rw (with-letter-low u t left (omega arith))
         (subst (λ a. List·Memᴰ (a ∷ t ∷ left) (Sp p)) (sym e) (spelled-below g counted walk up p (t ∷ left) (k .0 (x .1))))),
   )
 
@@ -274,8 +269,8 @@ module _ (g : Graph) (counted : List ℕ) (walk : Walkable g g counted) (up : as
       lower-adds l p s e h v u ih b r =
           let own = lower-own t left p b u (decides p h u v b r) in
           split (isEnd KBWG (node g p))
-          (λ x. rw x (adds-last s (t ∷ left) p b own (words-end g (walk .steps) (walk .loopless) p h x)))
-          (λ x. rw x (adds-more s (t ∷ left) p b own (words-on g (walk .steps) (walk .loopless) p h x)
+          (λ x. rw x (adds-last s (t ∷ left) p b own (words-end KBWG g p h (walk .clear p) x)))
+          (λ x. rw x (adds-more s (t ∷ left) p b own (words-on KBWG g p h (walk .clear p) x)
           (ih (suc p) (marked s (tile KBWG (node g p)) b) e (walk .steps .runs p h x) (level-on m p h x v))))
 
       abbrev completed : Graph → ℕ → ℕ → Try Bool → Answer

@@ -4,18 +4,16 @@ use mathlib.Core.Path.{_≡_, refl, sym, _∙_, subst}
 use mathlib.Core.Bool.{Bool, true}
 use mathlib.Core.Logic.{_≢_, _⊎_, _↔_, inl, inr, ⊎-elim}
 use mathlib.Core.List.{List, [], _∷_, List·Memᴰ}
-use mathlib.Core.Option.{none}
 use Prim.Native.Nat.{ℕ, zero-le, _≤_, _<_}
 use native.Mathlib.Omega.{arith}
-use borrow.Author.Tests.{eqb-true, eqb-false, le-ltb}
+use borrow.Author.Tests.{eqb-true, eqb-false}
 use lib.Dec.{eqb}
 use lib.ListN.{length, drop}
 use lib.Seq.{take-all, take-length}
 use Rattle.laws.specs.Bits.{hasBit, power-bit}
 use Rattle.laws.specs.Cases.{split}
 use Rattle.base.specs.Numbers.{flag}
-use Rattle.answers.specs.Answers.{gives, firstOf}
-use Rattle.answers.specs.RowLaws.{row-passes, row-ends}
+use Rattle.answers.specs.Answers.{gives}
 use Rattle.node.specs.Nodes.{KBWG, arc}
 use Rattle.graph.specs.Runs.{Graph, node, ascends}
 use Rattle.graph.specs.Words.{words, count}
@@ -26,9 +24,10 @@ use Rattle.lookup.specs.StepsLaws.{lent-on}
 use Rattle.numbers.specs.Walkable.{Walkable}
 use Rattle.numbers.specs.LentLaws.{walkable}
 use Rattle.graph.specs.TableLaws.{table-length}
-use Rattle.letters.specs.AlphaSets.{tallyRow, completes, crossFrom, acceptsAlpha, crossSet}
+use Rattle.letters.specs.AlphaSets.{completes, crossFrom, acceptsAlpha, crossSet}
+use Rattle.letters.specs.TallyLaws.{tally-fits}
 use Rattle.alphagrams.specs.Alphagrams.{alphagram, ReadBelow, AlphagramLexicon, oneMore, Accepted, AlphaMeans}
-use Rattle.alphagrams.specs.InsertLaws.{insert, starts, one-more, one-more-short}
+use Rattle.alphagrams.specs.InsertLaws.{withLetter, starts, alphagram-one-more, one-more-short}
 use Rattle.alphagrams.specs.AcceptsLaws.{Reads, yes, no}
 use Rattle.alphagrams.specs.CrossLaws.{Level, letters-adds, completes-reads}
 
@@ -45,33 +44,30 @@ module _ (g : Graph) (fits : Fit g) (loopless : Loopless g) (up : ascends KBWG g
   some-node : 0 < length g
   some-node = let m = fits .two in omega arith
 
-  tally-fits : (tally : List ℕ) → length tally ≤ 64 → firstOf (tallyRow tally) ≡ none
-  tally-fits tally short = row-passes _ _ _ (le-ltb 64 (length tally) short) ∙ row-ends
-
   -- ---- `accepts_alpha`, on any such graph
-  data Accepts (tally : List ℕ) : Type 0 where
-    accepted : Accepted g tally → ReadBelow g 0 (alphagram tally) → Accepts tally
-    rejected : acceptsAlpha g tally ≡ gives (0 ∷ []) → (ReadBelow g 0 (alphagram tally) → ⊥) → Accepts tally
+  data AlphaDecided (tally : List ℕ) : Type 0 where
+    accepted : Accepted g tally → ReadBelow g 0 (alphagram tally) → AlphaDecided tally
+    rejected : acceptsAlpha g tally ≡ gives (0 ∷ []) → (ReadBelow g 0 (alphagram tally) → ⊥) → AlphaDecided tally
 
-  accepts : (tally : List ℕ) → length tally ≤ 64 → Accepts tally
+  alpha-decided : (tally : List ℕ) → length tally ≤ 64 → AlphaDecided tally
   unfolding acceptsAlpha
-  accepts tally short = by-walk (completes g tally 1 0) refl (completes-reads g (counts g) walk up tally 1 0 some-node)
+  alpha-decided tally short = by-walk (completes g tally 1 0) refl (completes-reads g (counts g) walk up tally 1 0 some-node)
     where
       says : {b : Bool} → completes g tally 1 0 ≡ on b → acceptsAlpha g tally ≡ gives (flag b ∷ [])
       says e = rw (tally-fits tally short, whole, e)
 
-      by-walk : (x : Try Bool) → completes g tally 1 0 ≡ x → Reads g (counts g) walk up 0 (alphagram tally) x → Accepts tally
+      by-walk : (x : Try Bool) → completes g tally 1 0 ≡ x → Reads g (counts g) walk up 0 (alphagram tally) x → AlphaDecided tally
       by-walk x e (yes r) = accepted (says e) r
       by-walk x e (no r) = rejected (says e) r
 
   differ : (tally : List ℕ) → Accepted g tally → acceptsAlpha g tally ≡ gives (0 ∷ []) → ⊥
   differ tally a b = let z : _≡_ {A = ℕ} 0 1 = let e : gives (0 ∷ []) ≡ gives (1 ∷ []) = sym b ∙ a in cc in omega arith
 
-  means : (tally : List ℕ) → Accepts tally → Accepted g tally ↔ ReadBelow g 0 (alphagram tally)
+  means : (tally : List ℕ) → AlphaDecided tally → Accepted g tally ↔ ReadBelow g 0 (alphagram tally)
   means tally (accepted a r) = ((λ z. r), (λ z. a))
   means tally (rejected a r) = ((λ z. absurd (differ tally z a)), (λ z. absurd (r z)))
 
-  answered : (tally : List ℕ) → Accepts tally → Accepted g tally ⊎ (acceptsAlpha g tally ≡ gives (0 ∷ []))
+  answered : (tally : List ℕ) → AlphaDecided tally → Accepted g tally ⊎ (acceptsAlpha g tally ≡ gives (0 ∷ []))
   answered tally (accepted a r) = inl a
   answered tally (rejected a r) = inr a
 
@@ -85,8 +81,8 @@ module _ (g : Graph) (fits : Fit g) (loopless : Loopless g) (up : ascends KBWG g
     no-bit t h e = let z = eqb-true t 0 (sym (power-bit 0 t) ∙ e) in omega arith
 
     -- a word with a letter more has a first letter, so it is read below node 0 by the arc
-    read-start : (t : ℕ) → ReadBelow g 0 (insert t (alphagram tally))
-        ↔ ((arc KBWG (node g 0) ≢ 0) × List·Memᴰ (insert t (alphagram tally)) (words KBWG g (arc KBWG (node g 0))))
+    read-start : (t : ℕ) → ReadBelow g 0 (withLetter t (alphagram tally))
+        ↔ ((arc KBWG (node g 0) ≢ 0) × List·Memᴰ (withLetter t (alphagram tally)) (words KBWG g (arc KBWG (node g 0))))
     read-start t =
         let s = starts t (alphagram tally) in (
           (λ r. let k = subst (ReadBelow g 0) (s .is) r in (k .0, subst (λ w. List·Memᴰ w (words KBWG g (arc KBWG (node g 0)))) (sym (s .is)) (k .1))),
@@ -96,7 +92,7 @@ module _ (g : Graph) (fits : Fit g) (loopless : Loopless g) (up : ascends KBWG g
     record Cross : Type 0 where
       set : ℕ
       says : crossFrom g tally ≡ gives (set ∷ [])
-      means : (t : ℕ) → 0 < t → hasBit set t ≡ true ↔ ReadBelow g 0 (insert t (alphagram tally))
+      means : (t : ℕ) → 0 < t → hasBit set t ≡ true ↔ ReadBelow g 0 (withLetter t (alphagram tally))
 
     cross : Cross
     unfolding crossFrom
@@ -122,14 +118,14 @@ module _ (g : Graph) (fits : Fit g) (loopless : Loopless g) (up : ascends KBWG g
     pub alpha-means : AlphaMeans g tally
     unfolding crossSet
     alpha-means = record {
-      answers = answered tally (accepts tally short);
-      accepts-means = means tally (accepts tally short);
+      answers = answered tally (alpha-decided tally short);
+      accepts-means = means tally (alpha-decided tally short);
       set = cross .set;
       cross-says = rw (tally-fits tally short, whole) (cross .says);
       cross-means = λ t h k.
           let c = cross .means t h in
-          let m = means (oneMore t tally) (accepts (oneMore t tally) (one-more-short t tally k short)) in
-          let e = one-more t tally h in (
+          let m = means (oneMore t tally) (alpha-decided (oneMore t tally) (one-more-short t tally k short)) in
+          let e = alphagram-one-more t tally h in (
             (λ x. m .1 (subst (ReadBelow g 0) (sym e) (c .0 x))),
             (λ x. c .1 (subst (ReadBelow g 0) e (m .0 x))),
           );

@@ -1,1 +1,2 @@
-pub mod RunStepsLaws
+-- What the proofs of several functions use.
+mod RunStepsLaws

@@ -7,7 +7,7 @@ use lib.ListN.{length, length-append}
 use lib.Seq.{sets, length-sets}
 use Rattle.laws.specs.ListWrites.{sets-append}
 
--- of `all`, which goes to `at` over the bytes `before`, `rest` is left, which goes to w over the bytes now
+-- `all` is written at `at` over `before`; what is left of it is `rest`, to be written at w over `now`
 pub record Putting (all before : List ℕ) (at : ℕ) (rest now : List ℕ) (w : ℕ) : Type 0 where
   pub size : length now ≡ length before
   pub place : w + length rest ≡ at + length all

@@ -39,21 +39,21 @@ module _ (y : BitLayout) where
   sumAt g from p = flag (accepts y (node g p)) + byArc from (node g p) + byRun from (node g p) p
 
   module _ (from : ℕ → ℕ) (v : ℕ) where
-    pub no-arc : arc y v ≡ 0 → byArc from v ≡ 0
+    pub arc-words-none : arc y v ≡ 0 → byArc from v ≡ 0
     unfolding byArc
-    no-arc z = rw (eq-eqb _ _ z, byArc)
+    arc-words-none z = rw (eq-eqb _ _ z, byArc)
 
-    pub some-arc : arc y v ≢ 0 → byArc from v ≡ from (arc y v)
+    pub arc-words : arc y v ≢ 0 → byArc from v ≡ from (arc y v)
     unfolding byArc
-    some-arc n = rw (ne-eqb _ _ n, byArc)
+    arc-words n = rw (ne-eqb _ _ n, byArc)
 
-    pub at-end : isEnd y v ≡ true → (p : ℕ) → byRun from v p ≡ 0
+    pub run-words-none : isEnd y v ≡ true → (p : ℕ) → byRun from v p ≡ 0
     unfolding byRun
-    at-end e p = rw (e, byRun)
+    run-words-none e p = rw (e, byRun)
 
-    pub not-at-end : isEnd y v ≡ false → (p : ℕ) → byRun from v p ≡ from (suc p)
+    pub run-words : isEnd y v ≡ false → (p : ℕ) → byRun from v p ≡ from (suc p)
     unfolding byRun
-    not-at-end e p = rw (e, byRun)
+    run-words e p = rw (e, byRun)
 
   pub length-spelled : (f : ℕ → List Word) (v : ℕ) → length (spelled y f v) ≡ flag (accepts y v) + byArc (λ q. length (f q)) v
   unfolding spelled byArc
@@ -77,8 +77,8 @@ module _ (y : BitLayout) where
     count-equation =
         let l = length-spelled (words y g) (node g p) in
         split (isEnd y (node g p))
-        (λ e. let r = at-end (count y g) (node g p) e p in ap length (words-end e) ∙ omega arith)
-        (λ e. let r = not-at-end (count y g) (node g p) e p in
+        (λ e. let r = run-words-none (count y g) (node g p) e p in ap length (words-end e) ∙ omega arith)
+        (λ e. let r = run-words (count y g) (node g p) e p in
         ap length (words-on e) ∙ length-append (spelled y (words y g) (node g p)) (words y g (suc p)) ∙ omega arith)
 
   -- a sum of capped counts, capped

@@ -24,6 +24,7 @@ table (suc n) f = f zero ∷ table n (λ k. f (suc k))
 abbrev pub counts : Graph → List ℕ
 counts g = table (length g) (count KBWG g)
 
+-- "no loop"
 abbrev pub Loopless : Graph → Type 0
 Loopless g = (q : ℕ) → Loops KBWG g q → ⊥
 

@@ -13,6 +13,7 @@ module _ (y : BitLayout) where
     by-arc : p < length g → arc y (node g p) ≢ 0 → Step g p (arc y (node g p))
     by-run : p < length g → isEnd y (node g p) ≡ false → Step g p (suc p)
 
+  -- "can be reached": by one step or more
   pub data Reach (g : Graph) : ℕ → ℕ → Type 0 where
     once : {p q : ℕ} → Step g p q → Reach g p q
     then : {p q r : ℕ} → Step g p q → Reach g q r → Reach g p r

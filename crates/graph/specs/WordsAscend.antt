@@ -25,11 +25,12 @@ pub ascending-once : (ws : List Word) → Ascending ws → NoRepeats ws
 ascending-once [] a = tt
 ascending-once (w ∷ ws) a = ((λ m. ≺-differ (all-mem (w ≺_) ws w (a .0) m) refl), ascending-once ws (a .1))
 
--- a word's first tile: at least t, or t
+-- the word has a first tile, and it is at least t
 abbrev pub From : ℕ → Word → Type 0
 From t [] = ⊥
 From t (a ∷ u) = t ≤ a
 
+-- the word has a first tile, and it is t
 abbrev pub BeginsWith : ℕ → Word → Type 0
 BeginsWith t [] = ⊥
 BeginsWith t (a ∷ u) = a ≡ t
@@ -38,15 +39,15 @@ begins-map : (t : ℕ) (ws : List Word) → All (BeginsWith t) (map (t ∷_) ws)
 begins-map t [] = tt
 begins-map t (w ∷ ws) = (refl, begins-map t ws)
 
-below : (t : ℕ) (x y : Word) → BeginsWith t x → From (suc t) y → x ≺ y
-below t (a ∷ u) (b ∷ v) h k = let l : a < b = omega arith in lower l
-below t [] y h k = absurd h
-below t (a ∷ u) [] h k = absurd k
+lower-first : (t : ℕ) (x y : Word) → BeginsWith t x → From (suc t) y → x ≺ y
+lower-first t (a ∷ u) (b ∷ v) h k = let l : a < b = omega arith in lower l
+lower-first t [] y h k = absurd h
+lower-first t (a ∷ u) [] h k = absurd k
 
 ascending-append : (t : ℕ) (xs ys : List Word) → All (BeginsWith t) xs → All (From (suc t)) ys → Ascending xs → Ascending ys → Ascending (xs ++ ys)
 ascending-append t [] ys h k a b = b
 ascending-append t (x ∷ xs) ys h k a b =
-    (all-append (x ≺_) xs ys (a .0) (all-weaken (From (suc t)) (x ≺_) (λ y f. below t x y (h .0) f) ys k), ascending-append t xs ys (h .1) k (a .1) b)
+    (all-append (x ≺_) xs ys (a .0) (all-weaken (From (suc t)) (x ≺_) (λ y f. lower-first t x y (h .0) f) ys k), ascending-append t xs ys (h .1) k (a .1) b)
 
 all-under : (t : ℕ) (w : Word) (ws : List Word) → All (w ≺_) ws → All ((t ∷ w) ≺_) (map (t ∷_) ws)
 all-under t w [] h = tt
@@ -70,24 +71,13 @@ module _ (y : BitLayout) where
   unfolding ascends
   ascends-head v w l a e = ltb-true (tile y v) (tile y w) (rw e at (and-left (isEnd y v || ltb (tile y v) (tile y w)) (ascends y (w ∷ l)) a))
 
-  module _ (from : ℕ → List Word) (nonempty : (q : ℕ) → All (From 0) (from q)) (sorted : (q : ℕ) → Ascending (from q)) where
+  module _ (from : ℕ → List Word) where
     pub spelled-begins : (v : ℕ) → All (BeginsWith (tile y v)) (spelled y from v)
     unfolding spelled
     spelled-begins v =
         split (accepts y v)
         (λ a. split (eqb (arc y v) 0) (λ z. rw (a, z, spelled) (refl, tt)) (λ z. rw (a, z, spelled) (refl, begins-map (tile y v) (from (arc y v)))))
         (λ a. split (eqb (arc y v) 0) (λ z. rw (a, z, spelled) tt) (λ z. rw (a, z, spelled) (begins-map (tile y v) (from (arc y v)))))
-
-    spelled-ascending : (v : ℕ) → Ascending (spelled y from v)
-    unfolding spelled
-    spelled-ascending v =
-        split (accepts y v)
-        (λ a. split (eqb (arc y v) 0)
-        (λ z. rw (a, z, spelled) (tt, tt))
-        (λ z. rw (a, z, spelled) (alone-first (tile y v) (from (arc y v)) (nonempty (arc y v)), ascending-map (tile y v) (from (arc y v)) (sorted (arc y v)))))
-        (λ a. split (eqb (arc y v) 0)
-        (λ z. rw (a, z, spelled) tt)
-        (λ z. rw (a, z, spelled) (ascending-map (tile y v) (from (arc y v)) (sorted (arc y v)))))
 
     at-least : (t : ℕ) (v : ℕ) → t ≤ tile y v → (w : Word) → BeginsWith (tile y v) w → From t w
     at-least t v h [] b = b
@@ -112,20 +102,37 @@ module _ (y : BitLayout) where
         rw (e, run) (all-append (From t) (spelled y from v) (inOrder (spelled y from) (run y (w ∷ l))) (one-head t v h)
         (heads (w ∷ l) t (ascends-tail v w l a) (omega arith))))
 
-    run-ascending : (l : Graph) → ascends y l ≡ true → Ascending (inOrder (spelled y from) (run y l))
-    unfolding run inOrder ascends
-    run-ascending [] a = tt
-    run-ascending (v ∷ []) a =
-        split (isEnd y v)
-        (λ e. rw (e, run) (ascending-append (tile y v) (spelled y from v) [] (spelled-begins v) tt (spelled-ascending v) tt))
-        (λ e. rw (e, run) (ascending-append (tile y v) (spelled y from v) [] (spelled-begins v) tt (spelled-ascending v) tt))
-    run-ascending (v ∷ w ∷ l) a =
-        split (isEnd y v)
-        (λ e. rw (e, run) (ascending-append (tile y v) (spelled y from v) [] (spelled-begins v) tt (spelled-ascending v) tt))
-        (λ e.
-        let lt : tile y v < tile y w = ascends-head v w l a e in
-        rw (e, run) (ascending-append (tile y v) (spelled y from v) (inOrder (spelled y from) (run y (w ∷ l))) (spelled-begins v)
-        (heads (w ∷ l) (suc (tile y v)) (ascends-tail v w l a) lt) (spelled-ascending v) (run-ascending (w ∷ l) (ascends-tail v w l a))))
+    all-nonempty : (l : List ℕ) → All (From 0) (inOrder (spelled y from) l)
+    unfolding inOrder
+    all-nonempty [] = tt
+    all-nonempty (v ∷ l) = all-append (From 0) (spelled y from v) (inOrder (spelled y from) l) (one-head 0 v zero-le) (all-nonempty l)
+
+    module _ (nonempty : (q : ℕ) → All (From 0) (from q)) (sorted : (q : ℕ) → Ascending (from q)) where
+      spelled-ascending : (v : ℕ) → Ascending (spelled y from v)
+      unfolding spelled
+      spelled-ascending v =
+          split (accepts y v)
+          (λ a. split (eqb (arc y v) 0)
+          (λ z. rw (a, z, spelled) (tt, tt))
+          (λ z. rw (a, z, spelled) (alone-first (tile y v) (from (arc y v)) (nonempty (arc y v)), ascending-map (tile y v) (from (arc y v)) (sorted (arc y v)))))
+          (λ a. split (eqb (arc y v) 0)
+          (λ z. rw (a, z, spelled) tt)
+          (λ z. rw (a, z, spelled) (ascending-map (tile y v) (from (arc y v)) (sorted (arc y v)))))
+
+      run-ascending : (l : Graph) → ascends y l ≡ true → Ascending (inOrder (spelled y from) (run y l))
+      unfolding run inOrder ascends
+      run-ascending [] a = tt
+      run-ascending (v ∷ []) a =
+          split (isEnd y v)
+          (λ e. rw (e, run) (ascending-append (tile y v) (spelled y from v) [] (spelled-begins v) tt (spelled-ascending v) tt))
+          (λ e. rw (e, run) (ascending-append (tile y v) (spelled y from v) [] (spelled-begins v) tt (spelled-ascending v) tt))
+      run-ascending (v ∷ w ∷ l) a =
+          split (isEnd y v)
+          (λ e. rw (e, run) (ascending-append (tile y v) (spelled y from v) [] (spelled-begins v) tt (spelled-ascending v) tt))
+          (λ e.
+          let lt : tile y v < tile y w = ascends-head v w l a e in
+          rw (e, run) (ascending-append (tile y v) (spelled y from v) (inOrder (spelled y from) (run y (w ∷ l))) (spelled-begins v)
+          (heads (w ∷ l) (suc (tile y v)) (ascends-tail v w l a) lt) (spelled-ascending v) (run-ascending (w ∷ l) (ascends-tail v w l a))))
 
   pub ascends-drop : (p : ℕ) (g : Graph) → ascends y g ≡ true → ascends y (drop p g) ≡ true
   unfolding ascends
@@ -134,16 +141,23 @@ module _ (y : BitLayout) where
   ascends-drop (suc p) (v ∷ []) a = ascends-drop p [] refl
   ascends-drop (suc p) (v ∷ w ∷ l) a = ascends-drop p (w ∷ l) (ascends-tail v w l a)
 
+  -- every word has a tile
+  pub within-nonempty : (k : ℕ) (g : Graph) (p : ℕ) → All (From 0) (wordsWithin y k g p)
+  unfolding wordsWithin
+  within-nonempty zero g p = tt
+  within-nonempty (suc k) g p = all-nonempty (λ q. wordsWithin y k g q) (run y (drop p g))
+
+  pub words-nonempty : (g : Graph) (p : ℕ) → All (From 0) (words y g p)
+  unfolding words
+  words-nonempty g p = within-nonempty (length g) g p
+
   module _ (g : Graph) (a : ascends y g ≡ true) where
-    pub both : (k : ℕ) → ((p : ℕ) → All (From 0) (wordsWithin y k g p)) × ((p : ℕ) → Ascending (wordsWithin y k g p))
+    within-ascend : (k p : ℕ) → Ascending (wordsWithin y k g p)
     unfolding wordsWithin
-    both zero = ((λ p. tt), (λ p. tt))
-    both (suc k) =
-        let h = both k in (
-          (λ p. heads (λ q. wordsWithin y k g q) (h .0) (h .1) (drop p g) 0 (ascends-drop p g a) zero-le),
-          (λ p. run-ascending (λ q. wordsWithin y k g q) (h .0) (h .1) (drop p g) (ascends-drop p g a)),
-        )
+    within-ascend zero p = tt
+    within-ascend (suc k) p =
+        run-ascending (λ q. wordsWithin y k g q) (within-nonempty k g) (within-ascend k) (drop p g) (ascends-drop p g a)
 
     pub words-ascend : (p : ℕ) → Ascending (words y g p)
     unfolding words
-    words-ascend p = both (length g) .1 p
+    words-ascend p = within-ascend (length g) p

@@ -3,7 +3,7 @@ use mathlib.Core.Path.{_≡_, refl, _∙_}
 use mathlib.Core.Bool.{Bool, true, false}
 use mathlib.Core.Logic.{_≢_}
 use mathlib.Core.List.{List, [], _∷_}
-use mathlib.Core.Option.{none, some}
+use mathlib.Core.Option.{some}
 use Prim.Native.Nat.{ℕ, zero, suc, _+_, _-_, _≤_, _<_}
 use native.Mathlib.Omega.{arith}
 use native.Mathlib.Numerals.{add-one}
@@ -11,7 +11,7 @@ use borrow.Author.Tests.{eq-eqb, ne-eqb, lt-ltb, le-ltb}
 use lib.ListN.{length, getD, drop, drop-of-length-le}
 use lib.Seq.{drop-cons}
 use Rattle.answers.specs.Answers.{Answer, gives, nothing, refused, firstOf}
-use Rattle.answers.specs.RowLaws.{row-refuses, row-passes, row-ends}
+use Rattle.answers.specs.RowLaws.{row-refuses}
 use Rattle.node.specs.Nodes.{KBWG, tile, arc, accepts, isEnd}
 use Rattle.graph.specs.Runs.{Graph, node}
 use Rattle.lookup.specs.Steps.{Try, on, stop, _>>=_, answer}
@@ -21,12 +21,8 @@ use Rattle.laws.specs.BitSets.{marked}
 use Rattle.letters.specs.AlphaSets.{tallyRow, copies, spent, ended, completes, closing, along, crossCopies, crossLetters, crossFrom}
 
 -- ---- the row
-module _ (tally : List ℕ) where
-  pub tally-long : 64 < length tally → firstOf (tallyRow tally) ≡ some (refused 17 [])
-  tally-long h = row-refuses _ _ _ (lt-ltb 64 (length tally) h)
-
-  pub tally-fits : length tally ≤ 64 → firstOf (tallyRow tally) ≡ none
-  tally-fits h = row-passes _ _ _ (le-ltb 64 (length tally) h) ∙ row-ends
+pub tally-long : (tally : List ℕ) → 64 < length tally → firstOf (tallyRow tally) ≡ some (refused 17 [])
+tally-long tally h = row-refuses _ _ _ (lt-ltb 64 (length tally) h)
 
 -- ---- the closing loop
 module _ (g : Graph) (p s : ℕ) where

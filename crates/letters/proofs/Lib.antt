@@ -1,2 +1,3 @@
-pub mod RunFilling
-pub mod AlphaLaws
+-- What the proofs of several functions use.
+mod RunFilling
+mod AlphaLaws

@@ -91,5 +91,6 @@ unfoldable pub acceptsAlpha : Graph → List ℕ → Answer
 acceptsAlpha g tally =
     orElse (firstOf (tallyRow tally)) (answer (completes (lentPart g) tally 1 0 >>= λ b. on (gives (flag b ∷ []))))
 
+-- the row "17+ tally over 64", then the walk
 unfoldable pub crossSet : Graph → List ℕ → Answer
 crossSet g tally = orElse (firstOf (tallyRow tally)) (crossFrom (lentPart g) tally)

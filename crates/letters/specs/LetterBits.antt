@@ -44,6 +44,7 @@ abbrev pub lettered : Option Answer → Graph → List ℕ → List ℕ → Lett
 lettered (some r) g l a = record { answer = r; all = l; accepting = a }
 lettered none g l a = record { answer = gives []; all = filled every g l; accepting = filled (accepts KBWG) g a }
 
+-- "`compute_letter_bits`": the row, then both lists
 unfoldable pub letterBits : Graph → List ℕ → List ℕ → Lettered
 letterBits g l a = lettered (firstOf (bitsRow g (length l) (length a))) g l a
 

@@ -1,3 +1,4 @@
 pub mod LetterBits
 pub mod AlphaSets
+pub mod TallyLaws
 pub mod Said

@@ -1,6 +1,7 @@
 -- What the proofs of several functions use.
 mod NextNode
 mod InPlace
+mod SameLayoutLaws
 mod BeginRow
 mod Ready
 mod SoundRow

@@ -1,6 +1,5 @@
 pub mod Repacking
 pub mod RepackingLaws
-pub mod SameLayoutLaws
 pub mod Loading
 pub mod BeginLaws
 pub mod StateLaws

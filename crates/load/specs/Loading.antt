@@ -62,6 +62,7 @@ beginRow announced lentNodes =
     ∷ (ltb lentNodes (max (announced / 4) 2), refusing 3 [])
     ∷ []
 
+-- "unused places 0"
 unfoldable pub zeros : List ℕ → Bool
 zeros [] = true
 zeros (b ∷ bs) = eqb b 0 && zeros bs
@@ -75,6 +76,7 @@ soundRow s lentNodes =
     ∷ (not (zeros (drop (s .«held_count») (s .held))), refusing 4 [])
     ∷ []
 
+-- "a refusal 6 once met"
 abbrev pub keptMisfit : KeptRefusal → Option Misfit
 keptMisfit Nothing = none
 keptMisfit (DoesNotFit m) = some m
@@ -84,6 +86,7 @@ abbrev pub keptRow : Option Misfit → Row
 keptRow none = []
 keptRow (some m) = (true, misfitRefusal m) ∷ []
 
+-- the row "feed, finish"
 abbrev pub stateRow : Loader → ℕ → Row
 stateRow s lentNodes = soundRow s lentNodes ++ keptRow (keptMisfit (s .kept))
 
@@ -107,6 +110,7 @@ abbrev pub begins : Option Answer → ℕ → Layout → Begins
 begins none announced layout = record { answer = gives []; state = freshLoader announced layout }
 begins (some r) announced layout = record { answer = r; state = freshLoader 0 layout }
 
+-- "begin gives a state, and each feed hands a new one back"
 unfoldable pub begin : ℕ → Layout → ℕ → Begins
 begin announced layout lentNodes = begins (firstOf (beginRow announced lentNodes)) announced layout
 
@@ -121,6 +125,7 @@ abbrev pub stateAt : Option Misfit → ℕ → Layout → ℕ → List ℕ → L
 stateAt none announced layout i bytes = holding announced layout (4 * i + length bytes) (partNode bytes)
 stateAt (some m) announced layout i bytes = stopped announced layout m
 
+-- the first node that does not fit among the bytes
 abbrev pub misfitIn : Layout → ℕ → List ℕ → Option Misfit
 misfitIn layout i bytes = firstMisfit (bitLayout layout) KBWG i (wholeNodes bytes)
 
@@ -135,6 +140,7 @@ nodesAfter layout i bytes nodes = sets nodes i (fitting (bitLayout layout) KBWG 
 abbrev pub fresh : Loader → List ℕ → List ℕ
 fresh s piece = take (s .«held_count») (s .held) ++ piece
 
+-- "After 4 or 5 the state and the nodes are as before the call"; after a kept 6 too, since "later bytes are ignored"
 abbrev pub feeds : Option Answer → Loader → Graph → List ℕ → Feeds
 feeds (some r) s nodes piece = record { answer = r; state = s; nodes = nodes }
 feeds none s nodes piece =
@@ -144,6 +150,7 @@ feeds none s nodes piece =
       nodes = nodesAfter (s .layout) (s .taken / 4) (fresh s piece) nodes;
     }
 
+-- "each feed hands a new one back"
 unfoldable pub feed : Loader → Graph → List ℕ → Feeds
 feed s nodes piece = feeds (firstOf (feedRow s (length nodes) piece)) s nodes piece
 
@@ -158,5 +165,6 @@ finishes (some r) one s nodes = record { answer = r; nodes = nodes }
 finishes none true s nodes = record { answer = gives (2 ∷ []); nodes = set nodes 1 (getD nodes 0 0) }
 finishes none false s nodes = record { answer = gives (s .announced / 4 ∷ []); nodes = nodes }
 
+-- "Finish judges the nodes and answers their number N."
 unfoldable pub finish : Loader → Graph → Finishes
 finish s nodes = finishes (firstOf (finishRow s nodes)) (eqb (s .announced) 4) s nodes

@@ -33,6 +33,7 @@ module _ (old new : BitLayout) where
 abbrev pub misfitRefusal : Misfit → Refusal
 misfitRefusal m = refusing 6 (m .node ∷ m .tile ∷ m .«arc_index» ∷ [])
 
+-- the row "repacking: 6"
 abbrev pub misfitAnswer : Option Misfit → Answer
 misfitAnswer none = gives []
 misfitAnswer (some m) = asAnswer (misfitRefusal m)

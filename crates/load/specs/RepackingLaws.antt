@@ -1,4 +1,4 @@
--- The first of some nodes: it fits and the repacking goes on, or it stops it.
+-- Repacking by the first node: it fits and the rest follows, or it is the first misfit.
 use mathlib.Core.Path.{_≡_, sym, ap, _∙_}
 use mathlib.Core.Bool.{true, false}
 use mathlib.Core.List.{List, [], _∷_}

@@ -1,5 +1,6 @@
-pub mod OutOfRange
-pub mod RunSearchLaws
-pub mod WordIndexLaws
-pub mod WordByIndexLaws
-pub mod Buffer
+-- What the proofs of several functions use.
+mod OutOfRange
+mod RunSearchLaws
+mod WordIndexLaws
+mod WordByIndexLaws
+mod Buffer

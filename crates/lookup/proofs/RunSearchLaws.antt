@@ -11,11 +11,11 @@ use lib.Dec.{eqb, ltb}
 use lib.ListN.{length, drop, drop-of-length-le, length-drop}
 use lib.Seq.{drop-cons}
 use Rattle.laws.specs.Cases.{split}
-use Rattle.answers.specs.Answers.{Answer, nothing, refused}
+use Rattle.answers.specs.Answers.{nothing, refused}
 use Rattle.node.specs.Nodes.{KBWG, tile, arc, isEnd}
 use Rattle.graph.specs.Runs.{Graph, node}
 use Rattle.lookup.specs.Steps.{on, stop, _>>=_}
-use Rattle.lookup.specs.StepsLaws.{lent-on, lent-out}
+use Rattle.lookup.specs.StepsLaws.{on-eq, stop-on, lent-on, lent-out}
 use Rattle.lookup.specs.Walks.{findIn, stepTo}
 
 -- ---- at a node of the run
@@ -39,12 +39,6 @@ module _ (g : Graph) (i t : ℕ) where
       find-next e = rw add-one (rw (drop-cons g i 0 h) (rw (ne-eqb (tile KBWG (node g i)) t n, findIn) (rw e)))
 
 -- ---- a node that is found is lent
-on-eq : {a b : ℕ} → on a ≡ on b → a ≡ b
-on-eq {a} {b} e = cc
-
-stop-on : {C : Type 0} {r : Answer} {q : ℕ} → stop r ≡ on q → C
-stop-on {C} {r} {q} e = let z : _≡_ {A = ℕ} 0 1 = cc in absurd (omega arith)
-
 found-between : (vs : Graph) (p t q : ℕ) → findIn vs p t ≡ on q → (p ≤ q) × (q < p + length vs)
 unfolding findIn
 found-between [] p t q e = stop-on e

@@ -1,6 +1,6 @@
 -- The walk from a word to its number: one tile on, and tile by tile.
-use mathlib.Core.Path.{_≡_, refl, _∙_}
-use mathlib.Core.Bool.{Bool, true, false, _&&_, not}
+use mathlib.Core.Path.{_≡_, _∙_}
+use mathlib.Core.Bool.{true, false, _&&_, not, and-false}
 use mathlib.Core.Logic.{_≢_}
 use mathlib.Core.List.{List, [], _∷_}
 use Prim.Native.Nat.{ℕ, suc, _+_, _-_, _≤_, _<_}
@@ -68,10 +68,6 @@ module _ {limit : ℕ} {g : Graph} {counts : List ℕ} {p idx : ℕ} (b : Begun 
     passed-to l k = passed-search ∙ rw e (rw (lent-on counts q l) (rw (difference-on (idx + getD counts p 0) (getD counts q 0) k)))
 
 -- ---- tile by tile
-and-false : (a : Bool) → a && false ≡ false
-and-false true = refl
-and-false false = refl
-
 module _ (limit : ℕ) (g : Graph) (counts : List ℕ) (p idx : ℕ) (w : Word) (i : ℕ) where
   pub index-end : length w ≤ i → indexFrom limit g counts p idx (drop i w) ≡ nothing
   unfolding indexFrom

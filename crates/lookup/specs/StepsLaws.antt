@@ -5,8 +5,15 @@ use mathlib.Core.List.{List, []}
 use native.Mathlib.Omega.{arith}
 use borrow.Author.Tests.{lt-ltb, le-ltb, le-leb}
 use lib.ListN.{length, getD, length-take}
-use Rattle.answers.specs.Answers.{refused}
+use Rattle.answers.specs.Answers.{Answer, refused}
 use Rattle.lookup.specs.Steps.{on, stop, lentPart, lent, difference, sum}
+
+-- a step that goes on gives one value, and none where it stops
+pub on-eq : {A : Type 0} {a b : A} → on a ≡ on b → a ≡ b
+on-eq {A} {a} {b} e = cc
+
+pub stop-on : {A C : Type 0} {r : Answer} {a : A} → stop r ≡ on a → C
+stop-on {A} {C} {r} {a} e = let z : _≡_ {A = ℕ} 0 1 = cc in absurd (omega arith)
 
 pub lent-on : (l : List ℕ) (i : ℕ) → i < length l → lent l i ≡ on (getD l i 0)
 unfolding lent

@@ -19,13 +19,13 @@ findIn (v ∷ vs) p t =
       | false ↦ elim (isEnd KBWG v) [ true ↦ stop nothing | false ↦ findIn vs (suc p) t ]
     ]
 
--- run lookup, as a part of a walk: "`seek`, where -1 is none"
+-- run lookup, as a step of a walk: the node with the tile in the run that the arc of p leads to
 unfoldable pub stepTo : Graph → ℕ → ℕ → Try ℕ
 stepTo g p t = do
   v ← lent g p
   elim (eqb (arc KBWG v) 0) [ true ↦ stop nothing | false ↦ findIn (drop (arc KBWG v) g) (arc KBWG v) t ]
 
--- ---- `get_word_index`; limit is the greatest count
+-- ---- `get_word_index`; limit is the greatest number: no sum is above it, and as the number of a word it means none
 module _ (limit : ℕ) (g : Graph) (counts : List ℕ) where
   -- one tile, from place p with idx words passed: the words passed on the way to its node, and the node
   unfoldable pub passed : ℕ → ℕ → ℕ → Try (ℕ × ℕ)
@@ -89,9 +89,11 @@ module _ (counts : List ℕ) where
       ]
 
 -- ---- the calls, over what is lent
+-- "Run lookup is `seek`, where -1 is none."
 unfoldable pub seek : Graph → ℕ → ℕ → Answer
 seek g p t = answer (stepTo (lentPart g) p t >>= λ q. on (gives (q ∷ [])))
 
+-- "`get_word_index` answers a number, or none"
 unfoldable pub wordIndex : ℕ → Graph → List ℕ → ℕ → Word → Answer
 wordIndex limit g counts p w = indexFrom limit (lentPart g) (lentPart counts) p 0 w
 

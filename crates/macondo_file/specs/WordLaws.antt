@@ -18,7 +18,7 @@ use Rattle.laws.specs.Members.{in-map, map-in, in-kept, kept-in, in-join, join-
 use Rattle.node.specs.Nodes.{KBWG, tile, arc, accepts}
 use Rattle.graph.specs.Runs.{Graph, ascends, startNode}
 use Rattle.graph.specs.Words.{Word, inOrder, spelled, wordsWithin, words}
-use Rattle.graph.specs.WordsAscend.{From, both}
+use Rattle.graph.specs.WordsAscend.{From, within-nonempty}
 use Rattle.export.specs.Starts.{runOf, hasArc, deeper}
 use Rattle.export.specs.ChainLaws.{arcsFrom, arc-from, shallow-closed, shallow-within, words-within}
 use Rattle.macondo_file.specs.Alphabet.{letterOf}
@@ -119,7 +119,7 @@ module _ (g : Graph) (labels : List ℕ) where
   module _ (up : ascends KBWG g ≡ true) where
     -- a word is not empty, so one tile before it does not change its end
     heard-more : (k p t : ℕ) (u : Word) → List·Memᴰ u (W k p) → heard (t ∷ u) ≡ heard u
-    heard-more k p t [] m = absurd (all-mem (From 0) (W k p) [] (both KBWG g up k .0 p) m)
+    heard-more k p t [] m = absurd (all-mem (From 0) (W k p) [] (within-nonempty KBWG k g p) m)
     heard-more k p t (x ∷ u) m = refl
 
     made-heard : (k p : ℕ) (w : Word) → MadeOf (Heard k) p w → Heard (suc k) p w

@@ -1,4 +1,4 @@
--- What the answers of this crate's calls say, and what they ought to say.
+-- What the answers of this crate's calls say, and what packing answers by document 01.
 use mathlib.Core.Bool.{true, false}
 use mathlib.Core.List.{[], _∷_}
 use Prim.Native.Nat.{ℕ}

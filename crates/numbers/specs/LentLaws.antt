@@ -11,6 +11,7 @@ use Rattle.graph.specs.Runs.{Graph}
 use Rattle.graph.specs.Words.{count}
 use Rattle.graph.specs.ChecksLaws.{Fit}
 use Rattle.graph.specs.Counting.{counts, Loopless}
+use Rattle.graph.specs.LoopLaws.{clear-where-loopless}
 use Rattle.graph.specs.TableLaws.{table-length, table-at}
 use Rattle.lookup.specs.Steps.{lentPart, on}
 use Rattle.lookup.specs.StepsLaws.{lent-on}
@@ -33,7 +34,7 @@ module _ (g : Graph) (fits : Fit g) (nodes counted : List ℕ) (is : Lent g node
   walkable loopless =
       record {
         steps = fits .steps;
-        loopless = loopless;
+        clear = clear-where-loopless KBWG g loopless;
         same = at-head g nodes (is .nodes-are);
         count-lent = λ p h. let r = count-at p h in lent-on counted p (r .0) ∙ ap on (r .1);
       }

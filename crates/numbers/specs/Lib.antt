@@ -1,7 +1,6 @@
 pub mod WordNumbers
 pub mod Walkable
 pub mod LentLaws
-pub mod SomeTile
 pub mod RunWords
 pub mod ByNumber
 pub mod TileSearch

@@ -7,11 +7,15 @@ use Rattle.node.specs.Nodes.{KBWG}
 use Rattle.graph.specs.Runs.{Graph, node}
 use Rattle.graph.specs.Words.{count}
 use Rattle.graph.specs.ChecksLaws.{Closed}
-use Rattle.graph.specs.Counting.{Loopless}
+use Rattle.graph.specs.Loops.{Clear}
 use Rattle.lookup.specs.Steps.{lent, on}
 
 pub record Walkable (g : Graph) (nodes counted : List ℕ) : Type 0 where
+  -- every step leads to a node
   pub steps : Closed g
-  pub loopless : Loopless g
+  -- no node that loops can be reached
+  pub clear : (p : ℕ) → Clear KBWG g p
+  -- the lent nodes begin with the graph's
   pub same : (p : ℕ) → p < length g → (p < length nodes) × (node nodes p ≡ node g p)
+  -- the lent counts begin with those of the graph's words
   pub count-lent : (p : ℕ) → p < length g → lent counted p ≡ on (count KBWG g p)

@@ -18,6 +18,10 @@ pub record Lent (g : Graph) (nodes counted : List ℕ) : Type 0 where
   pub nodes-are : take (length g) nodes ≡ g
   pub counts-are : take (length g) counted ≡ counts g
 
+-- the word with the number i among those from p
+abbrev pub wordAt : Graph → ℕ → ℕ → Word
+wordAt g p i = getD (words KBWG g p) i []
+
 pub record WordNumbers (limit : ℕ) (g : Graph) (nodes counted : List ℕ) (p : ℕ) : Type 0 where
   -- "Words from p: for each node of the run in order, its tile alone if it accepts; then, where its arc is not 0, its tile before each
   -- word from the arc."
@@ -25,12 +29,12 @@ pub record WordNumbers (limit : ℕ) (g : Graph) (nodes counted : List ℕ) (p :
   -- "Every node gets the number of words from it."
   pub count-is : getD counted p 0 ≡ length (words KBWG g p)
   -- the numbers below the node's count name its words
-  pub named : (i room : ℕ) → i < getD counted p 0 → let w = getD (words KBWG g p) i [] in length w ≤ room
+  pub named : (i room : ℕ) → i < getD counted p 0 → let w = wordAt g p i in length w ≤ room
       → wordByIndex counted nodes room p i ≡ (w, gives (length w ∷ []))
   -- each once, the lower number the lower word
   pub ascending : Ascending (words KBWG g p)
   -- each word gives its number back
-  pub given-back : (i : ℕ) → i < getD counted p 0 → wordIndex limit nodes counted p (getD (words KBWG g p) i []) ≡ gives (i ∷ [])
+  pub given-back : (i : ℕ) → i < getD counted p 0 → wordIndex limit nodes counted p (wordAt g p i) ≡ gives (i ∷ [])
   -- all else gets none
   pub other-words : (w : Word) → (List·Memᴰ w (words KBWG g p) → ⊥) → wordIndex limit nodes counted p w ≡ nothing
   pub other-numbers : (i room : ℕ) → getD counted p 0 ≤ i → wordByIndex counted nodes room p i ≡ ([], nothing)

@@ -26,7 +26,7 @@ use Rattle.numbers.specs.LentLaws.{count-at, walkable, lent-parts}
 use Rattle.numbers.specs.ByNumber.{named, other-numbers}
 use Rattle.numbers.specs.ByWord.{IndexIs, number, no-word, index}
 use Rattle.numbers.specs.Walkable.{Walkable}
-use Rattle.numbers.specs.WordNumbers.{Lent, WordNumbers}
+use Rattle.numbers.specs.WordNumbers.{Lent, wordAt, WordNumbers}
 
 once-only : (l : List Word) → Ascending l → (i j : ℕ) → i < length l → j < length l → getD l i [] ≡ getD l j [] → i ≡ j
 once-only [] a i j h k e = absurd (omega arith)
@@ -49,7 +49,7 @@ module _ (limit : ℕ) (g : Graph) (c : Counts limit g) (up : ascends KBWG g ≡
   unfolding wordIndex
   index-of p z h w = index g (lentPart nodes) (lentPart counted) walk up limit w p 0 h (omega arith) (let f = c .few p h in omega arith)
 
-  back : (p i : ℕ) → i < count KBWG g p → {x : Answer} → Index p (getD (words KBWG g p) i []) x → x ≡ gives (i ∷ [])
+  back : (p i : ℕ) → i < count KBWG g p → {x : Answer} → Index p (wordAt g p i) x → x ≡ gives (i ∷ [])
   back p i h (number {i = j} l e n) =
       let s = once-only (words KBWG g p) (words-ascend KBWG g up p) j i l h e in ap (λ k. gives (k ∷ [])) (omega arith)
   back p i h (no-word n) = absurd (n (at-in (words KBWG g p) i [] h))
@@ -63,11 +63,11 @@ module _ (limit : ℕ) (g : Graph) (c : Counts limit g) (up : ascends KBWG g ≡
   numbered p z h =
       let e = count-at g fits nodes counted is p h .1 in
       record {
-        equation = words-equation KBWG g p (record { itself = c .loopless p; below = λ q r. c .loopless q });
+        equation = words-equation KBWG g p (walk .clear p);
         count-is = e;
         named = λ i room k r. named g (lentPart nodes) (lentPart counted) walk room p i h (rw e at k) r;
         ascending = words-ascend KBWG g up p;
-        given-back = λ i k. back p i (rw e at k) (index-of p z h (getD (words KBWG g p) i []));
+        given-back = λ i k. back p i (rw e at k) (index-of p z h (wordAt g p i));
         other-words = λ w n. other p w n (index-of p z h w);
         other-numbers = λ i room k. other-numbers g (lentPart nodes) (lentPart counted) walk room p i h (rw e at k);
       }

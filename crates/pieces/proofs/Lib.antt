@@ -1,1 +1,2 @@
-pub mod CutLaws
+-- What the proofs of several functions use.
+mod CutLaws

@@ -133,7 +133,7 @@ module _ (announced : ℕ) (layout : Layout) (nodes : Graph) (b p : List ℕ) wh
         let l = fitting-length (bitLayout layout) KBWG (wholeNodes b) 0 e ∙ quarter in
         sym (rw (whole-append b p, f, sets-append, zero-add, l))
 
-  -- a misfit met before makes later bytes idle
+  -- after a misfit later bytes change nothing
   module _ {m : Misfit} (e : misfitIn layout 0 b ≡ some m) where
     pub misfit-kept : misfitIn layout 0 (b ++ p) ≡ some m
     misfit-kept =

@@ -90,7 +90,7 @@ module _ (announced : ℕ) (layout : Layout) (nodes : Graph) (ok : firstOf (begi
             nodes = nodes-joined announced layout nodes b p e i;
           })
 
-    -- as the paper says
+    -- a feed adds its piece, and answers what 01 says of the joined bytes
     step : feed (St b) (Nd b) p ≡ fed (joinedOnto announced b p) (pieceAnswer (misfitIn layout 0 b) announced layout b p)
     unfolding joinedOnto
     step =

@@ -6,7 +6,7 @@ use lib.Dec.{eqb}
 use borrow.Author.Tests.{eqb-true, eqb-false}
 use Rattle.laws.specs.Cases.{split}
 use Rattle.node.specs.Nodes.{KBWG, arc}
-use Rattle.graph.specs.CountLaws.{byArc, no-arc, some-arc}
+use Rattle.graph.specs.CountLaws.{byArc, arc-words-none, arc-words}
 use Rattle.export.specs.Starts.{hasArc}
 
 abbrev pub whereThere : Bool → ℕ → ℕ
@@ -16,5 +16,5 @@ whereThere false n = 0
 pub counted-by-arc : (f : ℕ → ℕ) (v : ℕ) → byArc KBWG f v ≡ whereThere (hasArc v) (f (arc KBWG v))
 counted-by-arc f v =
     split (eqb (arc KBWG v) 0)
-    (λ z. no-arc KBWG f v (eqb-true (arc KBWG v) 0 z) ∙ ap (λ b. whereThere (not b) (f (arc KBWG v))) (sym z))
-    (λ z. some-arc KBWG f v (eqb-false (arc KBWG v) 0 z) ∙ ap (λ b. whereThere (not b) (f (arc KBWG v))) (sym z))
+    (λ z. arc-words-none KBWG f v (eqb-true (arc KBWG v) 0 z) ∙ ap (λ b. whereThere (not b) (f (arc KBWG v))) (sym z))
+    (λ z. arc-words KBWG f v (eqb-false (arc KBWG v) 0 z) ∙ ap (λ b. whereThere (not b) (f (arc KBWG v))) (sym z))

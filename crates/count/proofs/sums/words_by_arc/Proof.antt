@@ -3,7 +3,7 @@ use mathlib.Core.Path.{sym, ap, _∙_}
 use Prim.Native.Nat.{ℕ}
 use lib.ListN.{getD}
 use Rattle.node.specs.Nodes.{KBWG}
-use Rattle.graph.specs.CountLaws.{no-arc, some-arc}
+use Rattle.graph.specs.CountLaws.{arc-words-none, arc-words}
 use borrow.Author.Needs.{needs}
 use Rattle.count.proofs.sums.words_by_arc.Statement.{statement}
 use Rattle.count.proofs.sums.words_by_arc.Tie as tie
@@ -15,7 +15,7 @@ cast-arc : tie.Need-cast-arc
 cast-arc c = search needs
 
 returns : tie.Need-returns
-returns c = sym (no-arc KBWG _ _ (sym (c .before .arc-index .ensures) ∙ c .if1 .taken))
+returns c = sym (arc-words-none KBWG _ _ (sym (c .before .arc-index .ensures) ∙ c .if1 .taken))
 
 mul-result : tie.Need-mul-result
 mul-result c = search needs
@@ -28,7 +28,7 @@ returns-2 c =
     let a = c .before .before .before .before .args in
     let e = c .before .before .arc-index .ensures in
     ap (λ (q : ℕ). getD (a .counts .now) q 0) e
-    ∙ sym (some-arc KBWG (λ q. getD (a .counts .now) q 0) (a .node) (λ z. c .before .if1 .left (e ∙ z)))
+    ∙ sym (arc-words KBWG (λ q. getD (a .counts .now) q 0) (a .node) (λ z. c .before .if1 .left (e ∙ z)))
 
 pub words-by-arc-spec : {M : Type 1} → statement M
 words-by-arc-spec =

@@ -6,7 +6,7 @@ use Prim.Native.Nat.{ℕ, _+_, _<_}
 use native.Mathlib.Numerals.{add-one}
 use lib.ListN.{length, getD}
 use Rattle.node.specs.Nodes.{KBWG, isEnd}
-use Rattle.graph.specs.CountLaws.{at-end, not-at-end}
+use Rattle.graph.specs.CountLaws.{run-words-none, run-words}
 use borrow.Author.Needs.{needs}
 use Rattle.count.proofs.sums.words_by_run.Statement.{statement}
 use Rattle.count.proofs.sums.words_by_run.Tie as tie
@@ -26,7 +26,7 @@ is-end-requires : tie.Need-is-end-requires
 is-end-requires c κs = search needs
 
 returns : tie.Need-returns
-returns c = sym (at-end KBWG _ _ (sym (c .before .is-end .ensures) ∙ c .if1 .taken) _)
+returns c = sym (run-words-none KBWG _ _ (sym (c .before .is-end .ensures) ∙ c .if1 .taken) _)
 
 add-result : tie.Need-add-result
 add-result c = let h = next c in omega arith
@@ -41,7 +41,7 @@ returns-2 : tie.Need-returns-2
 returns-2 c =
     let a = asked (c .before) .args in
     ap (λ (q : ℕ). getD (a .counts .now) q 0) (add-one (a .p))
-    ∙ sym (not-at-end KBWG (λ q. getD (a .counts .now) q 0) (a .node) (goes-on (c .before)) (a .p))
+    ∙ sym (run-words KBWG (λ q. getD (a .counts .now) q 0) (a .node) (goes-on (c .before)) (a .p))
 
 pub words-by-run-spec : {M : Type 1} → statement M
 words-by-run-spec =

@@ -6,7 +6,8 @@ use Rattle.lookup.specs.Steps.{lentPart}
 use Rattle.letters.specs.AlphaSets.{tallyRow, completes, acceptsAlpha}
 use Rattle.letters.specs.Said.{decided}
 use Rattle.letters.specs.declared.alpha.Completes.{Completes}
-use Rattle.letters.proofs.AlphaLaws.{tally-long, tally-fits}
+use Rattle.letters.specs.TallyLaws.{tally-fits}
+use Rattle.letters.proofs.AlphaLaws.{tally-long}
 use borrow.Author.Needs.{needs}
 use Rattle.letters.proofs.alpha.accepts_alpha.Statement.{statement}
 use Rattle.letters.proofs.alpha.accepts_alpha.Tie as tie

@@ -1,7 +1,8 @@
 -- `compute_alpha_cross_set` meets its contract: the row, then the walk over what is lent.
 use borrow.Author.Needs.{needs}
 use Rattle.letters.specs.AlphaSets.{crossSet}
-use Rattle.letters.proofs.AlphaLaws.{tally-long, tally-fits}
+use Rattle.letters.specs.TallyLaws.{tally-fits}
+use Rattle.letters.proofs.AlphaLaws.{tally-long}
 use Rattle.letters.proofs.alpha.compute_alpha_cross_set.Statement.{statement}
 use Rattle.letters.proofs.alpha.compute_alpha_cross_set.Tie as tie
 
