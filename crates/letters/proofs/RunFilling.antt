@@ -8,14 +8,16 @@ use native.Mathlib.Omega.{arith}
 use borrow.Author.Tests.{lt-ltb, le-ltb}
 use lib.Dec.{ltb}
 use lib.ListN.{length, drop, set, drop-of-length-le}
-use lib.Seq.{drop-cons, sets, length-sets, set-comm, sets-eq}
+use lib.Seq.{drop-cons, sets, length-sets, set-comm}
 use Rattle.laws.specs.Cases.{split}
 use Rattle.laws.specs.Lists.{kept}
+use Rattle.laws.specs.ListWrites.{sets-front}
 use Rattle.answers.specs.Answers.{Answer, refused, firstOf}
 use Rattle.answers.specs.RowLaws.{row-refuses, row-passes, row-ends}
 use Rattle.node.specs.Nodes.{KBWG, tile, isEnd}
 use Rattle.graph.specs.Runs.{Graph, node, run}
 use Rattle.graph.specs.Counting.{table}
+use Rattle.graph.specs.TableLaws.{table-length}
 use Rattle.laws.specs.BitSets.{marked, bitSet}
 use Rattle.letters.specs.LetterBits.{tilesOf, perNode, filled, bitsRow, lettered, letterBits, carry}
 
@@ -59,11 +61,6 @@ module _ (test : ℕ → Bool) where
   unfolding tilesOf run
   tiles-step v vs = tiles-with v (runAfter v vs) ∙ ap (λ s. marked s (tile KBWG v) (test v)) (tiles-after v vs)
 
-  length-per : (g : Graph) → length (perNode test g) ≡ length g
-  unfolding table
-  length-per [] = refl
-  length-per (v ∷ vs) = ap suc (length-per vs)
-
 -- the nodes from i on are written, and s is the set of the last one written
 pub record RunFilling (test : ℕ → Bool) (g : Graph) (l₀ l : List ℕ) (s i : ℕ) : Type 0 where
   pub set-is : s ≡ tilesOf test (drop i g)
@@ -102,7 +99,6 @@ module _ {test : ℕ → Bool} {g : Graph} {l₀ : List ℕ} where
   pub filling-done : {l : List ℕ} {s i : ℕ} → RunFilling test g l₀ l s i → i ≤ 0 → length g ≤ length l₀ → l ≡ filled test g l₀
   unfolding filled
   filling-done {l} {s} {i} f z h =
-      let e = length-per test g in
+      let e = table-length (length g) (λ p. tilesOf test (drop p g)) in
       let o : i ≡ 0 = omega arith in
-      let k : 0 + length (perNode test g) ≡ length g = omega arith in
-      rw o at (f .list-is) ∙ sets-eq (perNode test g) l₀ 0 (omega arith) ∙ ap (λ n. perNode test g ++ drop n l₀) k
+      rw o at (f .list-is) ∙ sets-front l₀ (perNode test g) (omega arith) ∙ ap (λ n. perNode test g ++ drop n l₀) e
