@@ -18,7 +18,7 @@ use Rattle.node.specs.Nodes.{KBWG, tile, isEnd}
 use Rattle.graph.specs.Runs.{Graph, node, run}
 use Rattle.graph.specs.Counting.{table}
 use Rattle.graph.specs.TableLaws.{table-length}
-use Rattle.laws.specs.BitSets.{marked, bitSet}
+use Rattle.laws.specs.BitSets.{marked, bitSet, bit-set-with}
 use Rattle.letters.specs.LetterBits.{tilesOf, perNode, filled, bitsRow, lettered, letterBits, carry}
 
 -- ---- the row
@@ -48,18 +48,13 @@ abbrev runAfter : ℕ → Graph → Graph
 runAfter v vs = elim (isEnd KBWG v) [ true ↦ [] | false ↦ run KBWG vs ]
 
 module _ (test : ℕ → Bool) where
-  tiles-with : (v : ℕ) (vs : Graph)
-      → bitSet (map (tile KBWG) (kept test (v ∷ vs))) ≡ marked (bitSet (map (tile KBWG) (kept test vs))) (tile KBWG v) (test v)
-  unfolding bitSet
-  tiles-with v vs = split (test v) (λ y. rw (y, kept)) (λ y. rw (y, kept))
-
   tiles-after : (v : ℕ) (vs : Graph) → bitSet (map (tile KBWG) (kept test (runAfter v vs))) ≡ carry (tilesOf test vs) v
   unfolding tilesOf bitSet
   tiles-after v vs = split (isEnd KBWG v) (λ e. rw (e, runAfter, carry)) (λ e. rw (e, runAfter, carry))
 
   tiles-step : (v : ℕ) (vs : Graph) → tilesOf test (v ∷ vs) ≡ marked (carry (tilesOf test vs) v) (tile KBWG v) (test v)
   unfolding tilesOf run
-  tiles-step v vs = tiles-with v (runAfter v vs) ∙ ap (λ s. marked s (tile KBWG v) (test v)) (tiles-after v vs)
+  tiles-step v vs = bit-set-with (tile KBWG) test v (runAfter v vs) ∙ ap (λ s. marked s (tile KBWG v) (test v)) (tiles-after v vs)
 
 -- the nodes from i on are written, and s is the set of the last one written
 pub record RunFilling (test : ℕ → Bool) (g : Graph) (l₀ l : List ℕ) (s i : ℕ) : Type 0 where
