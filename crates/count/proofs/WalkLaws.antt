@@ -1,6 +1,6 @@
 -- The walk's state after a node goes on the stack, and after the top is counted and goes off.
 use mathlib.Core.Path.{_≡_, sym, ap, _∙_, subst}
-use mathlib.Core.Logic.{_≢_, _⊎_, inl, inr, ⊎-elim}
+use mathlib.Core.Logic.{_≢_, _⊎_, inl, inr, ⊎-elim, ⊎-map}
 use mathlib.Core.List.{List}
 use Prim.Native.Nat.{ℕ, zero, suc, _+_, _-_, _*_, _≤_, _<_, min}
 use native.Mathlib.Nat.{eq-or-lt-of-le}
@@ -18,6 +18,22 @@ use Rattle.count.specs.CountWalk.{mark, done, stacked, pushed, isMet, is
 use Rattle.graph.specs.Lent.{kept-then, kept-set}
 use Rattle.count.proofs.Lists.{kept-all}
 use Rattle.count.proofs.Tally.{same?, tally-inside, tally-outside, mets-le}
+
+-- ---- a step changes the mark of x, and of no other node
+module _ (g : Graph) (w w′ : List ℕ) (x : ℕ) (others : (k : ℕ) → k < length g → k ≢ x → mark w′ k ≡ mark w k) where
+  met-after : mark w′ x ≢ 0 → (k : ℕ) → k < length g → mark w k ≢ 0 → mark w′ k ≢ 0
+  met-after met k h n z = ⊎-elim (λ e. met (sym (ap (mark w′) e) ∙ z)) (λ d. n (sym (others k h d) ∙ z)) (same? k x)
+
+  marks-after : {limit : ℕ} {c c′ : List ℕ} {size size′ : ℕ} → Done limit g c′ w′ x ⊎ Open g w′ size′ x
+      → ((k : ℕ) → k < length g → k ≢ x → Done limit g c w k → Done limit g c′ w′ k)
+      → ((k : ℕ) → k < length g → k ≢ x → Open g w size k → Open g w′ size′ k)
+      → ((k : ℕ) → k < length g → (mark w k ≡ 0) ⊎ (Done limit g c w k ⊎ Open g w size k))
+      → (k : ℕ) → k < length g → (mark w′ k ≡ 0) ⊎ (Done limit g c′ w′ k ⊎ Open g w′ size′ k)
+  marks-after {limit} {c} {c′} {size} {size′} new dones opens marks k h =
+      ⊎-elim
+      (λ e. inr (subst (λ j. Done limit g c′ w′ j ⊎ Open g w′ size′ j) (sym e) new))
+      (λ d. ⊎-map (λ z. others k h d ∙ z) (⊎-map (dones k h d) (opens k h d)) (marks k h))
+      (same? k x)
 
 module _ (limit : ℕ) (g : Graph) (c w : List ℕ) (size : ℕ) (K : Fit g) (W : CountWalk limit g c w size) where
   -- the stack holds no more nodes than there are
@@ -88,6 +104,9 @@ module _ (limit : ℕ) (g : Graph) (c w : List ℕ) (size : ℕ) (K : Fit g) (W 
     unfolding w′ w₁
     at-other k n m = getD-set-other w₁ (length g + size) k q 0 m ∙ getD-set-other w q k (size + 1) 0 n
 
+    others : (k : ℕ) → k < length g → k ≢ q → mark w′ k ≡ mark w k
+    others k h n = at-other k n (λ z. omega arith)
+
     at-node : mark w′ q ≡ suc size
     unfolding w′ w₁
     at-node =
@@ -110,10 +129,9 @@ module _ (limit : ℕ) (g : Graph) (c w : List ℕ) (size : ℕ) (K : Fit g) (W 
         let n = W .entries i h in
         let m = stacked g w i in
         let differs : m ≢ q = λ z. let y : mark w m ≡ 0 = ap (mark w) z ∙ new in let x = n .marked in omega arith in
-        let b = n .node in
         record {
-          node = rw (at-entry i h) b;
-          marked = rw (at-entry i h) (at-other m differs (λ z. omega arith) ∙ n .marked);
+          node = rw (at-entry i h) (n .node);
+          marked = rw (at-entry i h) (others m (n .node) differs ∙ n .marked);
         }
 
     new-entry : Entry g w′ size
@@ -122,8 +140,11 @@ module _ (limit : ℕ) (g : Graph) (c w : List ℕ) (size : ℕ) (K : Fit g) (W 
     entries′ : (i : ℕ) → i < size + 1 → Entry g w′ i
     entries′ i h = ⊎-elim (λ e. subst (λ k. Entry g w′ k) (sym e) new-entry) (λ l. old-entry i l) (eq-or-lt-of-le (omega arith))
 
+    new-open : Open g w′ (size + 1) q
+    new-open = record { place = size; below = omega arith; marked = at-node; entry = at-top }
+
     still-done : (k : ℕ) → k < length g → k ≢ q → Done limit g c w k → Done limit g c w′ k
-    still-done k h n o = record { marked = at-other k n (λ z. omega arith) ∙ o .marked; clear = o .clear; counted = o .counted }
+    still-done k h n o = record { marked = others k h n ∙ o .marked; clear = o .clear; counted = o .counted }
 
     still-open : (k : ℕ) → k < length g → k ≢ q → Open g w size k → Open g w′ (size + 1) k
     still-open k h n o =
@@ -131,26 +152,9 @@ module _ (limit : ℕ) (g : Graph) (c w : List ℕ) (size : ℕ) (K : Fit g) (W 
         record {
           place = o .place;
           below = omega arith;
-          marked = at-other k n (λ z. omega arith) ∙ o .marked;
+          marked = others k h n ∙ o .marked;
           entry = at-entry (o .place) b ∙ o .entry;
         }
-
-    marks′ : (k : ℕ) → k < length g → (mark w′ k ≡ 0) ⊎ (Done limit g c w′ k ⊎ Open g w′ (size + 1) k)
-    marks′ k h =
-        ⊎-elim
-        (λ e. inr (inr (record { place = size; below = omega arith; marked = ap (mark w′) e ∙ at-node; entry = at-top ∙ sym e })))
-        (λ n. ⊎-elim
-        (λ z. inl (at-other k n (λ x. omega arith) ∙ z))
-        (λ y. ⊎-elim (λ o. inr (inl (still-done k h n o))) (λ o. inr (inr (still-open k h n o))) y)
-        (W .marks k h))
-        (same? k q)
-
-    still-met : (k : ℕ) → k < length g → mark w k ≢ 0 → mark w′ k ≢ 0
-    still-met k h n z =
-        ⊎-elim
-        (λ x. let y = at-node in let v : mark w′ k ≡ mark w′ q = ap (mark w′) x in omega arith)
-        (λ x. n (sym (at-other k x (λ u. omega arith)) ∙ z))
-        (same? k q)
 
     -- the top leads to it
     module _ (d : (i : ℕ) → suc i ≡ size → Step KBWG g (stacked g w i) q) where
@@ -174,10 +178,10 @@ module _ (limit : ℕ) (g : Graph) (c w : List ℕ) (size : ℕ) (K : Fit g) (W 
               room-counts = W .room-counts;
               entries = entries′;
               path = path′;
-              marks = marks′;
+              marks = marks-after g w w′ q others (inr new-open) still-done still-open (W .marks);
               tallied = omega arith;
             };
-            met = still-met;
+            met = met-after g w w′ q others (λ z. let m = at-node in omega arith);
             on = omega arith;
             counts-kept = kept-all (length g) c;
             work-kept =
@@ -284,11 +288,11 @@ module _ (limit : ℕ) (g : Graph) (c w : List ℕ) (size : ℕ) (K : Fit g) (W 
           counted = getD-set-same c p v 0 (omega arith) ∙ counted-p;
         }
 
-    still-done″ : (k : ℕ) → k ≢ p → Done limit g c w k → Done limit g c″ w″ k
-    still-done″ k n o = record { marked = other-w k n ∙ o .marked; clear = o .clear; counted = other-c k n ∙ o .counted }
+    still-done″ : (k : ℕ) → k < length g → k ≢ p → Done limit g c w k → Done limit g c″ w″ k
+    still-done″ k h n o = record { marked = other-w k n ∙ o .marked; clear = o .clear; counted = other-c k n ∙ o .counted }
 
-    still-open″ : (k : ℕ) → k ≢ p → Open g w size k → Open g w″ s k
-    still-open″ k n o =
+    still-open″ : (k : ℕ) → k < length g → k ≢ p → Open g w size k → Open g w″ s k
+    still-open″ k h n o =
         let b = o .below in
         let differs : o .place ≢ s = λ z. n (sym (o .entry) ∙ ap (stacked g w) z ∙ top) in
         record {
@@ -297,23 +301,6 @@ module _ (limit : ℕ) (g : Graph) (c w : List ℕ) (size : ℕ) (K : Fit g) (W 
           marked = other-w k n ∙ o .marked;
           entry = entry-w (o .place) ∙ o .entry;
         }
-
-    marks″ : (k : ℕ) → k < length g → (mark w″ k ≡ 0) ⊎ (Done limit g c″ w″ k ⊎ Open g w″ s k)
-    marks″ k h =
-        ⊎-elim
-        (λ e. inr (inl (subst (λ j. Done limit g c″ w″ j) (sym e) new-done)))
-        (λ n. ⊎-elim
-        (λ z. inl (other-w k n ∙ z))
-        (λ y. ⊎-elim (λ o. inr (inl (still-done″ k n o))) (λ o. inr (inr (still-open″ k n o))) y)
-        (W .marks k h))
-        (same? k p)
-
-    still-met″ : (k : ℕ) → k < length g → mark w k ≢ 0 → mark w″ k ≢ 0
-    still-met″ k h n z =
-        ⊎-elim
-        (λ x. let y = new-done .marked in let u : mark w″ k ≡ mark w″ p = ap (mark w″) x in omega arith)
-        (λ x. n (sym (other-w k x) ∙ z))
-        (same? k p)
 
     counted-walk : StepTaken limit g c w (set c p v) (set w p done) s
     unfolding w″ c″
@@ -328,10 +315,10 @@ module _ (limit : ℕ) (g : Graph) (c w : List ℕ) (size : ℕ) (K : Fit g) (W 
             room-counts = simp length-set (W .room-counts);
             entries = entries″;
             path = path″;
-            marks = marks″;
+            marks = marks-after g w w″ p (λ k h. other-w k) (inl new-done) still-done″ still-open″ (W .marks);
             tallied = omega arith;
           };
-          met = still-met″;
+          met = met-after g w w″ p (λ k h. other-w k) (λ z. let m = new-done .marked in omega arith);
           on = omega arith;
           counts-kept = kept-set (length g) c p v l;
           work-kept = kept-set (2 * length g) w p done (omega arith);

@@ -4,19 +4,12 @@ ghost use mathlib.Core.Bool.{false};
 ghost use Prim.Native.Nat.{_+_, _<_, _≤_, min};
 ghost use lib.ListN.{length, getD};
 ghost use Rattle.graph.specs.Counting.{countLimit};
-ghost use Rattle.base.specs.Numbers.{flag};
-ghost use Rattle.node.specs.Nodes.{KBWG, arc, accepts, isEnd};
+ghost use Rattle.node.specs.Nodes.{KBWG, arc, isEnd};
 ghost use Rattle.graph.specs.ChecksLaws.{Fit};
 ghost use Rattle.graph.specs.CountLaws.{byArc, byRun, sumAt};
+use base::bit;
 use base::capped_sum;
 use node::Node24;
-
-// The word that ends at the node itself.
-fn own_word(node: u32) -> u32
-    ensures { λ r. ⌜ r ≡ flag (accepts KBWG node) ⌝ }
-{
-    if Node24(node).accepts() { 1 } else { 0 }
-}
 
 // The words that go on by the node's arc.
 fn words_by_arc(counts: &[u32], node: u32) -> u32
@@ -49,7 +42,7 @@ pub(crate) fn count_at(nodes: &[u32], counts: &[u32], p: usize) -> u32
     ensures { λ r. ⌜ r ≡ min (sumAt KBWG (now (nodes .entry)) (λ q. getD (now (counts .entry)) q 0) p) countLimit ⌝ }
 {
     let node = nodes[p];
-    let own = own_word(node);
+    let own = bit(Node24(node).accepts());
     let below = words_by_arc(counts, node);
     let after = words_by_run(counts, node, p);
     capped_sum(capped_sum(own, below), after)

@@ -1,13 +1,14 @@
 -- A set of numbers as one number: bit t stands for t.
 use mathlib.Core.Path.{_≡_, refl, ap₂, _∙_}
 use mathlib.Core.Bool.{Bool, true, false, _||_, or-comm}
-use mathlib.Core.List.{List, [], _∷_, List·Memᴰ, List·Memᴰ·head, List·Memᴰ·tail}
+use mathlib.Core.List.{List, [], _∷_, map, List·Memᴰ, List·Memᴰ·head, List·Memᴰ·tail}
 use Prim.Native.Nat.{ℕ, _^_, _<_}
 use lib.Bits.{bitOr, or-lt}
 use lib.Dec.{eqb}
 use lib.Pow.{pow-pos, pow-lt}
 use Rattle.laws.specs.Bits.{hasBit, zero-bit, power-bit, or-bit}
-use Rattle.laws.specs.Lists.{member}
+use Rattle.laws.specs.Cases.{split}
+use Rattle.laws.specs.Lists.{kept, member}
 
 -- with t, where the test holds
 abbrev pub marked : ℕ → ℕ → Bool → ℕ
@@ -17,6 +18,12 @@ marked s t false = s
 unfoldable pub bitSet : List ℕ → ℕ
 bitSet [] = 0
 bitSet (t ∷ ts) = marked (bitSet ts) t true
+
+-- the set of what f gives of those that pass the test, with one before them
+pub bit-set-with : {A : Type 0} (f : A → ℕ) (test : A → Bool) (v : A) (vs : List A)
+    → bitSet (map f (kept test (v ∷ vs))) ≡ marked (bitSet (map f (kept test vs))) (f v) (test v)
+unfolding bitSet
+bit-set-with f test v vs = split (test v) (λ y. rw (y, kept)) (λ y. rw (y, kept))
 
 -- what the number means
 pub bit-set-bit : (ts : List ℕ) (t : ℕ) → hasBit (bitSet ts) t ≡ member t ts

@@ -13,7 +13,7 @@ use lib.Dec.{lit<}
 use lib.ListN.{length, getD, drop, drop-of-length-le}
 use lib.Pow.{shl-exact}
 use lib.Seq.{drop-cons}
-use Rattle.laws.specs.BitSets.{marked, bitSet}
+use Rattle.laws.specs.BitSets.{marked, bitSet, bit-set-with}
 use Rattle.laws.specs.Cases.{split}
 use Rattle.laws.specs.Lists.{kept}
 use Rattle.laws.specs.Members.{map-same, in-drop, in-kept, none-of}
@@ -71,10 +71,6 @@ module _ (ranks : List ℕ) where
   abbrev lettersOf : Graph → ℕ
   lettersOf vs = bitSet (map rank (kept endsInLetter vs))
 
-  letters-with : (v : ℕ) (vs : Graph) → lettersOf (v ∷ vs) ≡ marked (lettersOf vs) (rank v) (endsInLetter v)
-  unfolding bitSet
-  letters-with v vs = split (endsInLetter v) (λ y. rw (y, kept)) (λ y. rw (y, kept))
-
   -- s, joined with the set of the nodes left
   module _ (g : Graph) (p s : ℕ) where
     pub set-past : length g ≤ p → bitOr s (setBy ranks g p) ≡ s
@@ -86,7 +82,7 @@ module _ (ranks : List ℕ) where
       unfolding setBy run bitSet
       set-end e =
           let v = node g p in
-          rw (drop-cons g p 0 h) (rw (e, run) (ap (bitOr s) (letters-with v []) ∙ marked-either s 0 (rank v) (endsInLetter v) ∙ or-zero-r _))
+          rw (drop-cons g p 0 h) (rw (e, run) (ap (bitOr s) (bit-set-with rank endsInLetter v []) ∙ marked-either s 0 (rank v) (endsInLetter v) ∙ or-zero-r _))
 
       pub set-next : isEnd KBWG (node g p) ≡ false
           → bitOr s (setBy ranks g p) ≡ bitOr (marked s (rank (node g p)) (endsInLetter (node g p))) (setBy ranks g (p + 1))
@@ -95,7 +91,7 @@ module _ (ranks : List ℕ) where
           let v = node g p in
           let rest = run KBWG (drop (suc p) g) in
           rw (add-one, drop-cons g p 0 h)
-          (rw (e, run) (ap (bitOr s) (letters-with v rest) ∙ marked-either s (lettersOf rest) (rank v) (endsInLetter v)))
+          (rw (e, run) (ap (bitOr s) (bit-set-with rank endsInLetter v rest) ∙ marked-either s (lettersOf rest) (rank v) (endsInLetter v)))
 
 -- ---- the labels' ranks
 in-run : (vs : Graph) (v : ℕ) → List·Memᴰ v (run KBWG vs) → List·Memᴰ v vs

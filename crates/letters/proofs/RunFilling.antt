@@ -8,15 +8,17 @@ use native.Mathlib.Omega.{arith}
 use borrow.Author.Tests.{lt-ltb, le-ltb}
 use lib.Dec.{ltb}
 use lib.ListN.{length, drop, set, drop-of-length-le}
-use lib.Seq.{drop-cons, sets, length-sets, set-comm, sets-eq}
+use lib.Seq.{drop-cons, sets, length-sets, set-comm}
 use Rattle.laws.specs.Cases.{split}
 use Rattle.laws.specs.Lists.{kept}
+use Rattle.laws.specs.ListWrites.{sets-front}
 use Rattle.answers.specs.Answers.{Answer, refused, firstOf}
 use Rattle.answers.specs.RowLaws.{row-refuses, row-passes, row-ends}
 use Rattle.node.specs.Nodes.{KBWG, tile, isEnd}
 use Rattle.graph.specs.Runs.{Graph, node, run}
 use Rattle.graph.specs.Counting.{table}
-use Rattle.laws.specs.BitSets.{marked, bitSet}
+use Rattle.graph.specs.TableLaws.{table-length}
+use Rattle.laws.specs.BitSets.{marked, bitSet, bit-set-with}
 use Rattle.letters.specs.LetterBits.{tilesOf, perNode, filled, bitsRow, lettered, letterBits, carry}
 
 -- ---- the row
@@ -46,23 +48,13 @@ abbrev runAfter : ℕ → Graph → Graph
 runAfter v vs = elim (isEnd KBWG v) [ true ↦ [] | false ↦ run KBWG vs ]
 
 module _ (test : ℕ → Bool) where
-  tiles-with : (v : ℕ) (vs : Graph)
-      → bitSet (map (tile KBWG) (kept test (v ∷ vs))) ≡ marked (bitSet (map (tile KBWG) (kept test vs))) (tile KBWG v) (test v)
-  unfolding bitSet
-  tiles-with v vs = split (test v) (λ y. rw (y, kept)) (λ y. rw (y, kept))
-
   tiles-after : (v : ℕ) (vs : Graph) → bitSet (map (tile KBWG) (kept test (runAfter v vs))) ≡ carry (tilesOf test vs) v
   unfolding tilesOf bitSet
   tiles-after v vs = split (isEnd KBWG v) (λ e. rw (e, runAfter, carry)) (λ e. rw (e, runAfter, carry))
 
   tiles-step : (v : ℕ) (vs : Graph) → tilesOf test (v ∷ vs) ≡ marked (carry (tilesOf test vs) v) (tile KBWG v) (test v)
   unfolding tilesOf run
-  tiles-step v vs = tiles-with v (runAfter v vs) ∙ ap (λ s. marked s (tile KBWG v) (test v)) (tiles-after v vs)
-
-  length-per : (g : Graph) → length (perNode test g) ≡ length g
-  unfolding table
-  length-per [] = refl
-  length-per (v ∷ vs) = ap suc (length-per vs)
+  tiles-step v vs = bit-set-with (tile KBWG) test v (runAfter v vs) ∙ ap (λ s. marked s (tile KBWG v) (test v)) (tiles-after v vs)
 
 -- the nodes from i on are written, and s is the set of the last one written
 pub record RunFilling (test : ℕ → Bool) (g : Graph) (l₀ l : List ℕ) (s i : ℕ) : Type 0 where
@@ -102,7 +94,6 @@ module _ {test : ℕ → Bool} {g : Graph} {l₀ : List ℕ} where
   pub filling-done : {l : List ℕ} {s i : ℕ} → RunFilling test g l₀ l s i → i ≤ 0 → length g ≤ length l₀ → l ≡ filled test g l₀
   unfolding filled
   filling-done {l} {s} {i} f z h =
-      let e = length-per test g in
+      let e = table-length (length g) (λ p. tilesOf test (drop p g)) in
       let o : i ≡ 0 = omega arith in
-      let k : 0 + length (perNode test g) ≡ length g = omega arith in
-      rw o at (f .list-is) ∙ sets-eq (perNode test g) l₀ 0 (omega arith) ∙ ap (λ n. perNode test g ++ drop n l₀) k
+      rw o at (f .list-is) ∙ sets-front l₀ (perNode test g) (omega arith) ∙ ap (λ n. perNode test g ++ drop n l₀) e

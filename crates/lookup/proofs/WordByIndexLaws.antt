@@ -5,7 +5,7 @@ use mathlib.Core.List.{List, [], _∷_}
 use Prim.Native.Nat.{ℕ, zero, suc, _+_, _-_, _≤_, _<_}
 use native.Mathlib.Omega.{arith}
 use native.Mathlib.Numerals.{add-one}
-use borrow.Author.Tests.{eq-eqb, ne-eqb, lt-ltb, le-ltb}
+use borrow.Author.Tests.{eqb-false, lt-ltb, le-ltb}
 use lib.Dec.{eqb}
 use lib.ListN.{length, getD, drop, drop-of-length-le}
 use lib.Seq.{drop-cons}
@@ -47,9 +47,10 @@ module _ (counts : List ℕ) (v : ℕ) (p : ℕ) where
             (difference-on (getD counts p 0) (getD counts (suc p) 0) (rw add-one at b)))))
 
 -- ---- a turn at a node
-no-last : (v : ℕ) (idx : ℕ) → acceptsBit KBWG v ≤ idx → eqb idx 0 && accepts KBWG v ≡ false
-no-last v zero h = rw (ne-eqb (acceptsBit KBWG v) 1 (λ e. omega arith))
-no-last v (suc i) h = rw (ne-eqb (suc i) 0 (λ e. omega arith))
+-- a number whose word does not end there is past the node's own word, if it has one
+pub past-own : (v idx : ℕ) → eqb idx 0 && accepts KBWG v ≡ false → acceptsBit KBWG v ≤ idx
+past-own v zero n = omega (arith, eqb-false (acceptsBit KBWG v) 1 n)
+past-own v (suc i) n = omega arith
 
 module _ (counts : List ℕ) (g : Graph) (p idx : ℕ) where
   pub turn-out : length g ≤ p → turnIn counts (drop p g) p idx ≡ stop (refused 14 [])
@@ -57,37 +58,36 @@ module _ (counts : List ℕ) (g : Graph) (p idx : ℕ) where
   turn-out h = rw (drop-of-length-le g h)
 
   module _ (h : p < length g) where
-    pub turn-last : idx < acceptsBit KBWG (node g p) → turnIn counts (drop p g) p idx ≡ on (last (node g p))
+    pub turn-last : eqb idx 0 && accepts KBWG (node g p) ≡ true → turnIn counts (drop p g) p idx ≡ on (last (node g p))
     unfolding turnIn
-    turn-last l =
-        let y : eqb idx 0 && accepts KBWG (node g p) ≡ true = rw (eq-eqb idx 0 (omega arith), eq-eqb (acceptsBit KBWG (node g p)) 1 (omega arith)) in
-        rw (drop-cons g p 0 h) (rw (y, turnIn))
+    turn-last l = rw (drop-cons g p 0 h) (rw (l, turnIn))
 
-    pub turn-stop : acceptsBit KBWG (node g p) ≤ idx → {r : Answer} → wordsHere counts (node g p) p ≡ stop r → turnIn counts (drop p g) p idx ≡ stop r
+    pub turn-stop : eqb idx 0 && accepts KBWG (node g p) ≡ false → {r : Answer} → wordsHere counts (node g p) p ≡ stop r
+        → turnIn counts (drop p g) p idx ≡ stop r
     unfolding turnIn
-    turn-stop l e = rw (drop-cons g p 0 h) (rw (no-last (node g p) idx l, turnIn) (rw e))
+    turn-stop l e = rw (drop-cons g p 0 h) (rw (l, turnIn) (rw e))
 
 -- a node at which the word does not end, with its words
 pub record HasWords (counts : List ℕ) (g : Graph) (p idx n : ℕ) : Type 0 where
   pub inside : p < length g
-  pub past : acceptsBit KBWG (node g p) ≤ idx
+  pub longer : eqb idx 0 && accepts KBWG (node g p) ≡ false
   pub words : wordsHere counts (node g p) p ≡ on n
 
 module _ {counts : List ℕ} {g : Graph} {p idx n : ℕ} (w : HasWords counts g p idx n) where
   pub turn-down : idx < n → turnIn counts (drop p g) p idx ≡ on (down (node g p) (idx - acceptsBit KBWG (node g p)))
   unfolding turnIn
-  turn-down k = rw (drop-cons g p 0 (w .inside)) (rw (no-last (node g p) idx (w .past), turnIn) (rw (w .words) (rw (lt-ltb idx n k, _>>=_))))
+  turn-down k = rw (drop-cons g p 0 (w .inside)) (rw (w .longer, turnIn) (rw (w .words) (rw (lt-ltb idx n k, _>>=_))))
 
   module _ (k : n ≤ idx) where
     pub turn-none : isEnd KBWG (node g p) ≡ true → turnIn counts (drop p g) p idx ≡ stop nothing
     unfolding turnIn
     turn-none y =
-        rw (drop-cons g p 0 (w .inside)) (rw (no-last (node g p) idx (w .past), turnIn) (rw (w .words) (rw (le-ltb idx n k, _>>=_) (rw y))))
+        rw (drop-cons g p 0 (w .inside)) (rw (w .longer, turnIn) (rw (w .words) (rw (le-ltb idx n k, _>>=_) (rw y))))
 
     pub turn-next : isEnd KBWG (node g p) ≡ false → turnIn counts (drop p g) p idx ≡ turnIn counts (drop (p + 1) g) (p + 1) (idx - n)
     unfolding turnIn
     turn-next y =
-        rw add-one (rw (drop-cons g p 0 (w .inside)) (rw (no-last (node g p) idx (w .past), turnIn)
+        rw add-one (rw (drop-cons g p 0 (w .inside)) (rw (w .longer, turnIn)
         (rw (w .words) (rw (le-ltb idx n k, _>>=_) (rw y)))))
 
 -- ---- turn by turn

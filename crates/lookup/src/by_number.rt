@@ -1,9 +1,10 @@
 // The word of a number.
 ghost use mathlib.Core.Path.{_≡_};
+ghost use mathlib.Core.Bool.{_&&_};
 ghost use Prim.Native.Nat.{_+_, _^_, _<_};
-ghost use lib.Dec.{ltb};
+ghost use lib.Dec.{eqb};
 ghost use lib.ListN.{length};
-ghost use Rattle.node.specs.Nodes.{KBWG, acceptsBit};
+ghost use Rattle.node.specs.Nodes.{KBWG, accepts};
 ghost use Rattle.lookup.specs.Walks.{wordsHere, wordFrom, wordByIndex};
 ghost use Rattle.lookup.specs.Said.{here, WordPut};
 use node::Node24;
@@ -46,7 +47,7 @@ fn words_here(counts: &[u32], v: u32, p: usize) -> Here
 
 // Whether the word with number idx ends at node v: the first of its words is its tile alone, if it accepts.
 fn ends_at(v: u32, idx: u32) -> bool
-    ensures { λ r. ⌜ r ≡ ltb idx (acceptsBit KBWG v) ⌝ }
+    ensures { λ r. ⌜ r ≡ eqb idx 0 && accepts KBWG v ⌝ }
 {
     if idx != 0 {
         return false;

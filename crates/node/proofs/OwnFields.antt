@@ -1,5 +1,5 @@
--- A node's own fields, its flags taken as tests.
-use mathlib.Core.Path.{_≡_, refl, _∙_}
+-- A node's own fields, its flags taken as tests, and that what is packed again are these.
+use mathlib.Core.Path.{_≡_, refl, ap, _∙_}
 use mathlib.Core.Bool.{Bool}
 use Prim.Native.Nat.{ℕ, zero, suc, _/_, _%_, _^_, _<_}
 use native.Mathlib.Nat.{mod-lt}
@@ -7,6 +7,7 @@ use native.Mathlib.Omega.{arith}
 use lib.Dec.{eqb}
 use Rattle.base.specs.Numbers.{flag}
 use Rattle.node.specs.Nodes.{Field, Tile, Accepts, End, Arc, Bits, width, BitLayout, fields, tile, accepts, isEnd, arc, values}
+use Rattle.node.specs.Said.{packAnswer, repackNodeAnswer}
 
 flag-of-bit : (b : ℕ) → b < 2 → flag (eqb b 1) ≡ b
 flag-of-bit zero h = refl
@@ -23,5 +24,7 @@ module _ (y : BitLayout) (one-bit : (width (y .accepts) ≡ 1) × (width (y .end
   value-field End = flag-field (y .end) (one-bit .1)
   value-field Arc = refl
 
-  pub values-fields : {t r : ℕ} {a e : Bool} → t ≡ tile y v → a ≡ accepts y v → e ≡ isEnd y v → r ≡ arc y v → values t a e r ≡ fields y v
-  values-fields pt pa pe pr = (λ i. values (pt i) (pa i) (pe i) (pr i)) ∙ (λ i f. value-field f i)
+  -- the fields read, packed again
+  pub repacks : (to : BitLayout) {t r : ℕ} {a e : Bool} → t ≡ tile y v → a ≡ accepts y v → e ≡ isEnd y v → r ≡ arc y v
+      → packAnswer to (values t a e r) ≡ repackNodeAnswer y to v
+  repacks to pt pa pe pr = ap (packAnswer to) ((λ i. values (pt i) (pa i) (pe i) (pr i)) ∙ (λ i f. value-field f i))

@@ -1,12 +1,7 @@
 -- `write_be_halves` meets its contract: the bytes of the high half and then of the low one are those of the whole number.
 use native.Mathlib.Omega.{arith}
-use mathlib.Core.Path.{ap, sym, _∙_}
-use mathlib.Core.List.{List}
-use Prim.Native.Nat.{ℕ, _+_}
-use lib.Seq.{sets}
-use Rattle.endian.specs.Bytes.{bigEndian}
-use Rattle.endian.proofs.BigStores.{halves}
-use Rattle.laws.specs.ListWrites.{sets-append}
+use mathlib.Core.Path.{_∙_}
+use Rattle.endian.proofs.BigStores.{stores-halves}
 use borrow.Author.Needs.{needs}
 use Rattle.endian.proofs.write_be_halves.Statement.{statement}
 use Rattle.endian.proofs.write_be_halves.Tie as tie
@@ -30,9 +25,7 @@ returns c =
     let s = higher .before .before .before in
     let a = s .args in
     lower .write-be-u322 .ensures
-    ∙ ap (λ (o : List ℕ). sets o (a .p + 4) (bigEndian 4 (a .low))) (higher .write-be-u32 .ensures)
-    ∙ sym (sets-append (a .bytes .now) (a .p) (bigEndian 4 (a .high)) (bigEndian 4 (a .low)))
-    ∙ ap (λ (b : List ℕ). sets (a .bytes .now) (a .p) b) (halves (a .high) (a .low) (omega (arith, s .fits)))
+    ∙ rw (higher .write-be-u32 .ensures) (stores-halves (a .bytes .now) (a .p) (a .high) (a .low) (omega (arith, s .fits)))
 
 pub write-be-halves-spec : {M : Type 1} → statement M
 write-be-halves-spec =

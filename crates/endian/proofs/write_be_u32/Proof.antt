@@ -1,11 +1,8 @@
 -- `write_be_u32` meets its contract: the four bytes stored one by one are those of the number, the highest first.
 use native.Mathlib.Omega.{arith}
-use mathlib.Core.Path.{ap, _∙_}
-use mathlib.Core.List.{List}
-use Prim.Native.Nat.{ℕ, _/_, _%_}
+use native.Mathlib.Numerals.{add-one, add-two, add-three}
 use lib.ListN.{length-set}
-use lib.Seq.{sets}
-use Rattle.endian.proofs.BigStores.{stores-four, four-bytes}
+use native.Mathlib.Nat.{div-div-eq-div-mul}
 use borrow.Author.Needs.{needs}
 use Rattle.endian.proofs.write_be_u32.Statement.{statement}
 use Rattle.endian.proofs.write_be_u32.Tie as tie
@@ -47,11 +44,7 @@ same-length : tie.Need-same-length
 same-length c = search needs
 
 returns : tie.Need-returns
-returns c =
-    let a = c .args in
-    let v = a .v in
-    stores-four (a .bytes .now) (a .p) (v / 16777216 % 256) (v / 65536 % 256) (v / 256 % 256) (v % 256)
-    ∙ ap (λ (b : List ℕ). sets (a .bytes .now) (a .p) b) (four-bytes v)
+returns c = simp (add-one, add-two, add-three, div-div-eq-div-mul)
 
 pub write-be-u32-spec : {M : Type 1} → statement M
 write-be-u32-spec =

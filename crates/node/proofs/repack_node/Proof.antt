@@ -1,8 +1,7 @@
 -- `repack_node` meets its contract: by the layout, what is packed are the fields that were read.
-use mathlib.Core.Path.{refl, ap, _∙_}
+use mathlib.Core.Path.{refl, _∙_}
 use Rattle.node.specs.Nodes.{KWG, KBWG}
-use Rattle.node.specs.Said.{bitLayout, packAnswer}
-use Rattle.node.proofs.OwnFields.{values-fields}
+use Rattle.node.proofs.OwnFields.{repacks}
 use borrow.Author.Needs.{needs}
 use Rattle.node.proofs.repack_node.Statement.{statement}
 use Rattle.node.proofs.repack_node.Tie as tie
@@ -47,21 +46,15 @@ returns : tie.Need-returns
 returns c =
     let read = c .before in
     let tile = read .before .before .before in
-    let told = tile .before in
-    let fields =
-    values-fields KWG (refl, refl) _ (tile .tile .ensures) (read .before .before .accepts .ensures)
-    (read .before .is-end .ensures) (read .arc-index .ensures) in
-    rw (told .enum-told .given .1) (c .pack .ensures ∙ ap (packAnswer (bitLayout (told .before .before .args .to))) fields)
+    rw (tile .before .enum-told .given .1) (c .pack .ensures ∙ repacks KWG (refl, refl) _ _
+    (tile .tile .ensures) (read .before .before .accepts .ensures) (read .before .is-end .ensures) (read .arc-index .ensures))
 
 returns-2 : tie.Need-returns-2
 returns-2 c =
     let read = c .before in
     let tile = read .before .before .before in
-    let told = tile .before in
-    let fields =
-    values-fields KBWG (refl, refl) _ (tile .tile2 .ensures) (read .before .before .accepts2 .ensures)
-    (read .before .is-end2 .ensures) (read .arc-index2 .ensures) in
-    rw (told .enum-told2 .given .1) (c .pack2 .ensures ∙ ap (packAnswer (bitLayout (told .before .before .args .to))) fields)
+    rw (tile .before .enum-told2 .given .1) (c .pack2 .ensures ∙ repacks KBWG (refl, refl) _ _
+    (tile .tile2 .ensures) (read .before .before .accepts2 .ensures) (read .before .is-end2 .ensures) (read .arc-index2 .ensures))
 
 pub repack-node-spec : {M : Type 1} → statement M
 repack-node-spec =

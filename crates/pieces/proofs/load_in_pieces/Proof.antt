@@ -2,10 +2,13 @@
 use borrow.Author.Needs.{needs}
 use native.Mathlib.Omega.{arith}
 use mathlib.Core.Path.{_≡_, ap, _∙_}
-use Prim.Native.Nat.{_-_, _≤_, _<_}
+use mathlib.Core.List.{List}
+use Prim.Native.Nat.{ℕ, _+_, _-_, _≤_, _<_}
 use lib.ListN.{length, drop, length-drop}
 use lib.Seq.{take-all}
+use Rattle.graph.specs.Runs.{Graph}
 use Rattle.load.specs.Loading.{feed}
+use Rattle.load.specs.declared.loader.Loader.{Loader}
 use Rattle.pieces.proofs.CutLaws.{fedFrom, feed-next, feed-rest, loaded}
 use Rattle.pieces.proofs.load_in_pieces.Statement.{statement}
 use Rattle.pieces.proofs.load_in_pieces.Tie as tie
@@ -50,37 +53,51 @@ feed-requires c κs = search needs
 store-answer-requires : tie.Need-store-answer-requires Inv-loop μ-loop
 store-answer-requires c κs = search needs
 
-abbrev at-entry : tie.At-loop Inv-loop μ-loop → tie.Start Inv-loop μ-loop
-at-entry c = c .before .before .before .before .before .before .before .before
+-- where a turn begins
+module _ (c : tie.At-loop Inv-loop μ-loop) where
+  abbrev asked : tie.Start Inv-loop μ-loop
+  asked = c .before .before .before .before .before .before .before .before
+
+  abbrev cuts : List ℕ
+  cuts = asked .args .cuts .now
+
+  abbrev bytes : List ℕ
+  bytes = asked .args .bytes .now
+
+  -- what the feeds from here on leave
+  abbrev left : List ℕ × Loader × Graph
+  left = fedFrom (c .loop .answers) (c .loop .i) (c .loop .loader) (c .loop .nodes) (drop (c .loop .i) cuts) (drop (c .loop .from) bytes)
 
 -- once a piece is fed and its answer is stored
-abbrev this-turn : tie.After-store-answer Inv-loop μ-loop → tie.In-loop Inv-loop μ-loop
-this-turn c = c .before .before .before .before .before .before .before .before .before
+module _ (c : tie.After-store-answer Inv-loop μ-loop) where
+  abbrev fed : tie.After-feed Inv-loop μ-loop
+  fed = c .before .before .before .before
 
-cut-left : (c : tie.After-store-answer Inv-loop μ-loop) → this-turn c .before .loop .i < length (at-entry (this-turn c .before) .args .cuts .now)
-cut-left c = this-turn c .loop-test .taken
+  abbrev cut : tie.After-piece-end Inv-loop μ-loop
+  cut = fed .before .before .before
+
+  abbrev turn : tie.At-loop Inv-loop μ-loop
+  turn = cut .before .before .before
+
+  cut-left : turn .loop .i < length (cuts turn)
+  cut-left = cut .before .before .loop-test .taken
+
+  next : fedFrom (c .store-answer .last .0) (turn .loop .i + 1) (fed .feed .result .loader) (fed .feed .last .1 .1 .0)
+      (drop (turn .loop .i + 1) (cuts turn)) (drop (cut .piece-end .result) (bytes turn)) ≡ left turn
+  next =
+      feed-next _ _ _ (cuts turn) (bytes turn) (turn .loop .i) (turn .loop .from) (cut .piece-end .result)
+      cut-left (turn .loop .inv .1) (cut .piece-end .ensures) (fed .feed .ensures) (c .store-answer .ensures)
 
 add-i : tie.Need-add-i Inv-loop μ-loop
-add-i c = let m = c .before .before .before in omega (arith, cut-left m, at-entry (this-turn m .before) .good .1 .1 .1 .0 .0)
+add-i c = let m = c .before .before .before in omega (arith, cut-left m, asked (turn m) .good .1 .1 .1 .0 .0)
 
 loop-less : tie.Need-loop-less Inv-loop μ-loop
 loop-less c = omega (arith, cut-left (c .before .before .before))
 
 loop-again : tie.Need-loop-again Inv-loop μ-loop
 loop-again c = let m = c .before .before .before in
-    let a = at-entry (this-turn m .before) .args in
-    let l = this-turn m .before .loop in
-    let end = m .before .before .before .before .before .before .before .piece-end in
-    let fed = m .before .before .before .before .feed in
-    let next =
-    feed-next (l .answers) (l .loader) (l .nodes) (a .cuts .now) (a .bytes .now) (l .i) (l .from) (end .result)
-    (cut-left m) (l .inv .1) (end .ensures) (fed .ensures) (m .store-answer .ensures) in (
-      omega (arith, cut-left m),
-      omega (arith, end .ensures),
-      m .store-answer .kept .0 ∙ l .inv .2,
-      fed .kept .1 .1 .0 ∙ l .inv .3,
-      next ∙ l .inv .4,
-    )
+    let h = turn m .loop .inv in
+    (omega (arith, cut-left m), omega (arith, cut m .piece-end .ensures), m .store-answer .kept .0 ∙ h .2, fed m .feed .kept .1 .1 .0 ∙ h .3, next m ∙ h .4)
 
 sub-feed-2 : tie.Need-sub-feed-2 Inv-loop μ-loop
 sub-feed-2 c = search needs
@@ -107,21 +124,24 @@ same-length-2 : tie.Need-same-length-2 Inv-loop μ-loop
 same-length-2 c = search needs
 
 -- once the rest is fed and its answer is stored
-abbrev loop-done : tie.After-store-answer2 Inv-loop μ-loop → tie.After-loop Inv-loop μ-loop
-loop-done c = c .before .before .before .before .before .before .before
+module _ (c : tie.After-store-answer2 Inv-loop μ-loop) where
+  abbrev last : tie.After-feed2 Inv-loop μ-loop
+  last = c .before .before .before .before
+
+  abbrev end : tie.At-loop Inv-loop μ-loop
+  end = last .before .before .before .before
+
+  rest-fed : (c .store-answer2 .last .0, last .feed2 .result .loader, last .feed2 .last .1 .1 .0) ≡ left end
+  rest-fed =
+      let all = take-all (length (bytes end) - end .loop .from) (drop (end .loop .from) (bytes end)) (simp length-drop (omega arith)) in
+      feed-rest _ _ _ (cuts end) (bytes end) (end .loop .i) (end .loop .from) (last .before .before .before .loop-test .left)
+      (last .feed2 .ensures ∙ ap (feed (end .loop .loader) (end .loop .nodes)) all) (c .store-answer2 .ensures)
 
 returns : tie.Need-returns Inv-loop μ-loop
 returns c = let m = c .before .before .before .before .before .before .before in
-    let at = loop-done m .before in
-    let a = at-entry at .args in
-    let l = at .loop in
-    let bytes = a .bytes .now in
-    let rest = take-all (length bytes - l .from) (drop (l .from) bytes) (simp length-drop (omega arith)) in
-    let r =
-    feed-rest (l .answers) (l .loader) (l .nodes) (a .cuts .now) bytes (l .i) (l .from) (loop-done m .loop-test .left)
-    (m .before .before .before .before .feed2 .ensures ∙ ap (feed (l .loader) (l .nodes)) rest) (m .store-answer2 .ensures) in
-    loaded (a .announced) (a .layout) (a .nodes .now) (a .cuts .now) bytes (a .answers .now) _
-    (at .before .before .begin .ensures) (r ∙ l .inv .4) (c .before .before .finish .ensures)
+    let a = asked (end m) .args in
+    loaded (a .announced) (a .layout) (a .nodes .now) (a .cuts .now) (a .bytes .now) (a .answers .now) _
+    (end m .before .before .begin .ensures) (rest-fed m ∙ end m .loop .inv .4) (c .before .before .finish .ensures)
 
 pub load-in-pieces-spec : {M : Type 1} → statement M
 load-in-pieces-spec =

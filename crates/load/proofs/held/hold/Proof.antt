@@ -1,12 +1,12 @@
 -- `hold` meets its contract: the bytes of the piece that are left, put behind those that are in, give what all give.
 use borrow.Author.Needs.{needs}
 use native.Mathlib.Omega.{arith}
-use Prim.Native.Nat.{_+_, _-_, _<_, _≤_}
-use native.Mathlib.Nat.{add-zero, add-suc}
-use native.Mathlib.Numerals.{add-one}
+use Prim.Native.Nat.{_+_, _-_, _≤_}
+use native.Mathlib.Nat.{add-zero}
 use mathlib.Core.Path.{_≡_, refl, sym, _∙_}
-use lib.ListN.{length, drop, length-set, drop-of-length-le}
-use lib.Seq.{sets, drop-cons}
+use lib.ListN.{length, drop, length-set}
+use lib.Seq.{sets}
+use Rattle.laws.specs.ListWrites.{sets-next, sets-done}
 use Rattle.load.proofs.held.hold.Statement.{statement}
 use Rattle.load.proofs.held.hold.Tie as tie
 
@@ -35,14 +35,12 @@ loop-less : tie.Need-loop-less Inv-loop μ-loop
 loop-less c = search needs
 
 loop-again : tie.Need-loop-again Inv-loop μ-loop
-loop-again c = let l = c .before .before .loop in
-    let p = c .before .before .before .args .piece .now in
-    let h : l .i < length p = omega arith in
-    (omega arith, simp length-set (l .inv .1), sym (rw (drop-cons p (l .i) 0 h, add-one, add-suc)) ∙ l .inv .2)
+loop-again c = let a = c .before .before .before .args in let l = c .before .before .loop in
+    (omega arith, simp length-set (l .inv .1), sym (sets-next (l .next) (a .piece .now) (a .count) (l .i) (omega arith)) ∙ l .inv .2)
 
 returns : tie.Need-returns Inv-loop μ-loop
-returns c = let p = c .before .before .args .piece .now in
-    (sym (rw (drop-of-length-le p (c .loop-test .left))) ∙ c .before .loop .inv .2, omega arith)
+returns c = let a = c .before .before .args in let l = c .before .loop in
+    (sym (sets-done (l .next) (a .piece .now) (a .count + l .i) (l .i) (c .loop-test .left)) ∙ l .inv .2, omega arith)
 
 pub hold-spec : {M : Type 1} → statement M
 hold-spec =

@@ -63,10 +63,10 @@ module _ (c : tie.After-joined-node) where
   all-left : take (length (piece start) - used) (drop used (piece start)) ≡ drop used (piece start)
   all-left = take-all (length (piece start) - used) (drop used (piece start)) (simp length-drop (omega arith))
 
-  after-first : drop 4 (bytes start) ≡ drop used (piece start)
+  after-first : drop 4 (bytes start) ≡ take (length (piece start) - used) (drop used (piece start))
   after-first =
       let h = ok start in
-      fresh-rest (state start .held) (state start .«held_count») (piece start) (c .joined-node .ensures .1) (omega arith)
+      fresh-rest (state start .held) (state start .«held_count») (piece start) (c .joined-node .ensures .1) (omega arith) ∙ sym all-left
 
 -- as it is repacked
 module _ (c : tie.After-repack-node) where
@@ -165,10 +165,8 @@ returns-3 c =
     let b = told .before .before in
     let s = joined b in
     let p = piece-node (state s .announced) (state s .layout) (nodes s) (k s) (bytes s) (some-node (b .before)) (repacked b (told .v .given .1)) in
-    let all = all-left (b .before) in
-    let after = after-first (b .before) in
-    let w = called .read-whole2 .ensures in
-    ((rw (all, ← after, add-one) at (w .0)) ∙ p .0, (rw (all, ← after, add-one) at (w .1)) ∙ p .1)
+    let w = rw (← after-first (b .before), add-one) at (called .read-whole2 .ensures) in
+    (w .0 ∙ p .0, w .1 ∙ p .1)
 
 returns-4 : tie.Need-returns-4
 returns-4 c =

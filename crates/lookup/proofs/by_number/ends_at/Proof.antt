@@ -1,26 +1,17 @@
--- `ends_at` meets its contract: the bit is 0 or 1, so a number below it is 0 and the bit is 1.
-use mathlib.Core.Path.{sym, _∙_}
-use native.Mathlib.Omega.{arith}
+-- `ends_at` meets its contract: where the number is 0 the test is that of the flag.
 use borrow.Author.Needs.{needs}
-use borrow.Author.Tests.{le-ltb, lt-ltb, eqb-true, eqb-false}
-use Rattle.laws.specs.Cases.{split}
-use Rattle.node.specs.Nodes.{KBWG, acceptsBit, accepts}
+use borrow.Author.Tests.{eq-eqb, ne-eqb}
 use Rattle.lookup.proofs.by_number.ends_at.Statement.{statement}
 use Rattle.lookup.proofs.by_number.ends_at.Tie as tie
 
 returns : tie.Need-returns
-returns c = let a = c .before .args in sym (le-ltb (a .idx) (acceptsBit KBWG (a .v)) (omega (arith, c .if1 .taken)))
+returns c = rw (ne-eqb (c .before .args .idx) 0 (c .if1 .taken))
 
 accepts-requires : tie.Need-accepts-requires
 accepts-requires c κs = search needs
 
 returns-2 : tie.Need-returns-2
-returns-2 c =
-    let a = c .before .before .args in
-    let zero = c .before .if1 .left in
-    c .accepts .ensures ∙ split (accepts KBWG (a .v))
-    (λ t. let one = eqb-true (acceptsBit KBWG (a .v)) 1 t in t ∙ sym (lt-ltb (a .idx) (acceptsBit KBWG (a .v)) (omega arith)))
-    (λ t. let none = eqb-false (acceptsBit KBWG (a .v)) 1 t in t ∙ sym (le-ltb (a .idx) (acceptsBit KBWG (a .v)) (omega (arith, none))))
+returns-2 c = rw (eq-eqb (c .before .before .args .idx) 0 (c .before .if1 .left)) (c .accepts .ensures)
 
 pub ends-at-spec : {M : Type 1} → statement M
 ends-at-spec = tie.close (tie.spec returns accepts-requires returns-2)

@@ -2,14 +2,14 @@
 -- The measure: the room of the buffer, then the nodes from the place on.
 use mathlib.Core.List.{List}
 use mathlib.Core.Path.{_≡_, refl, sym, ap, _∙_}
-use mathlib.Core.Bool.{true, false}
+use mathlib.Core.Bool.{Bool, true, false, _&&_}
 use Prim.Native.Nat.{ℕ, suc, _+_, _-_, _*_, _≤_, _<_}
 use native.Mathlib.Omega.{arith}
 use borrow.Author.Needs.{needs}
-use borrow.Author.Tests.{ltb-true, ltb-false}
+use lib.Dec.{eqb}
 use lib.ListN.{length, drop, set, length-set}
 use Rattle.answers.specs.Answers.{Answer}
-use Rattle.node.specs.Nodes.{acceptsBit, KBWG}
+use Rattle.node.specs.Nodes.{accepts, KBWG}
 use Rattle.graph.specs.Runs.{node}
 use Rattle.lookup.specs.Steps.{Try, on, stop}
 use Rattle.lookup.specs.Walks.{Turn, last, down, wordsHere, turnIn, wordFrom}
@@ -17,7 +17,7 @@ use Rattle.lookup.specs.declared.by_number.WordByIndex.{WordByIndex}
 use Rattle.lookup.specs.declared.by_number.WordByIndex.the-variants as T
 use Rattle.lookup.specs.declared.by_number.Here.{Here}
 use Rattle.lookup.specs.Said.{here, saidWord, WordPut}
-use Rattle.lookup.proofs.WordByIndexLaws.{HasWords, turn-out, turn-last, turn-stop, turn-down, turn-none, turn-next}
+use Rattle.lookup.proofs.WordByIndexLaws.{past-own, HasWords, turn-out, turn-last, turn-stop, turn-down, turn-none, turn-next}
 use Rattle.lookup.proofs.Buffer.{Left, left-start, by-stop, by-full, by-last, by-down, by-next, fall}
 use Rattle.lookup.proofs.by_number.word_from.Statement.{statement}
 use Rattle.lookup.proofs.by_number.word_from.Tie as tie
@@ -67,25 +67,25 @@ module _ (c : tie.After-ends-at Inv-loop μ-loop) where
   inside : at .loop .p < length (g at)
   inside = c .before .before .loop-test .taken
 
-  last-here : c .ends-at .result ≡ true → turn at ≡ on (last v)
-  last-here t = turn-last (counts at) (g at) (at .loop .p) (at .loop .idx) inside (ltb-true _ _ (sym (c .ends-at .ensures) ∙ t))
+  ends : {b : Bool} → c .ends-at .result ≡ b → eqb (at .loop .idx) 0 && accepts KBWG v ≡ b
+  ends t = sym (c .ends-at .ensures) ∙ t
 
-  others : c .ends-at .result ≡ false → acceptsBit KBWG v ≤ at .loop .idx
-  others t = ltb-false _ _ (sym (c .ends-at .ensures) ∙ t)
+  last-here : c .ends-at .result ≡ true → turn at ≡ on (last v)
+  last-here t = turn-last (counts at) (g at) (at .loop .p) (at .loop .idx) inside (ends t)
 
 -- the words of a node at which it does not end
 module _ (c : tie.After-words-here Inv-loop μ-loop) where
   abbrev ended : tie.After-ends-at Inv-loop μ-loop
   ended = c .before .before
 
-  past : acceptsBit KBWG (v ended) ≤ at ended .loop .idx
-  past = others ended (c .before .if1 .left)
+  longer : eqb (at ended .loop .idx) 0 && accepts KBWG (v ended) ≡ false
+  longer = ends ended (c .before .if1 .left)
 
   told : {r : Here} → c .words-here .result ≡ r → wordsHere (counts (at ended)) (v ended) (at ended .loop .p) ≡ here r
   told e = sym (c .words-here .ensures) ∙ ap here e
 
   stopped-here : {r : Answer} → wordsHere (counts (at ended)) (v ended) (at ended .loop .p) ≡ stop r → turn (at ended) ≡ stop r
-  stopped-here e = turn-stop (counts (at ended)) (g (at ended)) (at ended .loop .p) (at ended .loop .idx) (inside ended) past e
+  stopped-here e = turn-stop (counts (at ended)) (g (at ended)) (at ended .loop .p) (at ended .loop .idx) (inside ended) longer e
 
 -- how many words begin there
 module _ (c : tie.After-here Inv-loop μ-loop) where
@@ -99,7 +99,7 @@ module _ (c : tie.After-here Inv-loop μ-loop) where
   words = c .here .given .0 .0
 
   has-words : HasWords (counts begun) (g begun) (begun .loop .p) (begun .loop .idx) words
-  has-words = record { inside = inside (ended counted); past = past counted; words = told counted (c .here .given .1) }
+  has-words = record { inside = inside (ended counted); longer = longer counted; words = told counted (c .here .given .1) }
 
 loop-holds : tie.Need-loop-holds Inv-loop μ-loop
 loop-holds c = let a = c .before .before .before .args in left-start (a .counts .now) (a .nodes .now) (a .p) (a .idx) (a .word .now)
@@ -179,7 +179,9 @@ module _ (c : tie.After-tile2 Inv-loop μ-loop) where
   less = rw length-set (omega arith)
 
 sub-idx : tie.Need-sub-idx Inv-loop μ-loop
-sub-idx c = let most = past (counted (found (c .before))) in omega (arith, c .accepts-bit .ensures)
+sub-idx c =
+    let h = counted (found (c .before)) in
+    omega (arith, c .accepts-bit .ensures, past-own (v (ended h)) (at (ended h) .loop .idx) (longer h))
 
 arc-index-requires : tie.Need-arc-index-requires Inv-loop μ-loop
 arc-index-requires c κs = search needs
