@@ -19,7 +19,7 @@ use Rattle.lookup.specs.StepsLaws.{lent-on}
 use Rattle.numbers.specs.Walkable.{Walkable}
 use Rattle.numbers.specs.RunWords.{spelled-alone, spelled-both, spelled-arc}
 use Rattle.numbers.specs.TileSearch.{NotIn, FoundIs, found-at, found-none, find, in-found, alone, longer}
-use Rattle.letters.specs.AlphaSets.{copies, spent, ended}
+use Rattle.letters.specs.AlphaSets.{copies, spent, acceptsAt}
 use Rattle.alphagrams.specs.Alphagrams.{alphagramFrom, ReadBelow}
 
 -- ---- the walk along a word, by seek
@@ -89,11 +89,11 @@ module _ (g : Graph) (counted : List ℕ) (walk : Walkable g g counted) (up : as
     no : (ReadBelow g p w → ⊥) → Reads p w (on false)
 
   found-reads : (p t : ℕ) (w : Word) → arc KBWG (node g p) ≢ 0 → {r : Try ℕ} → FoundIs g g counted walk up (arc KBWG (node g p)) t r
-      → ((q : ℕ) → q < length g → Reads q w (ended g (walkTo g q w))) → Reads p (t ∷ w) (ended g (r >>= λ q. walkTo g q w))
-  unfolding ended
+      → ((q : ℕ) → q < length g → Reads q w (acceptsAt g (walkTo g q w))) → Reads p (t ∷ w) (acceptsAt g (r >>= λ q. walkTo g q w))
+  unfolding acceptsAt
   found-reads p t w n (found-none k) ih = no (λ r. k w (r .1))
   found-reads p t w n (found-at {q} l e front f k) ih =
-      turn (ended g (walkTo g q w)) (ih q l)
+      turn (acceptsAt g (walkTo g q w)) (ih q l)
     where
       turn : (x : Try Bool) → Reads q w x → Reads p (t ∷ w) x
       turn x (yes r) =
@@ -103,8 +103,8 @@ module _ (g : Graph) (counted : List ℕ) (walk : Walkable g g counted) (up : as
           no (λ m. r (below-spelled q w (in-found g g counted walk up (arc KBWG (node g p)) q front w l f (subst (λ s. NotIn s front) (sym e) k)
           (subst (λ s. List·Memᴰ (s ∷ w) (W (arc KBWG (node g p)))) (sym e) (m .1)))))
 
-  pub reads : (w : Word) (p : ℕ) → p < length g → Reads p w (ended g (walkTo g p w))
-  unfolding walkTo ended stepTo
+  pub reads : (w : Word) (p : ℕ) → p < length g → Reads p w (acceptsAt g (walkTo g p w))
+  unfolding walkTo acceptsAt stepTo
   reads [] p h =
       rw (lent-on g p h)
       (split (accepts KBWG (node g p)) (λ a. rw a (yes a)) (λ a. rw a (no (λ r. true≢false (sym r ∙ a)))))

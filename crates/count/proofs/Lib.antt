@@ -2,7 +2,7 @@
 mod Lists
 mod Rows
 mod Steps
-mod Tally
+mod SumLaws
 mod WalkLaws
 mod Roots
 mod Results

@@ -20,7 +20,7 @@ use Rattle.graph.specs.Lent.{WorkKept, work-untouched}
 use Rattle.count.specs.CountWalk.{mark, isMet, isDone, CountWalk, AllDone, LoopFound, ReachesIs}
 use Rattle.count.proofs.Lists.{cleared-of-kept}
 use Rattle.count.proofs.Rows.{counts-room}
-use Rattle.count.proofs.Tally.{tally-zero}
+use Rattle.count.proofs.SumLaws.{sum-zero}
 
 -- a refusal before the walk leaves both lists as they were
 pub unfit-answer : (limit : ℕ) (g : Graph) (c w : List ℕ) {r : Answer} → firstOf (countRow g (length c) (length w)) ≡ some r
@@ -28,11 +28,11 @@ pub unfit-answer : (limit : ℕ) (g : Graph) (c w : List ℕ) {r : Answer} → f
 unfit-answer limit g c w e = (unfit e, work-untouched refl)
 
 -- the walk begins with all marks 0
-pub walk-start : (limit : ℕ) (g : Graph) (c w : List ℕ) → 2 * length g ≤ length w → length g ≤ length c
+pub count-start : (limit : ℕ) (g : Graph) (c w : List ℕ) → 2 * length g ≤ length w → length g ≤ length c
     → ((k : ℕ) → k < length g → mark w k ≡ 0) → CountWalk limit g c w 0
-walk-start limit g c w r s z =
-    let m = tally-zero isMet w (length g) refl z in
-    let d = tally-zero isDone w (length g) refl z in
+count-start limit g c w r s z =
+    let m = sum-zero isMet w (length g) refl z in
+    let d = sum-zero isDone w (length g) refl z in
     record {
       room = r;
       room-counts = s;

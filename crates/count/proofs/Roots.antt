@@ -8,9 +8,9 @@ use lib.ListN.{length}
 use Rattle.graph.specs.Runs.{Graph}
 use Rattle.graph.specs.ChecksLaws.{Fit}
 use Rattle.graph.specs.Lent.{Kept, kept-then}
-use Rattle.count.specs.CountWalk.{mark, pushed, mets, dones, Done, CountWalk, StepTaken, AllDone, LoopFound}
+use Rattle.count.specs.CountWalk.{mark, nodePushed, mets, dones, Done, CountWalk, StepTaken, AllDone, LoopFound}
 use Rattle.count.proofs.Lists.{kept-all}
-use Rattle.count.proofs.Tally.{same?, mets-le, dones-le}
+use Rattle.count.proofs.SumLaws.{same?, mets-le, dones-le}
 use Rattle.count.proofs.WalkLaws.{pushed-walk}
 
 -- so many roots are left; those after them are met, and the walk from a root ends before the next
@@ -71,14 +71,14 @@ module _ (limit : ℕ) (g : Graph) (c₀ w₀ c w : List ℕ) (roots size : ℕ)
         work-kept = R .work-kept;
       }
 
-  pub next-less : 0 < roots → turns g w (roots - 1) < turns g w roots
-  next-less b =
+  pub root-less : 0 < roots → turns g w (roots - 1) < turns g w roots
+  root-less b =
       let m = mets-le g w in
       let d = dones-le g w in
       omega arith
 
   -- a root that is new
-  pub root-steps : Fit g → 0 < roots → size ≡ 0 → mark w (roots - 1) ≡ 0 → StepTaken limit g c w c (pushed w (length g) 0 (roots - 1)) 1
+  pub root-steps : Fit g → 0 < roots → size ≡ 0 → mark w (roots - 1) ≡ 0 → StepTaken limit g c w c (nodePushed w (length g) 0 (roots - 1)) 1
   root-steps K b z n =
       let l = R .within in
       pushed-walk limit g c w 0 K (subst (λ k. CountWalk limit g c w k) z (R .walk)) (roots - 1) (omega arith) n (λ i e. absurd (omega arith))

@@ -16,15 +16,15 @@ use Rattle.graph.specs.ChecksLaws.{Fit, fit}
 use Rattle.graph.specs.Counting.{countRow}
 
 module _ (g : Graph) (counts work : ℕ) where
-  abbrev lent : Row
-  lent = drop 3 (countRow g counts work)
+  abbrev listsRow : Row
+  listsRow = drop 3 (countRow g counts work)
 
   pub graph-refused : {r : Answer} → firstOf (graphRow g) ≡ some r → firstOf (countRow g counts work) ≡ some r
-  graph-refused e = rows-refuse (graphRow g) lent e
+  graph-refused e = rows-refuse (graphRow g) listsRow e
 
   module _ (sound : firstOf (graphRow g) ≡ none) where
-    judged : firstOf (countRow g counts work) ≡ firstOf lent
-    judged = rows-pass (graphRow g) lent sound
+    judged : firstOf (countRow g counts work) ≡ firstOf listsRow
+    judged = rows-pass (graphRow g) listsRow sound
 
     pub counts-short : counts < length g → firstOf (countRow g counts work) ≡ some (refused 11 [])
     counts-short h = judged ∙ row-refuses _ _ _ (rw (lt-ltb _ _ h))
@@ -37,13 +37,13 @@ module _ (g : Graph) (counts work : ℕ) where
 
   module _ (clear : firstOf (countRow g counts work) ≡ none) where
     sound : firstOf (graphRow g) ≡ none
-    sound = rows-passed (graphRow g) lent clear
+    sound = rows-passed (graphRow g) listsRow clear
 
-    pub passed : Fit g
-    passed = fit g sound
+    pub row-fit : Fit g
+    row-fit = fit g sound
 
     room : ltb counts (length g) || ltb work (2 * length g) ≡ false
-    room = row-passed _ _ _ (sym (rows-pass (graphRow g) lent sound) ∙ clear) .0
+    room = row-passed _ _ _ (sym (rows-pass (graphRow g) listsRow sound) ∙ clear) .0
 
     pub counts-room : length g ≤ counts
     counts-room = ltb-false _ _ (or-false-left _ _ room)

@@ -14,10 +14,10 @@ use Rattle.graph.specs.Loops.{Step, Reach, once, then, Loops, Clear}
 use Rattle.graph.specs.ChecksLaws.{Fit}
 use Rattle.graph.specs.LoopLaws.{step-inside, clear-above}
 use Rattle.graph.specs.CountLaws.{sumAt, count-equation, sum-capped}
-use Rattle.count.specs.CountWalk.{mark, done, stacked, pushed, isMet, isDone, mets, dones, Open, Entry, Done, CountWalk, StepTaken}
+use Rattle.count.specs.CountWalk.{mark, done, stacked, nodePushed, isMet, isDone, mets, dones, Open, Entry, Done, CountWalk, StepTaken}
 use Rattle.graph.specs.Lent.{kept-then, kept-set}
 use Rattle.count.proofs.Lists.{kept-all}
-use Rattle.count.proofs.Tally.{same?, tally-inside, tally-outside, mets-le}
+use Rattle.count.proofs.SumLaws.{same?, sum-inside, sum-outside, mets-le}
 
 -- ---- a step changes the mark of x, and of no other node
 module _ (g : Graph) (w w′ : List ℕ) (x : ℕ) (others : (k : ℕ) → k < length g → k ≢ x → mark w′ k ≡ mark w k) where
@@ -64,13 +64,13 @@ module _ (limit : ℕ) (g : Graph) (c w : List ℕ) (size : ℕ) (K : Fit g) (W 
     w₁ = set w q (size + 1)
 
     w′ : List ℕ
-    w′ = pushed w (length g) size q
+    w′ = nodePushed w (length g) size q
 
     mets₁ : mets g w₁ ≡ mets g w + 1
     unfolding w₁
     mets₁ =
         let r = W .room in
-        let e = tally-inside isMet w (length g) q (size + 1) q< (omega arith) in
+        let e = sum-inside isMet w (length g) q (size + 1) q< (omega arith) in
         let f : isMet (mark w q) ≡ 0 = ap isMet new in
         omega arith
 
@@ -86,7 +86,7 @@ module _ (limit : ℕ) (g : Graph) (c w : List ℕ) (size : ℕ) (K : Fit g) (W 
     unfolding w₁
     dones₁ =
         let r = W .room in
-        let e = tally-inside isDone w (length g) q (size + 1) q< (omega arith) in
+        let e = sum-inside isDone w (length g) q (size + 1) q< (omega arith) in
         let f : isDone (mark w q) ≡ 0 = ap isDone new in
         let s = K .most in
         let l = size-lt in
@@ -94,11 +94,11 @@ module _ (limit : ℕ) (g : Graph) (c w : List ℕ) (size : ℕ) (K : Fit g) (W 
 
     mets′ : mets g w′ ≡ mets g w + 1
     unfolding w′ w₁
-    mets′ = tally-outside isMet w₁ (length g) (length g + size) q (omega arith) ∙ mets₁
+    mets′ = sum-outside isMet w₁ (length g) (length g + size) q (omega arith) ∙ mets₁
 
     dones′ : dones g w′ ≡ dones g w
     unfolding w′ w₁
-    dones′ = tally-outside isDone w₁ (length g) (length g + size) q (omega arith) ∙ dones₁
+    dones′ = sum-outside isDone w₁ (length g) (length g + size) q (omega arith) ∙ dones₁
 
     at-other : (k : ℕ) → k ≢ q → k ≢ length g + size → mark w′ k ≡ mark w k
     unfolding w′ w₁
@@ -165,7 +165,7 @@ module _ (limit : ℕ) (g : Graph) (c w : List ℕ) (size : ℕ) (K : Fit g) (W 
           (λ l. rw (at-entry (suc i) l) (W .path i l))
           (eq-or-lt-of-le (omega arith)))
 
-      pub pushed-walk : StepTaken limit g c w c (pushed w (length g) size q) (size + 1)
+      pub pushed-walk : StepTaken limit g c w c (nodePushed w (length g) size q) (size + 1)
       unfolding w′
       pushed-walk =
           let a = W .tallied in
@@ -228,14 +228,14 @@ module _ (limit : ℕ) (g : Graph) (c w : List ℕ) (size : ℕ) (K : Fit g) (W 
     mets″ : mets g w″ ≡ mets g w
     unfolding w″
     mets″ =
-        let e = tally-inside isMet w (length g) p done p< p<w in
+        let e = sum-inside isMet w (length g) p done p< p<w in
         let f : isMet (mark w p) ≡ isMet (suc s) = ap isMet open-p in
         omega arith
 
     dones″ : dones g w″ ≡ suc (dones g w)
     unfolding w″
     dones″ =
-        let e = tally-inside isDone w (length g) p done p< p<w in
+        let e = sum-inside isDone w (length g) p done p< p<w in
         let f : isDone (mark w p) ≡ isDone (suc s) = ap isDone open-p in
         let m = size-le in
         let z = K .most in
@@ -341,7 +341,7 @@ module _ (limit : ℕ) (g : Graph) (c w : List ℕ) (size : ℕ) (K : Fit g) (W 
       step-loops f n =
           loop-closed limit g c w size K W q (size - 1) (omega arith) (rw top at d) (open-of limit g c w size K W q (step-inside (K .steps) d) n f)
 
-      pub step-pushes : mark w q ≡ 0 → StepTaken limit g c w c (pushed w (length g) size q) (size + 1)
+      pub step-pushes : mark w q ≡ 0 → StepTaken limit g c w c (nodePushed w (length g) size q) (size + 1)
       step-pushes n =
           pushed-walk limit g c w size K W q (step-inside (K .steps) d) n
           (λ i e. subst (λ k. Step KBWG g k q) (top ∙ ap (stacked g w) (omega arith)) d)

@@ -28,13 +28,13 @@ abbrev pub stacked : Graph → List ℕ → ℕ → ℕ
 stacked g w i = getD w (length g + i) 0
 
 -- the work list with q put on the stack of so many nodes above n marks
-abbrev pub pushed : List ℕ → ℕ → ℕ → ℕ → List ℕ
-pushed w n size q = set (set w q (size + 1)) (n + size) q
+abbrev pub nodePushed : List ℕ → ℕ → ℕ → ℕ → List ℕ
+nodePushed w n size q = set (set w q (size + 1)) (n + size) q
 
 -- the sum of f over the first n numbers
-unfoldable pub tally : (ℕ → ℕ) → List ℕ → ℕ → ℕ
-tally f w zero = 0
-tally f w (suc n) = tally f w n + f (getD w n 0)
+unfoldable pub sumOver : (ℕ → ℕ) → List ℕ → ℕ → ℕ
+sumOver f w zero = 0
+sumOver f w (suc n) = sumOver f w n + f (getD w n 0)
 
 -- 1 for the mark of a node that is met, and for that of one that is done
 abbrev pub isMet : ℕ → ℕ
@@ -45,10 +45,10 @@ isDone m = min 1 (m / done)
 
 -- how many nodes are met, and how many are done
 abbrev pub mets : Graph → List ℕ → ℕ
-mets g w = tally isMet w (length g)
+mets g w = sumOver isMet w (length g)
 
 abbrev pub dones : Graph → List ℕ → ℕ
-dones g w = tally isDone w (length g)
+dones g w = sumOver isDone w (length g)
 
 -- ---- the walk
 -- node k is on the stack

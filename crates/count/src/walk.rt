@@ -6,7 +6,7 @@ ghost use Prim.Native.Nat.{_*_, _<_, _≤_};
 ghost use lib.ListN.{length};
 ghost use Rattle.graph.specs.Counting.{countLimit};
 ghost use Rattle.graph.specs.ChecksLaws.{Fit};
-ghost use Rattle.count.specs.CountWalk.{CountWalk, NextIs, StepIs, WalkedIs, pushed};
+ghost use Rattle.count.specs.CountWalk.{CountWalk, NextIs, StepIs, WalkedIs, nodePushed};
 use crate::sums::count_at;
 use node::Node24;
 
@@ -54,7 +54,7 @@ fn push(work: &mut [u32], n: usize, size: usize, q: usize)
     requires { ⌜ size < n ⌝ }
     requires { ⌜ n ≤ 16777216 ⌝ }
     requires { ⌜ 2 * n ≤ length (now work) ⌝ }
-    ensures { λ _. ⌜ now (work .exit) ≡ pushed (now (work .entry)) n size q ⌝ }
+    ensures { λ _. ⌜ now (work .exit) ≡ nodePushed (now (work .entry)) n size q ⌝ }
 {
     work[q] = (size + 1) as u32;
     work[n + size] = q as u32;

@@ -13,20 +13,20 @@ use Rattle.lookup.specs.StepsLaws.{lent-on, lent-out}
 use Rattle.cursor.specs.RunSteps.{stepIn}
 
 module _ (g : Graph) (p : ℕ) where
-  pub step-out : length g ≤ p → stepIn g p ≡ refused 14 []
+  pub run-step-out : length g ≤ p → stepIn g p ≡ refused 14 []
   unfolding stepIn
-  step-out h = rw (lent-out g p h)
+  run-step-out h = rw (lent-out g p h)
 
   module _ (h : p < length g) where
-    pub step-done : isEnd KBWG (node g p) ≡ true → stepIn g p ≡ nothing
+    pub run-step-done : isEnd KBWG (node g p) ≡ true → stepIn g p ≡ nothing
     unfolding stepIn
-    step-done e = rw (lent-on g p h) (rw e)
+    run-step-done e = rw (lent-on g p h) (rw e)
 
     module _ (n : isEnd KBWG (node g p) ≡ false) where
-      pub step-last : length g ≤ p + 1 → stepIn g p ≡ refused 14 []
+      pub run-step-last : length g ≤ p + 1 → stepIn g p ≡ refused 14 []
       unfolding stepIn
-      step-last k = rw (lent-on g p h) (rw n (rw (lent-out g (suc p) (omega arith))))
+      run-step-last k = rw (lent-on g p h) (rw n (rw (lent-out g (suc p) (omega arith))))
 
-      pub step-next : p + 1 < length g → stepIn g p ≡ gives ((p + 1) ∷ [])
+      pub run-step-next : p + 1 < length g → stepIn g p ≡ gives ((p + 1) ∷ [])
       unfolding stepIn
-      step-next k = rw add-one (rw (lent-on g p h) (rw n (rw (lent-on g (suc p) (omega arith)))))
+      run-step-next k = rw add-one (rw (lent-on g p h) (rw n (rw (lent-on g (suc p) (omega arith)))))

@@ -18,7 +18,7 @@ use Rattle.graph.specs.Runs.{Graph, node, run}
 use Rattle.graph.specs.Words.{inOrder, spelled, wordsWithin, words}
 use Rattle.graph.specs.ChecksLaws.{Closed}
 use Rattle.graph.specs.RunLaws.{in-graph}
-use Rattle.graph.specs.WordsEquation.{in-order-ext, spelled-ext, Short, stable}
+use Rattle.graph.specs.WordsEquation.{in-order-ext, spelled-ext, Short, words-within-stable}
 use Rattle.export.specs.Starts.{runOf, hasArc, deeper}
 use Rattle.export.specs.BlocksLaws.{Low}
 
@@ -138,7 +138,7 @@ module _ (g : Graph) where
 
   words-by : (d k p : ℕ) → deeper g k p ≡ false → wordsWithin KBWG (d + k) g p ≡ wordsWithin KBWG k g p
   words-by zero k p e = rw zero-add
-  words-by (suc d) k p e = rw suc-add (stable KBWG g (d + k) p (shallow-short (d + k) p (shallow-by g d k p e)) ∙ words-by d k p e)
+  words-by (suc d) k p e = rw suc-add (words-within-stable KBWG g (d + k) p (shallow-short (d + k) p (shallow-by g d k p e)) ∙ words-by d k p e)
 
   words-from : (k j p : ℕ) → k ≤ j → deeper g k p ≡ false → wordsWithin KBWG j g p ≡ wordsWithin KBWG k g p
   words-from k j p h e = let i : j ≡ (j - k) + k = omega arith in ap (λ n. wordsWithin KBWG n g p) i ∙ words-by (j - k) k p e

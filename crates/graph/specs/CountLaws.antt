@@ -15,7 +15,7 @@ use Rattle.node.specs.Nodes.{BitLayout, tile, arc, accepts, isEnd}
 use Rattle.graph.specs.Runs.{Graph, node, run}
 use Rattle.graph.specs.Words.{Word, inOrder, spelled, words, count}
 use Rattle.graph.specs.Loops.{Step, by-arc, by-run, once, Clear}
-use Rattle.graph.specs.WordsEquation.{clear-below, words-equation}
+use Rattle.graph.specs.WordsEquation.{clear-reached, words-equation}
 
 own-length : (b : Bool) (w : Word) → length {A = Word} (elim b [ true ↦ w ∷ [] | false ↦ [] ]) ≡ flag b
 own-length true w = refl
@@ -69,7 +69,7 @@ module _ (y : BitLayout) where
     pub words-on : isEnd y (node g p) ≡ false → words y g p ≡ spelled y (words y g) (node g p) ++ words y g (suc p)
     unfolding run inOrder
     words-on e =
-        let next = words-equation y g (suc p) (clear-below y g p (suc p) c (once (by-run h e))) in
+        let next = words-equation y g (suc p) (clear-reached y g p (suc p) c (once (by-run h e))) in
         words-equation y g p c ∙ rw (drop-cons g p 0 h) (rw (e, run) (ap (spelled y (words y g) (node g p) ++_) (sym next)))
 
     -- the count of a node by the counts of the nodes that it leads to

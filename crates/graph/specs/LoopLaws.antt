@@ -6,7 +6,7 @@ use Rattle.node.specs.Nodes.{BitLayout, KBWG}
 use Rattle.graph.specs.Runs.{Graph}
 use Rattle.graph.specs.Loops.{Step, by-arc, by-run, Reach, once, then, Loops, Clear}
 use Rattle.graph.specs.ChecksLaws.{Closed}
-use Rattle.graph.specs.WordsEquation.{trans}
+use Rattle.graph.specs.WordsEquation.{reach-trans}
 
 pub step-inside : {g : Graph} {p q : ℕ} → Closed g → Step KBWG g p q → q < length g
 step-inside {g} {p} k (by-arc h n) = k .arcs p h
@@ -28,7 +28,7 @@ module _ (y : BitLayout) where
     module _ (p : ℕ) (next : (q : ℕ) → Step y g p q → Clear y g q) where
       loops-after : {q : ℕ} → q ≡ p → Reach y g p q → ⊥
       loops-after {q} e (once s) = next q s .itself (once (rw (sym e) at s))
-      loops-after e (then s r) = next _ s .itself (trans y r (once (rw (sym e) at s)))
+      loops-after e (then s r) = next _ s .itself (reach-trans y r (once (rw (sym e) at s)))
 
       pub clear-above : Clear y g p
       clear-above = record { itself = loops-after refl; below = λ q r. reached r }

@@ -44,17 +44,17 @@ module _ (y : BitLayout) where
   short-outside g zero p h = h
   short-outside g (suc k) p h = λ v m n. absurd (List·Memᴰ·not-nil (rw (no-run g p h) at m))
 
-  pub stable : (g : Graph) (k p : ℕ) → Short g k p → wordsWithin y (suc k) g p ≡ wordsWithin y k g p
+  pub words-within-stable : (g : Graph) (k p : ℕ) → Short g k p → wordsWithin y (suc k) g p ≡ wordsWithin y k g p
   unfolding wordsWithin inOrder
-  stable g zero p s = rw (no-run g p s)
-  stable g (suc k) p s =
+  words-within-stable g zero p s = rw (no-run g p s)
+  words-within-stable g (suc k) p s =
       in-order-ext (spelled y (λ q. wordsWithin y (suc k) g q)) (spelled y (λ q. wordsWithin y k g q)) (run y (drop p g))
-      (λ v m. spelled-ext (λ q. wordsWithin y (suc k) g q) (λ q. wordsWithin y k g q) v (λ n. stable g k (arc y v) (s v m n)))
+      (λ v m. spelled-ext (λ q. wordsWithin y (suc k) g q) (λ q. wordsWithin y k g q) v (λ n. words-within-stable g k (arc y v) (s v m n)))
 
   -- ---- no loop: no path is long
-  pub trans : {g : Graph} {p q r : ℕ} → Reach y g p q → Reach y g q r → Reach y g p r
-  trans (once s) t = then s t
-  trans (then s u) t = then s (trans u t)
+  pub reach-trans : {g : Graph} {p q r : ℕ} → Reach y g p q → Reach y g q r → Reach y g p r
+  reach-trans (once s) t = then s t
+  reach-trans (then s u) t = then s (reach-trans u t)
 
   -- a node of the run from p stands at p, or is reached from it
   module _ (g : Graph) where
@@ -95,11 +95,11 @@ module _ (y : BitLayout) where
         let r = in-run (drop p g) p refl v m in
         let step = once (by-arc (r .within) (λ z. n (ap (arc y) (sym (r .is)) ∙ z))) in
         let s : Reach y g (r .at) (arc y v) = subst (λ w. Reach y g (r .at) (arc y w)) (r .is) step in
-        ⊎-elim (λ i. subst (λ k. Reach y g k (arc y v)) i s) (λ u. trans u s) (r .from)
+        ⊎-elim (λ i. subst (λ k. Reach y g k (arc y v)) i s) (λ u. reach-trans u s) (r .from)
 
   module _ (g : Graph) where
-    pub clear-below : (p q : ℕ) → Clear y g p → Reach y g p q → Clear y g q
-    clear-below p q c r = record { itself = c .below q r; below = λ z s. c .below z (trans r s) }
+    pub clear-reached : (p q : ℕ) → Clear y g p → Reach y g p q → Clear y g q
+    clear-reached p q c r = record { itself = c .below q r; below = λ z s. c .below z (reach-trans r s) }
 
     inside : (xs : List ℕ) (p : ℕ) → Clear y g p → ((x : ℕ) → x < length g → List·Memᴰ x xs ⊎ Reach y g x p) → p < length g → List·Memᴰ p xs
     inside xs p c u l = ⊎-elim (λ m. m) (λ r. absurd (c .itself r)) (u p l)
@@ -116,12 +116,12 @@ module _ (y : BitLayout) where
         (λ i v m n.
         let r = arc-reached g p v m n in
         let less = without-lt p xs (inside xs p c u (ltb-true p (length g) i)) in
-        short k (without p xs) (omega arith) (arc y v) (clear-below p (arc y v) c r)
+        short k (without p xs) (omega arith) (arc y v) (clear-reached p (arc y v) c r)
         (λ x l. ⊎-elim
         (λ j. split (eqb x p)
         (λ e. inr (subst (λ z. Reach y g z (arc y v)) (sym (eqb-true x p e)) r))
         (λ e. inl (without-keeps p x xs (eqb-false x p e) j)))
-        (λ s. inr (trans s r))
+        (λ s. inr (reach-trans s r))
         (u x l)))
         (λ o. short-outside g (suc k) p (ltb-false p (length g) o))
 
@@ -133,4 +133,4 @@ module _ (y : BitLayout) where
     -- each word from the arc."
     pub words-equation : (p : ℕ) → Clear y g p → words y g p ≡ inOrder (spelled y (words y g)) (run y (drop p g))
     unfolding words wordsWithin
-    words-equation p c = sym (stable g (length g) p (clear-short p c))
+    words-equation p c = sym (words-within-stable g (length g) p (clear-short p c))

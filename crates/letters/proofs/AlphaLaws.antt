@@ -18,7 +18,7 @@ use Rattle.lookup.specs.Steps.{Try, on, stop, _>>=_, answer}
 use Rattle.lookup.specs.Walks.{stepTo}
 use Rattle.lookup.specs.StepsLaws.{lent-on, lent-out}
 use Rattle.laws.specs.BitSets.{marked}
-use Rattle.letters.specs.AlphaSets.{tallyRow, copies, spent, ended, completes, closing, along, crossCopies, crossLetters, crossFrom}
+use Rattle.letters.specs.AlphaSets.{tallyRow, copies, spent, acceptsAt, completes, closing, along, crossCopies, crossLetters, crossFrom}
 
 -- ---- the row
 pub tally-long : (tally : List ℕ) → 64 < length tally → firstOf (tallyRow tally) ≡ some (refused 17 [])
@@ -71,19 +71,19 @@ module _ (g : Graph) (tally : List ℕ) where
 
   module _ (t p : ℕ) where
     pub completes-no : spent g t (drop t tally) p ≡ stop nothing → completes g tally t p ≡ on false
-    unfolding completes ended
+    unfolding completes acceptsAt
     completes-no e = rw e
 
     pub completes-stop : {n : ℕ} → spent g t (drop t tally) p ≡ stop (refused n []) → completes g tally t p ≡ stop (refused n [])
-    unfolding completes ended
+    unfolding completes acceptsAt
     completes-stop e = rw e
 
     pub completes-out : (q : ℕ) → spent g t (drop t tally) p ≡ on q → length g ≤ q → completes g tally t p ≡ stop (refused 14 [])
-    unfolding completes ended
+    unfolding completes acceptsAt
     completes-out q e h = rw e (rw (lent-out g q h))
 
     pub completes-at : (q : ℕ) → spent g t (drop t tally) p ≡ on q → q < length g → completes g tally t p ≡ on (accepts KBWG (node g q))
-    unfolding completes ended
+    unfolding completes acceptsAt
     completes-at q e h = rw e (rw (lent-on g q h))
 
   -- ---- the three loops

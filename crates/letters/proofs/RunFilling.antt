@@ -19,7 +19,7 @@ use Rattle.graph.specs.Runs.{Graph, node, run}
 use Rattle.graph.specs.Counting.{table}
 use Rattle.graph.specs.TableLaws.{table-length}
 use Rattle.laws.specs.BitSets.{marked, bitSet, bit-set-with}
-use Rattle.letters.specs.LetterBits.{tilesOf, perNode, filled, bitsRow, lettered, letterBits, carry}
+use Rattle.letters.specs.LetterBits.{tilesOf, perNode, bitsWritten, bitsRow, lettered, letterBits, carry}
 
 -- ---- the row
 module _ (g : Graph) (l a : List ℕ) where
@@ -91,8 +91,8 @@ module _ {test : ℕ → Bool} {g : Graph} {l₀ : List ℕ} where
   filling-step {l} {s} {i} f x p h e =
       let o : i ≡ suc (i - 1) = omega arith in filling-next (rw o at f) x (omega arith) e
 
-  pub filling-done : {l : List ℕ} {s i : ℕ} → RunFilling test g l₀ l s i → i ≤ 0 → length g ≤ length l₀ → l ≡ filled test g l₀
-  unfolding filled
+  pub filling-done : {l : List ℕ} {s i : ℕ} → RunFilling test g l₀ l s i → i ≤ 0 → length g ≤ length l₀ → l ≡ bitsWritten test g l₀
+  unfolding bitsWritten
   filling-done {l} {s} {i} f z h =
       let e = table-length (length g) (λ p. tilesOf test (drop p g)) in
       let o : i ≡ 0 = omega arith in

@@ -30,15 +30,15 @@ module _ (g : Graph) where
   spent t (n ∷ ns) p = copies n t p >>= λ q. spent (suc t) ns q
 
   -- whether they lead to a node that accepts
-  unfoldable pub ended : Try ℕ → Try Bool
-  ended (on q) = lent g q >>= λ v. on (accepts KBWG v)
-  ended (stop (gives vs)) = stop (gives vs)
-  ended (stop nothing) = on false
-  ended (stop (refused n vs)) = stop (refused n vs)
+  unfoldable pub acceptsAt : Try ℕ → Try Bool
+  acceptsAt (on q) = lent g q >>= λ v. on (accepts KBWG v)
+  acceptsAt (stop (gives vs)) = stop (gives vs)
+  acceptsAt (stop nothing) = on false
+  acceptsAt (stop (refused n vs)) = stop (refused n vs)
 
   -- whether the letters of the tally from t on lead from p to a node that accepts
   unfoldable pub completes : List ℕ → ℕ → ℕ → Try Bool
-  completes tally t p = ended (spent t (drop t tally) p)
+  completes tally t p = acceptsAt (spent t (drop t tally) p)
 
 -- ---- the cross set
 -- after the last letter: the tiles that accept in the run that begins at the head of the nodes left, over the set s

@@ -22,8 +22,8 @@ abbrev pub perNode : (ℕ → Bool) → Graph → List ℕ
 perNode test g = table (length g) (λ p. tilesOf test (drop p g))
 
 -- a lent list once an entry for each node is written: "entries past that stay"
-unfoldable pub filled : (ℕ → Bool) → Graph → List ℕ → List ℕ
-filled test g l = perNode test g ++ drop (length g) l
+unfoldable pub bitsWritten : (ℕ → Bool) → Graph → List ℕ → List ℕ
+bitsWritten test g l = perNode test g ++ drop (length g) l
 
 -- "all tiles": those of every node
 abbrev pub every : ℕ → Bool
@@ -42,7 +42,7 @@ pub record Lettered : Type 0 where
 -- "all tiles and accepting tiles"
 abbrev pub lettered : Option Answer → Graph → List ℕ → List ℕ → Lettered
 lettered (some r) g l a = record { answer = r; all = l; accepting = a }
-lettered none g l a = record { answer = gives []; all = filled every g l; accepting = filled (accepts KBWG) g a }
+lettered none g l a = record { answer = gives []; all = bitsWritten every g l; accepting = bitsWritten (accepts KBWG) g a }
 
 -- "`compute_letter_bits`": the row, then both lists
 unfoldable pub letterBits : Graph → List ℕ → List ℕ → Lettered

@@ -35,6 +35,6 @@ saidCross X.NotLent = refused 14 []
 saidCross X.TallyTooLong = refused 17 []
 
 -- ---- part of a walk
-abbrev pub decided : Completes → Try Bool
-decided (C.Known b) = on b
-decided C.NotLent = stop (refused 14 [])
+abbrev pub completesTry : Completes → Try Bool
+completesTry (C.Known b) = on b
+completesTry C.NotLent = stop (refused 14 [])

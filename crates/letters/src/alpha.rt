@@ -3,7 +3,7 @@ ghost use mathlib.Core.Path.{_≡_};
 ghost use Prim.Native.Nat.{_≤_};
 ghost use lib.ListN.{length, drop};
 ghost use Rattle.letters.specs.AlphaSets.{completes, acceptsAlpha, closing as closed, crossFrom, crossSet};
-ghost use Rattle.letters.specs.Said.{decided, saidAlpha, saidCross};
+ghost use Rattle.letters.specs.Said.{completesTry, saidAlpha, saidCross};
 use crate::tiles::marked;
 use lookup::RunSearch;
 use lookup::lent_part;
@@ -30,7 +30,7 @@ pub enum Completes {
 // Whether the letters of the tally from next_letter on lead from p to a node that accepts.
 fn completes_alpha_cross_set(nodes: &[u32], p: usize, tally: &[u8], next_letter: usize) -> Completes
     requires { ⌜ length (now tally) ≤ 64 ⌝ }
-    ensures { λ r. ⌜ decided r ≡ completes (now (nodes .entry)) (now (tally .entry)) «next_letter» p ⌝ }
+    ensures { λ r. ⌜ completesTry r ≡ completes (now (nodes .entry)) (now (tally .entry)) «next_letter» p ⌝ }
 {
     let mut p = p;
     let mut letter = next_letter;

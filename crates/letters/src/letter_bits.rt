@@ -11,7 +11,7 @@ pub enum LetterBits {
 }
 
 // What the nodes after v leave of their set: nothing where v is an end.
-fn carried(set: u64, v: u32) -> u64
+fn carry(set: u64, v: u32) -> u64
     ensures { λ r. ⌜ r ≡ carry set v ⌝ }
 {
     if Node24(v).is_end() { 0 } else { set }
@@ -38,8 +38,8 @@ pub fn compute_letter_bits(
     while 0 < i {
         i -= 1;
         let v = nodes[i];
-        all = marked(carried(all, v), v, true);
-        accepting = marked(carried(accepting, v), v, Node24(v).accepts());
+        all = marked(carry(all, v), v, true);
+        accepting = marked(carry(accepting, v), v, Node24(v).accepts());
         letter_bits[i] = all;
         accepting_bits[i] = accepting;
     }

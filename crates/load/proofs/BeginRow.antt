@@ -25,5 +25,5 @@ module _ (n lentNodes : ℕ) where
       pub begin-short : lentNodes < max (n / 4) 2 → firstOf (beginRow n lentNodes) ≡ some (refused 3 [])
       begin-short s = row-passes _ _ _ past-1 ∙ row-passes _ _ _ (le-ltb 67_108_864 n i) ∙ row-refuses _ _ _ (lt-ltb lentNodes (max (n / 4) 2) s)
 
-      pub begin-ready : max (n / 4) 2 ≤ lentNodes → firstOf (beginRow n lentNodes) ≡ none
-      begin-ready r = row-passes _ _ _ past-1 ∙ row-passes _ _ _ (le-ltb 67_108_864 n i) ∙ row-passes _ _ _ (le-ltb lentNodes (max (n / 4) 2) r) ∙ row-ends
+      pub begin-passes : max (n / 4) 2 ≤ lentNodes → firstOf (beginRow n lentNodes) ≡ none
+      begin-passes r = row-passes _ _ _ past-1 ∙ row-passes _ _ _ (le-ltb 67_108_864 n i) ∙ row-passes _ _ _ (le-ltb lentNodes (max (n / 4) 2) r) ∙ row-ends

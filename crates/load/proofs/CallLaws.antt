@@ -13,7 +13,7 @@ use Rattle.answers.specs.RowLaws.{row-refuses, row-passes, rows-refuse, rows-pa
 use Rattle.graph.specs.Runs.{Graph}
 use Rattle.graph.specs.Checks.{nodesRow}
 use Rattle.load.specs.Repacking.{misfitAnswer}
-use Rattle.load.specs.Loading.{soundRow, keptMisfit, stateRow, finishRow, Feeds, feed, finishes, finish, fresh, stateAfter, nodesAfter}
+use Rattle.load.specs.Loading.{soundRow, keptMisfit, stateRow, finishRow, Feeds, feed, finishes, finish, heldThen, stateAfter, nodesAfter}
 use Rattle.load.specs.StateLaws.{state-keeps}
 use Rattle.load.specs.FeedLaws.{state-kept, state-passes, feed-reads}
 use Rattle.load.specs.declared.repack.Misfit.{Misfit}
@@ -29,11 +29,11 @@ module _ (s : Loader) (lentNodes : ℕ) where
 -- ---- feed: its answer is what the state after it keeps
 module _ (s : Loader) (nodes : Graph) (piece : List ℕ) (ok : firstOf (soundRow s (length nodes)) ≡ none) (k : keptMisfit (s .kept) ≡ none) where
   pub fed-reads : s .taken + length piece ≤ s .announced → {r : Loader} {after : Graph}
-      → r ≡ stateAfter (s .announced) (s .layout) (s .taken / 4) (fresh s piece)
-      → after ≡ nodesAfter (s .layout) (s .taken / 4) (fresh s piece) nodes
+      → r ≡ stateAfter (s .announced) (s .layout) (s .taken / 4) (heldThen s piece)
+      → after ≡ nodesAfter (s .layout) (s .taken / 4) (heldThen s piece) nodes
       → _≡_ {A = Feeds} (record { answer = misfitAnswer (keptMisfit (r .kept)); state = r; nodes = after }) (feed s nodes piece)
   fed-reads h p q =
-      let kept = ap (λ (x : Loader). keptMisfit (x .kept)) p ∙ state-keeps (s .announced) (s .layout) (s .taken / 4) (fresh s piece) in
+      let kept = ap (λ (x : Loader). keptMisfit (x .kept)) p ∙ state-keeps (s .announced) (s .layout) (s .taken / 4) (heldThen s piece) in
       (λ i. record { answer = misfitAnswer (kept i); state = p i; nodes = q i }) ∙ sym (feed-reads s nodes piece ok k h)
 
 -- ---- finish

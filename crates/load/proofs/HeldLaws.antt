@@ -39,23 +39,23 @@ module _ (h : List ℕ) (n : ℕ) (p : List ℕ) (l : length h ≡ 3) (m : n ≤
   used : length (take n h) ≡ n
   used = length-take-le n h (omega arith)
 
-  pub fresh-length : length (take n h ++ p) ≡ n + length p
-  fresh-length = length-append (take n h) p ∙ ap (λ k. k + length p) used
+  pub held-then-length : length (take n h ++ p) ≡ n + length p
+  held-then-length = length-append (take n h) p ∙ ap (λ k. k + length p) used
 
-  pub fresh-held : (j : ℕ) → j < n → getD (take n h ++ p) j 0 ≡ getD h j 0
-  fresh-held j q = List·getD-append (take n h) p 0 j (rw used q) ∙ getD-take n h j 0 q
+  pub held-then-held : (j : ℕ) → j < n → getD (take n h ++ p) j 0 ≡ getD h j 0
+  held-then-held j q = List·getD-append (take n h) p 0 j (rw used q) ∙ getD-take n h j 0 q
 
-  pub fresh-piece : (j : ℕ) → getD (take n h ++ p) (n + j) 0 ≡ getD p j 0
-  fresh-piece j = rw used at (getD-append-add (take n h) p j 0)
+  pub held-then-piece : (j : ℕ) → getD (take n h ++ p) (n + j) 0 ≡ getD p j 0
+  held-then-piece j = rw used at (getD-append-add (take n h) p j 0)
 
-  pub fresh-rest : drop 4 (take n h ++ p) ≡ drop (4 - n) p
-  fresh-rest =
+  pub held-then-rest : drop 4 (take n h ++ p) ≡ drop (4 - n) p
+  held-then-rest =
       let e : n + (4 - n) ≡ 4 = omega arith in
       let d : drop (n + (4 - n)) (take n h ++ p) ≡ drop (4 - n) p = rw used at (drop-append-add (take n h) p (4 - n)) in
       rw e at d
 
-  pub fresh-places : zeros (drop n h) ≡ true → places (take n h ++ p) ≡ sets h n p
-  fresh-places e =
+  pub held-then-places : zeros (drop n h) ≡ true → places (take n h ++ p) ≡ sets h n p
+  held-then-places e =
       sets-append (0 ∷ 0 ∷ 0 ∷ []) 0 (take n h) p
       ∙ ap (λ k. sets (places (take n h)) k p) (zero-add (length (take n h)) ∙ used)
       ∙ ap (λ z. sets z n p) (held-places h n l m e)

@@ -11,7 +11,7 @@ use Rattle.node.specs.Nodes.{BitLayout}
 use Rattle.node.specs.Said.{repackNodeAnswer}
 use Rattle.endian.specs.Bytes.{toBytes, nodeAt, wholeNodes, nodeBytes}
 use Rattle.load.specs.Repacking.{firstMisfit, fitting, misfitAnswer}
-use Rattle.load.proofs.NextNode.{next-fits, next-stops, none-left}
+use Rattle.load.proofs.NextNode.{next-fits, next-stops, no-next-node}
 
 module _ (old new : BitLayout) where
   -- the answer and the bytes that come of the bytes from place i on, where node i / 4 begins
@@ -44,4 +44,4 @@ module _ (old new : BitLayout) where
 
     pub nodes-done : length s < i + 4 → (gives [] ≡ answerFrom s i) × (s ≡ bytesFrom s i)
     unfolding nodeBytes
-    nodes-done h = let n = none-left old new s i (i / 4) h in rw (n .0, n .1) (refl, refl)
+    nodes-done h = let n = no-next-node old new s i (i / 4) h in rw (n .0, n .1) (refl, refl)

@@ -32,7 +32,7 @@ module _ (old new : BitLayout) (s : List ℕ) (i k : ℕ) where
       let vs = wholeNodes (drop (i + 4) s) in
       rw (whole-next s i h) (rw (m .1, m .2) (misfit-here old new (nodeAt s i) vs k (m .0)), fitting-stops old new (nodeAt s i) vs (m .0))
 
-  pub none-left : length s < i + 4
+  pub no-next-node : length s < i + 4
       → (firstMisfit old new k (wholeNodes (drop i s)) ≡ none) × (fitting old new (wholeNodes (drop i s)) ≡ [])
   unfolding firstMisfit fitting
-  none-left h = rw (whole-none (drop i s) (simp length-drop (omega arith))) (refl, refl)
+  no-next-node h = rw (whole-none (drop i s) (simp length-drop (omega arith))) (refl, refl)

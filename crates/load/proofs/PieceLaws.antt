@@ -14,9 +14,9 @@ use Rattle.graph.specs.Runs.{Graph}
 use Rattle.endian.specs.Bytes.{nodeAt, partNode}
 use Rattle.endian.specs.BytesLaws.{part-next, part-whole, part-drop, length-part}
 use Rattle.load.specs.Repacking.{misfit}
-use Rattle.load.proofs.NextNode.{next-fits, next-stops, none-left}
-use Rattle.load.specs.Loading.{places, holding, stopped, misfitIn, stateAt, stateAfter, nodesAfter, fresh}
-use Rattle.load.proofs.HeldLaws.{fresh-length, fresh-places}
+use Rattle.load.proofs.NextNode.{next-fits, next-stops, no-next-node}
+use Rattle.load.specs.Loading.{places, holding, stopped, misfitIn, stateAt, stateAfter, nodesAfter, heldThen}
+use Rattle.load.proofs.HeldLaws.{held-then-length, held-then-places}
 use Rattle.load.specs.StateLaws.{Sound, sound, state-stopped, state-holding}
 use Rattle.load.specs.declared.repack.Misfit.{Misfit}
 use Rattle.load.specs.declared.loader.KeptRefusal.the-variants.{Nothing}
@@ -52,7 +52,7 @@ module _ (announced : ℕ) (layout : Layout) (nodes : Graph) (k : ℕ) (j : List
       → (holding announced layout (4 * k + length j) j ≡ stateAfter announced layout k j) × (nodes ≡ nodesAfter layout k j nodes)
   unfolding nodesAfter
   piece-short h =
-      let n = none-left (bitLayout layout) KBWG j 0 k h in (
+      let n = no-next-node (bitLayout layout) KBWG j 0 k h in (
         ap (holding announced layout (4 * k + length j)) (sym (part-whole j h)) ∙ sym (state-holding announced layout k j (n .0)),
         sym (ap (λ vs. sets nodes k vs) (n .1)),
       )
@@ -69,12 +69,12 @@ pub held-longer : (s : Loader) (lentNodes : ℕ) → Sound s lentNodes → (piec
       «held_count» = s .«held_count» + length piece;
       kept = Nothing;
     })
-    (holding (s .announced) (s .layout) (4 * (s .taken / 4) + length (fresh s piece)) (fresh s piece))
+    (holding (s .announced) (s .layout) (4 * (s .taken / 4) + length (heldThen s piece)) (heldThen s piece))
 unfolding holding
 held-longer s lentNodes ok piece three short p =
-    let n = fresh-length (s .held) (s .«held_count») piece three (omega arith) in
-    let h = p ∙ sym (fresh-places (s .held) (s .«held_count») piece three (omega arith) (ok .unused)) in
-    let t : s .taken + length piece ≡ 4 * (s .taken / 4) + length (fresh s piece) = let q = ok .count in rw n (omega arith) in
+    let n = held-then-length (s .held) (s .«held_count») piece three (omega arith) in
+    let h = p ∙ sym (held-then-places (s .held) (s .«held_count») piece three (omega arith) (ok .unused)) in
+    let t : s .taken + length piece ≡ 4 * (s .taken / 4) + length (heldThen s piece) = let q = ok .count in rw n (omega arith) in
     λ i. record {
       announced = s .announced;
       layout = s .layout;

@@ -137,17 +137,17 @@ unfoldable pub nodesAfter : Layout → ℕ → List ℕ → Graph → Graph
 nodesAfter layout i bytes nodes = sets nodes i (fitting (bitLayout layout) KBWG (wholeNodes bytes))
 
 -- the held bytes, then the piece
-abbrev pub fresh : Loader → List ℕ → List ℕ
-fresh s piece = take (s .«held_count») (s .held) ++ piece
+abbrev pub heldThen : Loader → List ℕ → List ℕ
+heldThen s piece = take (s .«held_count») (s .held) ++ piece
 
 -- "After 4 or 5 the state and the nodes are as before the call"; after a kept 6 too, since "later bytes are ignored"
 abbrev pub feeds : Option Answer → Loader → Graph → List ℕ → Feeds
 feeds (some r) s nodes piece = record { answer = r; state = s; nodes = nodes }
 feeds none s nodes piece =
     record {
-      answer = misfitAnswer (misfitIn (s .layout) (s .taken / 4) (fresh s piece));
-      state = stateAfter (s .announced) (s .layout) (s .taken / 4) (fresh s piece);
-      nodes = nodesAfter (s .layout) (s .taken / 4) (fresh s piece) nodes;
+      answer = misfitAnswer (misfitIn (s .layout) (s .taken / 4) (heldThen s piece));
+      state = stateAfter (s .announced) (s .layout) (s .taken / 4) (heldThen s piece);
+      nodes = nodesAfter (s .layout) (s .taken / 4) (heldThen s piece) nodes;
     }
 
 -- "each feed hands a new one back"

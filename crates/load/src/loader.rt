@@ -6,7 +6,7 @@ ghost use Prim.Native.Nat.{_+_, _*_, _/_, _<_, _≤_};
 ghost use lib.ListN.{length};
 ghost use Rattle.laws.specs.Cases.{isSome};
 ghost use Rattle.answers.specs.Answers.{firstOf};
-ghost use Rattle.load.specs.Loading.{beginRow, soundRow, begin, freshLoader, stopped, stateAfter, nodesAfter, fresh, feed, finish};
+ghost use Rattle.load.specs.Loading.{beginRow, soundRow, begin, freshLoader, stopped, stateAfter, nodesAfter, heldThen, feed, finish};
 ghost use Rattle.load.specs.Said.{beginRefusal, begunAs, fedAs, finishedAs};
 use crate::repack::Misfit;
 use crate::repack::Repacked;
@@ -252,8 +252,8 @@ fn read_whole(announced: usize, layout: Layout, bytes: &[u8], nodes: &mut [u32],
 // The state after a piece that is no longer than what is missing.
 fn read_piece(state: Loader, piece: &[u8], nodes: &mut [u32]) -> Loader
     requires { ⌜ (firstOf (soundRow state (length (now nodes))) ≡ none) × (state .taken + length (now piece) ≤ state .announced) ⌝ }
-    ensures state { λ r. ⌜ r ≡ stateAfter (state .announced) (state .layout) (state .taken / 4) (fresh state (now (piece .entry))) ⌝ }
-    ensures written { λ r. ⌜ now (nodes .exit) ≡ nodesAfter (state .layout) (state .taken / 4) (fresh state (now (piece .entry))) (now (nodes .entry)) ⌝ }
+    ensures state { λ r. ⌜ r ≡ stateAfter (state .announced) (state .layout) (state .taken / 4) (heldThen state (now (piece .entry))) ⌝ }
+    ensures written { λ r. ⌜ now (nodes .exit) ≡ nodesAfter (state .layout) (state .taken / 4) (heldThen state (now (piece .entry))) (now (nodes .entry)) ⌝ }
 {
     let announced = state.announced;
     let layout = state.layout;

@@ -54,23 +54,23 @@ found-lent g p t q e = let k = found-between (drop p g) p t q e in let l = lengt
 
 -- ---- by an arc
 module _ (g : Graph) (p t : ℕ) where
-  pub step-out : length g ≤ p → stepTo g p t ≡ stop (refused 14 [])
+  pub step-to-out : length g ≤ p → stepTo g p t ≡ stop (refused 14 [])
   unfolding stepTo
-  step-out h = rw (lent-out g p h)
+  step-to-out h = rw (lent-out g p h)
 
   module _ (h : p < length g) where
-    pub step-none : arc KBWG (node g p) ≡ 0 → stepTo g p t ≡ stop nothing
+    pub step-to-none : arc KBWG (node g p) ≡ 0 → stepTo g p t ≡ stop nothing
     unfolding stepTo
-    step-none z = rw (lent-on g p h) (rw (eq-eqb (arc KBWG (node g p)) 0 z, _>>=_))
+    step-to-none z = rw (lent-on g p h) (rw (eq-eqb (arc KBWG (node g p)) 0 z, _>>=_))
 
-    pub step-find : (q : ℕ) → q ≡ arc KBWG (node g p) → q ≢ 0 → stepTo g p t ≡ findIn (drop q g) q t
+    pub step-to-find : (q : ℕ) → q ≡ arc KBWG (node g p) → q ≢ 0 → stepTo g p t ≡ findIn (drop q g) q t
     unfolding stepTo
-    step-find q e n =
+    step-to-find q e n =
         rw (lent-on g p h) (rw (ne-eqb (arc KBWG (node g p)) 0 (λ z. n (e ∙ z)), _>>=_) (ap (λ k. findIn (drop k g) k t) (sym e)))
 
-  pub step-lent : (q : ℕ) → stepTo g p t ≡ on q → q < length g
+  pub step-to-lent : (q : ℕ) → stepTo g p t ≡ on q → q < length g
   unfolding stepTo
-  step-lent q e =
+  step-to-lent q e =
       split (ltb p (length g))
       (λ h. let k = rw (lent-on g p (ltb-true p (length g) h), _>>=_) at e in
       split (eqb (arc KBWG (node g p)) 0)

@@ -21,8 +21,8 @@ use Rattle.lookup.proofs.OutOfRange.{difference-below, sum-above}
 
 -- ---- one tile of a word
 -- what is asked before the run is searched
-pub record Begun (limit : ℕ) (g : Graph) (counts : List ℕ) (p idx : ℕ) : Type 0 where
-  pub somewhere : p ≢ 0
+pub record MaySearch (limit : ℕ) (g : Graph) (counts : List ℕ) (p idx : ℕ) : Type 0 where
+  pub not-start-0 : p ≢ 0
   pub node-lent : p < length g
   pub count-lent : p < length counts
   pub within : idx + getD counts p 0 ≤ limit
@@ -45,12 +45,12 @@ module _ (limit : ℕ) (g : Graph) (counts : List ℕ) (p idx t : ℕ) where
   unfolding passed
   passed-above n h k a = rw (ne-eqb p 0 n) (rw (lent-on g p h) (rw (lent-on counts p k) (rw (sum-above limit idx (getD counts p 0) a))))
 
-module _ {limit : ℕ} {g : Graph} {counts : List ℕ} {p idx : ℕ} (b : Begun limit g counts p idx) (t : ℕ) where
+module _ {limit : ℕ} {g : Graph} {counts : List ℕ} {p idx : ℕ} (b : MaySearch limit g counts p idx) (t : ℕ) where
   passed-search : passed limit g counts p idx t
       ≡ (findIn (drop p g) p t >>= λ q. lent counts q >>= λ found. difference (idx + getD counts p 0) found >>= λ before. on (before, node g q))
   unfolding passed
   passed-search =
-      rw (ne-eqb p 0 (b .somewhere)) (rw (lent-on g p (b .node-lent))
+      rw (ne-eqb p 0 (b .not-start-0)) (rw (lent-on g p (b .node-lent))
       (rw (lent-on counts p (b .count-lent)) (rw (sum-on limit idx (getD counts p 0) (b .within)))))
 
   pub passed-stop : {r : Answer} → findIn (drop p g) p t ≡ stop r → passed limit g counts p idx t ≡ stop r

@@ -42,18 +42,18 @@ pub record WordPut (walk : List ℕ × Answer) (before after : List ℕ) (r : Wo
   pub tiles : after ≡ walk .0 ++ drop (length (walk .0)) before
 
 -- ---- parts of a walk
-abbrev pub tried : RunSearch → Try ℕ
-tried (F.At i) = on i
-tried F.Absent = stop nothing
-tried F.NotLent = stop (refused 14 [])
+abbrev pub searchTry : RunSearch → Try ℕ
+searchTry (F.At i) = on i
+searchTry F.Absent = stop nothing
+searchTry F.NotLent = stop (refused 14 [])
 
-abbrev pub passedAs : Passed → Try (ℕ × ℕ)
-passedAs (P.To before node) = on (before, node)
-passedAs P.Absent = stop nothing
-passedAs P.NotLent = stop (refused 14 [])
-passedAs P.OutOfRange = stop (refused 15 [])
+abbrev pub passTry : Passed → Try (ℕ × ℕ)
+passTry (P.To before node) = on (before, node)
+passTry P.Absent = stop nothing
+passTry P.NotLent = stop (refused 14 [])
+passTry P.OutOfRange = stop (refused 15 [])
 
-abbrev pub here : Here → Try ℕ
-here (H.Words n) = on n
-here H.NotLent = stop (refused 14 [])
-here H.OutOfRange = stop (refused 15 [])
+abbrev pub hereTry : Here → Try ℕ
+hereTry (H.Words n) = on n
+hereTry H.NotLent = stop (refused 14 [])
+hereTry H.OutOfRange = stop (refused 15 [])

@@ -6,7 +6,7 @@ ghost use lib.Dec.{eqb};
 ghost use lib.ListN.{length};
 ghost use Rattle.node.specs.Nodes.{KBWG, accepts};
 ghost use Rattle.lookup.specs.Walks.{wordsHere, wordFrom, wordByIndex};
-ghost use Rattle.lookup.specs.Said.{here, WordPut};
+ghost use Rattle.lookup.specs.Said.{hereTry, WordPut};
 use node::Node24;
 
 pub enum WordByIndex {
@@ -26,7 +26,7 @@ pub enum Here {
 // The words of node v, at place p, by the counts from it and from the node after it, whose place must be a number.
 fn words_here(counts: &[u32], v: u32, p: usize) -> Here
     requires { ⌜ p + 1 < 2 ^ 64 ⌝ }
-    ensures { λ r. ⌜ here r ≡ wordsHere (now (counts .entry)) v p ⌝ }
+    ensures { λ r. ⌜ hereTry r ≡ wordsHere (now (counts .entry)) v p ⌝ }
 {
     if Node24(v).is_end() {
         if counts.len() <= p {

@@ -1,7 +1,7 @@
 // Run lookup: the node with a tile in the run that a node's arc leads to.
 ghost use mathlib.Core.Path.{_≡_};
 ghost use Rattle.lookup.specs.Walks.{stepTo, seek as sought};
-ghost use Rattle.lookup.specs.Said.{tried, saidSeek};
+ghost use Rattle.lookup.specs.Said.{searchTry, saidSeek};
 use crate::run::RunSearch;
 use crate::run::find_in;
 use crate::run::lent_part;
@@ -16,7 +16,7 @@ pub enum Sought {
 // One step of a walk, shared by `seek` and the alpha sets: from node p by its arc to the node with the tile.
 // It goes through all the nodes given: a call that walks takes the lent part first.
 pub fn seek_from(nodes: &[u32], p: usize, tile: u8) -> RunSearch
-    ensures { λ r. ⌜ tried r ≡ stepTo (now (nodes .entry)) p tile ⌝ }
+    ensures { λ r. ⌜ searchTry r ≡ stepTo (now (nodes .entry)) p tile ⌝ }
 {
     if nodes.len() <= p {
         return RunSearch::NotLent;

@@ -2,7 +2,7 @@
 ghost use mathlib.Core.Path.{_≡_};
 ghost use Rattle.graph.specs.Counting.{countLimit};
 ghost use Rattle.lookup.specs.Walks.{passed, indexFrom, wordIndex};
-ghost use Rattle.lookup.specs.Said.{passedAs, saidIndex};
+ghost use Rattle.lookup.specs.Said.{passTry, saidIndex};
 use crate::run::RunSearch;
 use graph::COUNT_LIMIT;
 use node::Node24;
@@ -24,7 +24,7 @@ pub enum Passed {
 
 // One tile of a word, from p with idx words passed.
 fn pass_tile(nodes: &[u32], counts: &[u32], p: usize, idx: u32, tile: u8) -> Passed
-    ensures { λ r. ⌜ passedAs r ≡ passed countLimit (now (nodes .entry)) (now (counts .entry)) p idx tile ⌝ }
+    ensures { λ r. ⌜ passTry r ≡ passed countLimit (now (nodes .entry)) (now (counts .entry)) p idx tile ⌝ }
 {
     if p == 0 {
         return Passed::Absent;

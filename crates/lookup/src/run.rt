@@ -3,7 +3,7 @@ ghost use mathlib.Core.Path.{_≡_};
 ghost use lib.ListN.{drop};
 ghost use Rattle.lookup.specs.Steps.{lentPart};
 ghost use Rattle.lookup.specs.Walks.{findIn};
-ghost use Rattle.lookup.specs.Said.{tried};
+ghost use Rattle.lookup.specs.Said.{searchTry};
 use node::Node24;
 
 pub enum RunSearch {
@@ -22,7 +22,7 @@ pub fn lent_part(list: &[u32]) -> &[u32]
 
 // The first node with the tile in the run from p.
 pub(crate) fn find_in(nodes: &[u32], p: usize, tile: u8) -> RunSearch
-    ensures { λ r. ⌜ tried r ≡ findIn (drop p (now (nodes .entry))) p tile ⌝ }
+    ensures { λ r. ⌜ searchTry r ≡ findIn (drop p (now (nodes .entry))) p tile ⌝ }
 {
     let mut i = p;
     while i < nodes.len() {

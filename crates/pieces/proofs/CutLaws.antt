@@ -65,13 +65,13 @@ module _ (answers : List ℕ) (s : Loader) (nodes : Graph) (cuts bytes : List �
   feed-rest h f t = rw (t, f, drop-of-length-le cuts h)
 
 -- what begin, the feeds and finish leave is the load in pieces
-pub loaded : (announced : ℕ) (layout : Layout) (nodes : Graph) (cuts bytes lent answers : List ℕ)
+pub load-left : (announced : ℕ) (layout : Layout) (nodes : Graph) (cuts bytes lent answers : List ℕ)
     {b : Begins} {s : Loader} {after : Graph} {last : Finishes}
     → b ≡ begin announced layout (length nodes) → (answers, s, after) ≡ fedFrom lent 0 (b .state) nodes cuts bytes
     → last ≡ finish s after
     → _≡_ {A = LoadLeft} (record { begun = b .answer; answers = answers; state = s; finished = last .answer; nodes = last .nodes })
     (loadLeaves lent (loadPieces announced layout nodes (cutAt cuts bytes)))
 unfolding loadPieces fedPieces
-loaded announced layout nodes cuts bytes lent answers p q t =
+load-left announced layout nodes cuts bytes lent answers p q t =
     let all = feedAll (begin announced layout (length nodes) .state) nodes (cutAt cuts bytes) in
     rw (t, ap (λ x. x .0) q, ap (λ x. x .1) q, ap (λ x. x .2) q, p, sets-room lent (length lent) (map refusalIn (all .answers)) 0 (omega arith))

@@ -54,11 +54,12 @@ feedAnswers announced layout bytes (p ∷ ps) =
 
 module _ (announced : ℕ) (layout : Layout) (nodes : Graph) (pieces : List (List ℕ)) where
   -- "After a refused begin each feed answers 4 and its piece is left out."
-  unfoldable pub joined : List ℕ
-  joined = elim (firstOf (beginRow announced (length nodes))) [ some r ↦ [] | none ↦ joinedFrom announced [] pieces ]
+  unfoldable pub joinedBytes : List ℕ
+  joinedBytes = elim (firstOf (beginRow announced (length nodes))) [ some r ↦ [] | none ↦ joinedFrom announced [] pieces ]
 
-  unfoldable pub answers : List Answer
-  answers =
+  -- what the feeds answer
+  unfoldable pub feedsAnswer : List Answer
+  feedsAnswer =
       elim (firstOf (beginRow announced (length nodes))) [
         | some r ↦ map (λ p. refused 4 []) pieces
         | none ↦ feedAnswers announced layout [] pieces
@@ -82,13 +83,13 @@ module _ (announced : ℕ) (layout : Layout) (nodes : Graph) where
 
 -- the claim about every list of calls
 pub record LoadsAsWhole (announced : ℕ) (layout : Layout) (nodes : Graph) (pieces : List (List ℕ)) : Type 0 where
-  pub ends : EndsAsOneFeed announced layout nodes pieces (joined announced layout nodes pieces)
-  pub answered : fedPieces announced layout nodes pieces .answers ≡ answers announced layout nodes pieces
+  pub ends : EndsAsOneFeed announced layout nodes pieces (joinedBytes announced layout nodes pieces)
+  pub answered : fedPieces announced layout nodes pieces .answers ≡ feedsAnswer announced layout nodes pieces
   -- "With no such node all joined bytes are taken, those after the last whole node are held, and the whole nodes stand in the
   -- table; with one, the nodes before it."
   pub taken : firstOf (beginRow announced (length nodes)) ≡ none
-      → fedPieces announced layout nodes pieces .state ≡ stateAfter announced layout 0 (joined announced layout nodes pieces)
-  pub placed : fedPieces announced layout nodes pieces .nodes ≡ nodesAfter layout 0 (joined announced layout nodes pieces) nodes
+      → fedPieces announced layout nodes pieces .state ≡ stateAfter announced layout 0 (joinedBytes announced layout nodes pieces)
+  pub placed : fedPieces announced layout nodes pieces .nodes ≡ nodesAfter layout 0 (joinedBytes announced layout nodes pieces) nodes
 
 -- ---- a file of the announced length, cut into pieces anyhow
 -- the bytes up to the end of each piece, after those that came before

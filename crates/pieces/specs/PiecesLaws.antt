@@ -26,7 +26,7 @@ use Rattle.load.specs.StateLaws.{sound-state, bad-length, state-holding, state-
 use Rattle.load.specs.BeginLaws.{begin-empty}
 use Rattle.load.specs.FeedLaws.{feed-unsound, feed-kept, feed-long, feed-reads}
 use Rattle.pieces.specs.JoinLaws.{part-places, part-zeros, misfit-joined, state-joined, nodes-joined, misfit-kept, state-stays, nodes-stay}
-use Rattle.pieces.specs.Pieces.{feedAll, joinedOnto, joinedFrom, pieceAnswer, feedAnswers, joined, answers, cutAt}
+use Rattle.pieces.specs.Pieces.{feedAll, joinedOnto, joinedFrom, pieceAnswer, feedAnswers, joinedBytes, feedsAnswer, cutAt}
 use Rattle.pieces.specs.Pieces.{fedPieces, oneFeed, EndsAsOneFeed, LoadsAsWhole, upToEach, LoadsHoweverCut}
 use Rattle.load.specs.declared.loader.Loader.{Loader}
 
@@ -165,13 +165,13 @@ module _ (announced : ℕ) (layout : Layout) (nodes : Graph) (pieces : List (Lis
   pieces-refused e = rw (e, fedPieces) (refused-all layout nodes pieces)
 
   refused-begin : {r : Answer} → firstOf (beginRow announced (length nodes)) ≡ some r → LoadsAsWhole announced layout nodes pieces
-  unfolding joined answers nodesAfter wholeNodes fitting
+  unfolding joinedBytes feedsAnswer nodesAfter wholeNodes fitting
   refused-begin e =
       let p = pieces-refused e in
-      let none-joined : joined announced layout nodes pieces ≡ [] = rw (e, joined) in
+      let none-joined : joinedBytes announced layout nodes pieces ≡ [] = rw (e, joinedBytes) in
       record {
         ends = rw none-joined (ends _ _ _ [] _ p (refused-one announced layout nodes e []));
-        answered = rw p (rw (e, answers));
+        answered = rw p (rw (e, feedsAnswer));
         taken = λ o. some≢none (sym e ∙ o);
         placed = rw (p, none-joined);
       }
@@ -184,15 +184,15 @@ module _ (announced : ℕ) (layout : Layout) (nodes : Graph) (pieces : List (Lis
   pieces-fed e = rw (e, fedPieces) (rw (started announced layout nodes) (all-fed announced layout nodes e [] pieces zero-le))
 
   accepted-begin : firstOf (beginRow announced (length nodes)) ≡ none → LoadsAsWhole announced layout nodes pieces
-  unfolding joined answers
+  unfolding joinedBytes feedsAnswer
   accepted-begin e =
       let p = pieces-fed e in
       let bytes = joinedFrom announced [] pieces in
-      let all-joined : joined announced layout nodes pieces ≡ bytes = rw (e, joined) in
+      let all-joined : joinedBytes announced layout nodes pieces ≡ bytes = rw (e, joinedBytes) in
       let short = all-short announced layout nodes e [] pieces zero-le in
       record {
         ends = rw all-joined (ends _ _ _ bytes _ p (one-fed announced layout nodes e bytes short));
-        answered = rw p (rw (e, answers));
+        answered = rw p (rw (e, feedsAnswer));
         taken = λ o. rw (p, all-joined);
         placed = rw (p, all-joined);
       }

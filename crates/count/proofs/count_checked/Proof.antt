@@ -16,8 +16,8 @@ use Rattle.graph.specs.Lent.{Kept, kept-then}
 use Rattle.count.specs.CountWalk.{WalkedIs, ReachesIs}
 use Rattle.laws.specs.Cleared.{cleared-at}
 use Rattle.count.proofs.Lists.{cleared-kept, kept-further}
-use Rattle.count.proofs.Rows.{counts-room, work-room, passed}
-use Rattle.count.proofs.Results.{walk-start, loop-answer, many-answer, all-answer}
+use Rattle.count.proofs.Rows.{counts-room, work-room, row-fit}
+use Rattle.count.proofs.Results.{count-start, loop-answer, many-answer, all-answer}
 use borrow.Author.Needs.{needs}
 use Rattle.count.proofs.count_checked.Statement.{statement}
 use Rattle.count.proofs.count_checked.Tie as tie
@@ -33,7 +33,7 @@ module _ (s : tie.Start) where
   work-fits = work-room nodes (length (s .args .counts .now)) _ (s .pre)
 
   sound : Fit nodes
-  sound = passed nodes (length (s .args .counts .now)) (length (s .args .work .now)) (s .pre)
+  sound = row-fit nodes (length (s .args .counts .now)) (length (s .args .work .now)) (s .pre)
 
 -- the marks are cleared, and the rest of the work list stays
 module _ (c : tie.After-clear) where
@@ -110,7 +110,7 @@ walk-requires c κs =
     let k = c .before .before .before .before in
     let r = work-fits (asked k) in
     let e = cleared-work k .size in
-    (sound (asked k), walk-start countLimit _ _ _ (omega arith) (counts-fit (asked k)) (unmarked k))
+    (sound (asked k), count-start countLimit _ _ _ (omega arith) (counts-fit (asked k)) (unmarked k))
 
 enum-known-q : tie.Need-enum-known-q
 enum-known-q c = search needs

@@ -9,7 +9,7 @@ use Rattle.answers.specs.Answers.{Answer}
 use Rattle.node.specs.Nodes.{KBWG, isEnd}
 use Rattle.graph.specs.Runs.{Graph, node}
 use Rattle.cursor.specs.RunSteps.{stepIn, runStep}
-use Rattle.cursor.proofs.RunStepsLaws.{step-out, step-done, step-last, step-next}
+use Rattle.cursor.proofs.RunStepsLaws.{run-step-out, run-step-done, run-step-last, run-step-next}
 use borrow.Author.Needs.{needs}
 use Rattle.cursor.proofs.run_step.Statement.{statement}
 use Rattle.cursor.proofs.run_step.Tie as tie
@@ -27,7 +27,7 @@ lent-part-requires : tie.Need-lent-part-requires
 lent-part-requires c κs = search needs
 
 returns : tie.Need-returns
-returns c = lent-step (c .before) (step-out _ _ (c .if1 .taken))
+returns c = lent-step (c .before) (run-step-out _ _ (c .if1 .taken))
 
 mul-t5 : tie.Need-mul-t5
 mul-t5 c = search needs
@@ -56,7 +56,7 @@ module _ (c : tie.After-is-end) where
   ends e = sym (c .is-end .ensures) ∙ e
 
 returns-2 : tie.Need-returns-2
-returns-2 c = let r = c .before in lent-step (start r) (step-done (part r) (place r) (inside r) (ends r (c .if2 .taken)))
+returns-2 c = let r = c .before in lent-step (start r) (run-step-done (part r) (place r) (inside r) (ends r (c .if2 .taken)))
 
 add-if3 : tie.Need-add-if3
 add-if3 c = search needs
@@ -64,7 +64,7 @@ add-if3 c = search needs
 returns-3 : tie.Need-returns-3
 returns-3 c =
     let r = c .before .before in
-    lent-step (start r) (step-last (part r) (place r) (inside r) (ends r (c .before .if2 .left)) (c .if3 .taken))
+    lent-step (start r) (run-step-last (part r) (place r) (inside r) (ends r (c .before .if2 .left)) (c .if3 .taken))
 
 add-t9 : tie.Need-add-t9
 add-t9 c =
@@ -75,7 +75,7 @@ add-t9 c =
 returns-4 : tie.Need-returns-4
 returns-4 c =
     let r = c .before .before in
-    lent-step (start r) (step-next (part r) (place r) (inside r) (ends r (c .before .if2 .left)) (c .if3 .left))
+    lent-step (start r) (run-step-next (part r) (place r) (inside r) (ends r (c .before .if2 .left)) (c .if3 .left))
 
 pub run-step-spec : {M : Type 1} → statement M
 run-step-spec =

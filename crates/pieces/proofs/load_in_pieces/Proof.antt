@@ -9,7 +9,7 @@ use lib.Seq.{take-all}
 use Rattle.graph.specs.Runs.{Graph}
 use Rattle.load.specs.Loading.{feed}
 use Rattle.load.specs.declared.loader.Loader.{Loader}
-use Rattle.pieces.proofs.CutLaws.{fedFrom, feed-next, feed-rest, loaded}
+use Rattle.pieces.proofs.CutLaws.{fedFrom, feed-next, feed-rest, load-left}
 use Rattle.pieces.proofs.load_in_pieces.Statement.{statement}
 use Rattle.pieces.proofs.load_in_pieces.Tie as tie
 
@@ -140,7 +140,7 @@ module _ (c : tie.After-store-answer2 Inv-loop μ-loop) where
 returns : tie.Need-returns Inv-loop μ-loop
 returns c = let m = c .before .before .before .before .before .before .before in
     let a = asked (end m) .args in
-    loaded (a .announced) (a .layout) (a .nodes .now) (a .cuts .now) (a .bytes .now) (a .answers .now) _
+    load-left (a .announced) (a .layout) (a .nodes .now) (a .cuts .now) (a .bytes .now) (a .answers .now) _
     (end m .before .before .begin .ensures) (rest-fed m ∙ end m .loop .inv .4) (c .before .before .finish .ensures)
 
 pub load-in-pieces-spec : {M : Type 1} → statement M

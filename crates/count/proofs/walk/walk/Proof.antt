@@ -8,7 +8,7 @@ use Rattle.graph.specs.ChecksLaws.{Fit}
 use Rattle.graph.specs.Counting.{countLimit}
 use Rattle.count.specs.declared.walk.AfterStep.{AfterStep}
 use Rattle.count.specs.CountWalk.{StepIs, StepTaken}
-use Rattle.count.proofs.Roots.{Roots, turns, roots-start, roots-step, step-less, roots-next, next-less, root-steps, roots-loop, roots-end}
+use Rattle.count.proofs.Roots.{Roots, turns, roots-start, roots-step, step-less, roots-next, root-less, root-steps, roots-loop, roots-end}
 use Rattle.count.proofs.walk.walk.Statement.{statement}
 use Rattle.count.proofs.walk.walk.Tie as tie
 
@@ -100,7 +100,7 @@ sub-roots : tie.Need-sub-roots Inv-loop μ-loop
 sub-roots c = search needs
 
 loop-less-2 : tie.Need-loop-less-2 Inv-loop μ-loop
-loop-less-2 c = let t = c .before .before .before in next-less _ _ _ _ _ _ _ _ (roots (t .before)) (t .loop-test .taken)
+loop-less-2 c = let t = c .before .before .before in root-less _ _ _ _ _ _ _ _ (roots (t .before)) (t .loop-test .taken)
 
 loop-again-2 : tie.Need-loop-again-2 Inv-loop μ-loop
 loop-again-2 c =

@@ -4,7 +4,7 @@ use mathlib.Core.Option.{none}
 use Rattle.answers.specs.Answers.{firstOf}
 use Rattle.lookup.specs.Steps.{lentPart}
 use Rattle.letters.specs.AlphaSets.{tallyRow, completes, acceptsAlpha}
-use Rattle.letters.specs.Said.{decided}
+use Rattle.letters.specs.Said.{completesTry}
 use Rattle.letters.specs.declared.alpha.Completes.{Completes}
 use Rattle.letters.specs.TallyLaws.{tally-fits}
 use Rattle.letters.proofs.AlphaLaws.{tally-long}
@@ -20,9 +20,9 @@ module _ (c : tie.After-completes-alpha-cross-set) where
   fits : firstOf (tallyRow (asked .args .tally .now)) ≡ none
   fits = tally-fits (asked .args .tally .now) (c .before .before .if1 .left)
 
-  told : {r : Completes} → c .completes-alpha-cross-set .result ≡ r → completes (lentPart (asked .args .nodes .now)) (asked .args .tally .now) 1 0 ≡ decided r
+  told : {r : Completes} → c .completes-alpha-cross-set .result ≡ r → completes (lentPart (asked .args .nodes .now)) (asked .args .tally .now) 1 0 ≡ completesTry r
   told e =
-      ap (λ g. completes g (asked .args .tally .now) 1 0) (sym (c .before .lent-part .ensures)) ∙ sym (c .completes-alpha-cross-set .ensures) ∙ ap decided e
+      ap (λ g. completes g (asked .args .tally .now) 1 0) (sym (c .before .lent-part .ensures)) ∙ sym (c .completes-alpha-cross-set .ensures) ∙ ap completesTry e
 
 returns : tie.Need-returns
 unfolding acceptsAlpha

@@ -12,7 +12,7 @@ use Rattle.letters.proofs.AlphaLaws.{completes-no, completes-stop, comp
 use Rattle.answers.specs.Answers.{Answer}
 use Rattle.lookup.specs.Steps.{Try, on, stop}
 use Rattle.lookup.specs.Walks.{stepTo}
-use Rattle.lookup.specs.Said.{tried}
+use Rattle.lookup.specs.Said.{searchTry}
 use Rattle.lookup.specs.declared.run.RunSearch.{RunSearch}
 use Rattle.letters.proofs.alpha.completes_alpha_cross_set.Statement.{statement}
 use Rattle.letters.proofs.alpha.completes_alpha_cross_set.Tie as tie
@@ -62,8 +62,8 @@ module _ (c : tie.After-seek-from Inv-copies μ-copies Inv-letters μ-letters) w
   abbrev at : tie.At-copies Inv-copies μ-copies Inv-letters μ-letters
   at = c .before .before
 
-  told : {r : RunSearch} → c .seek-from .result ≡ r → stepTo (nodes (in-letter at)) (at .copies .p) (in-letter at .letters .letter) ≡ tried r
-  told e = sym (c .seek-from .ensures) ∙ ap tried e
+  told : {r : RunSearch} → c .seek-from .result ≡ r → stepTo (nodes (in-letter at)) (at .copies .p) (in-letter at .letters .letter) ≡ searchTry r
+  told e = sym (c .seek-from .ensures) ∙ ap searchTry e
 
   stopped : {r : Answer} → stepTo (nodes (in-letter at)) (at .copies .p) (in-letter at .letters .letter) ≡ stop r → whole (in-letter at) ≡ stop r
   stopped e = by-copies at (spent-stop _ _ _ _ _ (c .before .copies-test .taken) e)

@@ -11,7 +11,7 @@ use Rattle.answers.specs.Answers.{Answer}
 use Rattle.node.specs.Nodes.{KBWG, tile, isEnd}
 use Rattle.graph.specs.Runs.{Graph, node}
 use Rattle.letters.specs.AlphaSets.{completes, crossFrom}
-use Rattle.letters.specs.Said.{decided}
+use Rattle.letters.specs.Said.{completesTry}
 use Rattle.letters.specs.declared.alpha.Completes.{Completes}
 use Rattle.lookup.specs.Steps.{on}
 use Rattle.letters.proofs.AlphaLaws.{atLetter, atCopy, atNode, letters-end, letters-one, copies-none, copies-one}
@@ -119,8 +119,8 @@ module _ (c : tie.After-completes-alpha-cross-set Inv-run μ-run Inv-copies μ-c
   other z = c .before .if5 .left (earlier .tile .ensures ∙ z)
 
   told : {r : Completes} → c .completes-alpha-cross-set .result ≡ r
-      → completes (g (at earlier)) (letters (at earlier)) (letter (at earlier)) (at earlier .run .p) ≡ decided r
-  told e = sym (c .completes-alpha-cross-set .ensures) ∙ ap decided e
+      → completes (g (at earlier)) (letters (at earlier)) (letter (at earlier)) (at earlier .run .p) ≡ completesTry r
+  told e = sym (c .completes-alpha-cross-set .ensures) ∙ ap completesTry e
 
 -- once that is known, and the set is made
 module _ (c : tie.After-is-end Inv-run μ-run Inv-copies μ-copies Inv-letters μ-letters) where

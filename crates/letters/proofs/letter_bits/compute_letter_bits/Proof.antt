@@ -41,14 +41,14 @@ mul-v c = search needs
 shared-slice-read-v : tie.Need-shared-slice-read-v Inv-loop μ-loop
 shared-slice-read-v c = omega arith
 
-carried-requires : tie.Need-carried-requires Inv-loop μ-loop
-carried-requires c κs = search needs
+carry-requires : tie.Need-carry-requires Inv-loop μ-loop
+carry-requires c κs = search needs
 
 marked-requires : tie.Need-marked-requires Inv-loop μ-loop
 marked-requires c κs = search needs
 
-carried-requires-2 : tie.Need-carried-requires-2 Inv-loop μ-loop
-carried-requires-2 c κs = search needs
+carry-requires-2 : tie.Need-carry-requires-2 Inv-loop μ-loop
+carry-requires-2 c κs = search needs
 
 accepts-requires : tie.Need-accepts-requires Inv-loop μ-loop
 accepts-requires c κs = search needs
@@ -63,7 +63,7 @@ module _ (c : tie.Else2 Inv-loop μ-loop) where
 
 -- both sets of the node before those that are done
 module _ (c : tie.After-marked2 Inv-loop μ-loop) where
-  abbrev first : tie.After-carried Inv-loop μ-loop
+  abbrev first : tie.After-carry Inv-loop μ-loop
   first = c .before .before .before .before
 
   abbrev at : tie.At-loop Inv-loop μ-loop
@@ -73,10 +73,10 @@ module _ (c : tie.After-marked2 Inv-loop μ-loop) where
   v = node (asked (at .before) .args .nodes .now) (at .loop .i - 1)
 
   all-with : c .before .before .before .marked .result ≡ marked (carry (at .loop .all) v) (tile KBWG v) true
-  all-with = c .before .before .before .marked .ensures ∙ ap (λ s. marked s (tile KBWG v) true) (first .carried .ensures)
+  all-with = c .before .before .before .marked .ensures ∙ ap (λ s. marked s (tile KBWG v) true) (first .carry .ensures)
 
   accepting-with : c .marked2 .result ≡ marked (carry (at .loop .accepting) v) (tile KBWG v) (accepts KBWG v)
-  accepting-with = c .marked2 .ensures ∙ ap₂ (λ s. marked s (tile KBWG v)) (c .before .before .carried2 .ensures) (c .before .accepts .ensures)
+  accepting-with = c .marked2 .ensures ∙ ap₂ (λ s. marked s (tile KBWG v)) (c .before .before .carry2 .ensures) (c .before .accepts .ensures)
 
 mul-letter-bits : tie.Need-mul-letter-bits Inv-loop μ-loop
 mul-letter-bits c = search needs
@@ -126,9 +126,9 @@ compute-letter-bits-spec =
     sub-i
     mul-v
     shared-slice-read-v
-    carried-requires
+    carry-requires
     marked-requires
-    carried-requires-2
+    carry-requires-2
     accepts-requires
     marked-requires-2
     mul-letter-bits

@@ -2,7 +2,7 @@
 use native.Mathlib.Omega.{arith}
 use Prim.Native.Nat.{_+_, _-_}
 use mathlib.Core.Path.{_≡_, sym}
-use Rattle.load.proofs.HeldLaws.{fresh-held, fresh-piece}
+use Rattle.load.proofs.HeldLaws.{held-then-held, held-then-piece}
 use borrow.Author.Needs.{needs}
 use Rattle.load.proofs.held.joined_byte.Statement.{statement}
 use Rattle.load.proofs.held.joined_byte.Tie as tie
@@ -15,12 +15,12 @@ shared-slice-read-result c = search needs
 
 returns : tie.Need-returns
 returns c = let a = c .before .args in
-    sym (fresh-held (a .t1) (a .count) (a .piece .now) (omega arith) (omega arith) (a .j) (omega arith))
+    sym (held-then-held (a .t1) (a .count) (a .piece .now) (omega arith) (omega arith) (a .j) (omega arith))
 
 returns-2 : tie.Need-returns-2
 returns-2 c = let a = c .before .before .args in
     let e : a .count + (a .j - a .count) ≡ a .j = omega arith in
-    sym (rw e at (fresh-piece (a .t1) (a .count) (a .piece .now) (omega arith) (omega arith) (a .j - a .count)))
+    sym (rw e at (held-then-piece (a .t1) (a .count) (a .piece .now) (omega arith) (omega arith) (a .j - a .count)))
 
 pub joined-byte-spec : {M : Type 1} → statement M
 joined-byte-spec =

@@ -2,7 +2,7 @@
 use native.Mathlib.Omega.{arith}
 use mathlib.Core.Path.{sym}
 use Rattle.load.specs.BeginLaws.{begin-empty}
-use Rattle.load.proofs.BeginRow.{begin-ragged, begin-over, begin-short, begin-ready}
+use Rattle.load.proofs.BeginRow.{begin-ragged, begin-over, begin-short, begin-passes}
 use Rattle.load.proofs.loader.check_length.Statement.{statement}
 use Rattle.load.proofs.loader.check_length.Tie as tie
 
@@ -22,7 +22,7 @@ returns-5 : tie.Need-returns-5
 returns-5 c = sym (begin-short _ _ (c .before .before .before .before .if1 .left) (c .before .before .before .if2 .left) (omega arith) (omega arith))
 
 returns-6 : tie.Need-returns-6
-returns-6 c = sym (begin-ready _ _ (c .before .before .before .before .if1 .left) (c .before .before .before .if2 .left) (omega arith) (omega arith))
+returns-6 c = sym (begin-passes _ _ (c .before .before .before .before .if1 .left) (c .before .before .before .if2 .left) (omega arith) (omega arith))
 
 pub check-length-spec : {M : Type 1} → statement M
 check-length-spec = tie.close (tie.spec returns returns-2 returns-3 returns-4 returns-5 returns-6)

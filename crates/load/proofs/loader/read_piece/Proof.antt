@@ -10,8 +10,8 @@ use Rattle.node.specs.Nodes.{KBWG}
 use Rattle.node.specs.Said.{bitLayout, repackNodeAnswer, saidNode}
 use Rattle.node.specs.declared.Packed.{Packed}
 use Rattle.endian.specs.Bytes.{nodeAt}
-use Rattle.load.specs.Loading.{fresh, stateAfter, nodesAfter}
-use Rattle.load.proofs.HeldLaws.{fresh-length, fresh-rest}
+use Rattle.load.specs.Loading.{heldThen, stateAfter, nodesAfter}
+use Rattle.load.proofs.HeldLaws.{held-then-length, held-then-rest}
 use Rattle.load.specs.StateLaws.{Sound, sound}
 use Rattle.load.proofs.PieceLaws.{piece-node, piece-stops, piece-short, held-longer}
 use Rattle.load.specs.declared.loader.Loader.{Loader}
@@ -31,7 +31,7 @@ module _ (s : tie.Start) where
 
   -- the held bytes, then the piece; and the node that they begin
   abbrev bytes : List ℕ
-  bytes = fresh state piece
+  bytes = heldThen state piece
 
   abbrev k : ℕ
   k = state .taken / 4
@@ -51,7 +51,7 @@ module _ (c : tie.After-joined-node) where
   bytes-length : length (bytes start) ≡ state start .«held_count» + length (piece start)
   bytes-length =
       let h = ok start in
-      fresh-length (state start .held) (state start .«held_count») (piece start) (c .joined-node .ensures .1) (omega arith)
+      held-then-length (state start .held) (state start .«held_count») (piece start) (c .joined-node .ensures .1) (omega arith)
 
   some-node : 4 ≤ length (bytes start)
   some-node = omega (arith, bytes-length, c .before .if2 .left)
@@ -66,7 +66,7 @@ module _ (c : tie.After-joined-node) where
   after-first : drop 4 (bytes start) ≡ take (length (piece start) - used) (drop used (piece start))
   after-first =
       let h = ok start in
-      fresh-rest (state start .held) (state start .«held_count») (piece start) (c .joined-node .ensures .1) (omega arith) ∙ sym all-left
+      held-then-rest (state start .held) (state start .«held_count») (piece start) (c .joined-node .ensures .1) (omega arith) ∙ sym all-left
 
 -- as it is repacked
 module _ (c : tie.After-repack-node) where
@@ -109,7 +109,7 @@ returns-2 c =
     let s = asked (c .before .before) in
     let h = ok s in
     let three = c .hold .ensures .1 in
-    let l = fresh-length (state s .held) (state s .«held_count») (piece s) three (omega arith) in
+    let l = held-then-length (state s .held) (state s .«held_count») (piece s) three (omega arith) in
     let p = piece-short (state s .announced) (state s .layout) (nodes s) (k s) (bytes s) (omega arith) in
     (held-longer (state s) _ h (piece s) three (omega arith) (c .hold .ensures .0) ∙ p .0, p .1)
 

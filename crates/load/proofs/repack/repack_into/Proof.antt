@@ -10,7 +10,7 @@ use Rattle.node.specs.Nodes.{BitLayout, KBWG}
 use Rattle.node.specs.Said.{bitLayout, repackNodeAnswer, saidNode}
 use Rattle.node.specs.declared.Packed.{Packed}
 use Rattle.endian.specs.Bytes.{nodeAt}
-use Rattle.load.proofs.NextNode.{next-fits, next-stops, none-left}
+use Rattle.load.proofs.NextNode.{next-fits, next-stops, no-next-node}
 use Rattle.load.specs.Loading.{misfitIn, nodesAfter}
 use Rattle.load.proofs.repack.repack_into.Statement.{statement}
 use Rattle.load.proofs.repack.repack_into.Tie as tie
@@ -107,7 +107,7 @@ unfolding nodesAfter
 returns-2 c =
     let l = c .before .loop in
     let a = c .before .before .before .before .args in
-    let n = none-left (bitLayout (a .from)) KBWG (a .bytes .now) (l .i) (l .k) (omega arith) in
+    let n = no-next-node (bitLayout (a .from)) KBWG (a .bytes .now) (l .i) (l .k) (omega arith) in
     (sym (n .0) ∙ l .inv .3, sym (rw (n .1)) ∙ l .inv .4)
 
 pub repack-into-spec : {M : Type 1} → statement M

@@ -16,7 +16,7 @@ use Rattle.lookup.specs.Walks.{Turn, last, down, wordsHere, turnIn, word
 use Rattle.lookup.specs.declared.by_number.WordByIndex.{WordByIndex}
 use Rattle.lookup.specs.declared.by_number.WordByIndex.the-variants as T
 use Rattle.lookup.specs.declared.by_number.Here.{Here}
-use Rattle.lookup.specs.Said.{here, saidWord, WordPut}
+use Rattle.lookup.specs.Said.{hereTry, saidWord, WordPut}
 use Rattle.lookup.proofs.WordByIndexLaws.{past-own, HasWords, turn-out, turn-last, turn-stop, turn-down, turn-none, turn-next}
 use Rattle.lookup.proofs.Buffer.{Left, left-start, by-stop, by-full, by-last, by-down, by-next, fall}
 use Rattle.lookup.proofs.by_number.word_from.Statement.{statement}
@@ -81,8 +81,8 @@ module _ (c : tie.After-words-here Inv-loop μ-loop) where
   longer : eqb (at ended .loop .idx) 0 && accepts KBWG (v ended) ≡ false
   longer = ends ended (c .before .if1 .left)
 
-  told : {r : Here} → c .words-here .result ≡ r → wordsHere (counts (at ended)) (v ended) (at ended .loop .p) ≡ here r
-  told e = sym (c .words-here .ensures) ∙ ap here e
+  here-is : {r : Here} → c .words-here .result ≡ r → wordsHere (counts (at ended)) (v ended) (at ended .loop .p) ≡ hereTry r
+  here-is e = sym (c .words-here .ensures) ∙ ap hereTry e
 
   stopped-here : {r : Answer} → wordsHere (counts (at ended)) (v ended) (at ended .loop .p) ≡ stop r → turn (at ended) ≡ stop r
   stopped-here e = turn-stop (counts (at ended)) (g (at ended)) (at ended .loop .p) (at ended .loop .idx) (inside ended) longer e
@@ -99,7 +99,7 @@ module _ (c : tie.After-here Inv-loop μ-loop) where
   words = c .here .given .0 .0
 
   has-words : HasWords (counts begun) (g begun) (begun .loop .p) (begun .loop .idx) words
-  has-words = record { inside = inside (ended counted); longer = longer counted; words = told counted (c .here .given .1) }
+  has-words = record { inside = inside (ended counted); longer = longer counted; words = here-is counted (c .here .given .1) }
 
 loop-holds : tie.Need-loop-holds Inv-loop μ-loop
 loop-holds c = let a = c .before .before .before .args in left-start (a .counts .now) (a .nodes .now) (a .p) (a .idx) (a .word .now)
@@ -235,7 +235,7 @@ same-length-5 : tie.Need-same-length-5 Inv-loop μ-loop
 same-length-5 c = at (ended (c .before .before)) .loop .inv .size
 
 returns-5 : tie.Need-returns-5 Inv-loop μ-loop
-returns-5 c = let h = c .before .before in stopped (at (ended h)) T.NotLent (stopped-here h (told h (c .enum-told .given .1))) refl
+returns-5 c = let h = c .before .before in stopped (at (ended h)) T.NotLent (stopped-here h (here-is h (c .enum-told .given .1))) refl
 
 enum-told-2 : tie.Need-enum-told-2 Inv-loop μ-loop
 enum-told-2 c = search needs
@@ -244,7 +244,7 @@ same-length-6 : tie.Need-same-length-6 Inv-loop μ-loop
 same-length-6 c = at (ended (c .before .before)) .loop .inv .size
 
 returns-6 : tie.Need-returns-6 Inv-loop μ-loop
-returns-6 c = let h = c .before .before in stopped (at (ended h)) T.OutOfRange (stopped-here h (told h (c .enum-told2 .given .1))) refl
+returns-6 c = let h = c .before .before in stopped (at (ended h)) T.OutOfRange (stopped-here h (here-is h (c .enum-told2 .given .1))) refl
 
 same-length-7 : tie.Need-same-length-7 Inv-loop μ-loop
 same-length-7 c = c .before .loop .inv .size

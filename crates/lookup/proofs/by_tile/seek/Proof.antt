@@ -6,10 +6,10 @@ use Prim.Native.Nat.{ℕ}
 use Rattle.lookup.specs.Steps.{lentPart}
 use Rattle.lookup.specs.Walks.{stepTo, seek}
 use Rattle.lookup.specs.StepsLaws.{lent-part-length}
-use Rattle.lookup.specs.Said.{tried}
+use Rattle.lookup.specs.Said.{searchTry}
 use Rattle.lookup.specs.declared.run.RunSearch.{RunSearch}
 use borrow.Author.Needs.{needs}
-use Rattle.lookup.proofs.RunSearchLaws.{step-lent}
+use Rattle.lookup.proofs.RunSearchLaws.{step-to-lent}
 use Rattle.lookup.proofs.by_tile.seek.Statement.{statement}
 use Rattle.lookup.proofs.by_tile.seek.Tie as tie
 
@@ -21,8 +21,8 @@ module _ (c : tie.After-seek-from) where
   abbrev lent : List ℕ
   lent = lentPart (asked .args .nodes .now)
 
-  told : {r : RunSearch} → c .seek-from .result ≡ r → stepTo lent (asked .args .p) (asked .args .tile) ≡ tried r
-  told e = ap (λ g. stepTo g (asked .args .p) (asked .args .tile)) (sym (c .before .lent-part .ensures)) ∙ sym (c .seek-from .ensures) ∙ ap tried e
+  told : {r : RunSearch} → c .seek-from .result ≡ r → stepTo lent (asked .args .p) (asked .args .tile) ≡ searchTry r
+  told e = ap (λ g. stepTo g (asked .args .p) (asked .args .tile)) (sym (c .before .lent-part .ensures)) ∙ sym (c .seek-from .ensures) ∙ ap searchTry e
 
 lent-part-requires : tie.Need-lent-part-requires
 lent-part-requires c κs = search needs
@@ -36,7 +36,7 @@ enum-known-found c = search needs
 cast-t9 : tie.Need-cast-t9
 cast-t9 c =
     let t = c .before .before .before in
-    let found = step-lent (lent t) (asked t .args .p) (asked t .args .tile) _ (told t (c .before .found .given .1)) in
+    let found = step-to-lent (lent t) (asked t .args .p) (asked t .args .tile) _ (told t (c .before .found .given .1)) in
     omega (arith, lent-part-length (asked t .args .nodes .now))
 
 enum-told : tie.Need-enum-told

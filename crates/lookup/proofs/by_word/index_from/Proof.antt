@@ -11,7 +11,7 @@ use Rattle.graph.specs.Counting.{countLimit}
 use Rattle.lookup.specs.Steps.{stop}
 use Rattle.lookup.specs.Walks.{passed, indexFrom}
 use Rattle.lookup.specs.declared.by_word.Passed.{Passed}
-use Rattle.lookup.specs.Said.{passedAs}
+use Rattle.lookup.specs.Said.{passTry}
 use Rattle.lookup.proofs.WordIndexLaws.{Leads, index-end, index-stop, index-number, index-limit, index-none, index-above, index-on}
 use Rattle.lookup.proofs.by_word.index_from.Statement.{statement}
 use Rattle.lookup.proofs.by_word.index_from.Tie as tie
@@ -50,8 +50,8 @@ module _ (c : tie.After-pass-tile Inv-loop μ-loop) where
   inside = c .before .before .loop-test .taken
 
   told : {r : Passed} → c .pass-tile .result ≡ r
-      → passed countLimit (g turn) (counts turn) (turn .loop .p) (turn .loop .idx) (getD (word turn) (turn .loop .i) 0) ≡ passedAs r
-  told e = sym (c .pass-tile .ensures) ∙ ap passedAs e
+      → passed countLimit (g turn) (counts turn) (turn .loop .p) (turn .loop .idx) (getD (word turn) (turn .loop .i) 0) ≡ passTry r
+  told e = sym (c .pass-tile .ensures) ∙ ap passTry e
 
   stopped : {r : Answer} → passed countLimit (g turn) (counts turn) (turn .loop .p) (turn .loop .idx) (getD (word turn) (turn .loop .i) 0) ≡ stop r
       → r ≡ indexFrom countLimit (g turn) (counts turn) (asked turn .args .p) 0 (word turn)

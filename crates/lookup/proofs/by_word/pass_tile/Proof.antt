@@ -7,11 +7,11 @@ use lib.ListN.{drop}
 use borrow.Author.Needs.{needs}
 use Rattle.graph.specs.Counting.{countLimit}
 use Rattle.lookup.specs.Walks.{findIn}
-use Rattle.lookup.specs.Said.{tried}
+use Rattle.lookup.specs.Said.{searchTry}
 use Rattle.lookup.specs.declared.run.RunSearch.{RunSearch}
 use Rattle.lookup.specs.declared.run.RunSearch.the-variants.{At}
 use Rattle.lookup.proofs.RunSearchLaws.{found-lent}
-use Rattle.lookup.proofs.WordIndexLaws.{Begun, passed-zero, passed-node, passed-count, passed-above, passed-stop, passed-found, passed-below, passed-to}
+use Rattle.lookup.proofs.WordIndexLaws.{MaySearch, passed-zero, passed-node, passed-count, passed-above, passed-stop, passed-found, passed-below, passed-to}
 use Rattle.lookup.proofs.by_word.pass_tile.Statement.{statement}
 use Rattle.lookup.proofs.by_word.pass_tile.Tie as tie
 
@@ -60,17 +60,17 @@ module _ (c : tie.After-find-in) where
   abbrev at : tie.Else3
   at = c .before .before .before
 
-  begun : Begun countLimit (g at) (counts at) (asked at .args .p) (asked at .args .idx)
+  begun : MaySearch countLimit (g at) (counts at) (asked at .args .p) (asked at .args .idx)
   begun =
       record {
-        somewhere = at .before .before .if1 .left;
+        not-start-0 = at .before .before .if1 .left;
         node-lent = at .before .if2 .left;
         count-lent = at .if3 .left;
         within = omega arith;
       }
 
-  told : {r : RunSearch} → c .find-in .result ≡ r → findIn (drop (asked at .args .p) (g at)) (asked at .args .p) (asked at .args .tile) ≡ tried r
-  told e = sym (c .find-in .ensures) ∙ ap tried e
+  told : {r : RunSearch} → c .find-in .result ≡ r → findIn (drop (asked at .args .p) (g at)) (asked at .args .p) (asked at .args .tile) ≡ searchTry r
+  told e = sym (c .find-in .ensures) ∙ ap searchTry e
 
 -- a node is found
 module _ (c : tie.After-found) where
@@ -78,7 +78,7 @@ module _ (c : tie.After-found) where
   searched = c .before .before
 
   found : findIn (drop (asked (at searched) .args .p) (g (at searched))) (asked (at searched) .args .p) (asked (at searched) .args .tile)
-      ≡ tried (At (c .found .given .0 .0))
+      ≡ searchTry (At (c .found .given .0 .0))
   found = told searched (c .found .given .1)
 
 returns-5 : tie.Need-returns-5

@@ -1,9 +1,9 @@
--- `carried` meets its contract, by its two cases.
+-- `carry` meets its contract, by its two cases.
 use mathlib.Core.Path.{sym, _∙_}
 use borrow.Author.Needs.{needs}
 use Rattle.letters.specs.LetterBits.{carry}
-use Rattle.letters.proofs.letter_bits.carried.Statement.{statement}
-use Rattle.letters.proofs.letter_bits.carried.Tie as tie
+use Rattle.letters.proofs.letter_bits.carry.Statement.{statement}
+use Rattle.letters.proofs.letter_bits.carry.Tie as tie
 
 is-end-requires : tie.Need-is-end-requires
 is-end-requires c κs = search needs
@@ -14,5 +14,5 @@ returns c = rw (sym (c .before .is-end .ensures) ∙ c .if1 .taken, carry)
 returns-2 : tie.Need-returns-2
 returns-2 c = rw (sym (c .before .is-end .ensures) ∙ c .if1 .left, carry)
 
-pub carried-spec : {M : Type 1} → statement M
-carried-spec = tie.close (tie.spec is-end-requires returns returns-2)
+pub carry-spec : {M : Type 1} → statement M
+carry-spec = tie.close (tie.spec is-end-requires returns returns-2)
