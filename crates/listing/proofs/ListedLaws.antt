@@ -25,7 +25,7 @@ use Rattle.numbers.specs.Walkable.{Walkable}
 use Rattle.listing.specs.Lines.{line, refusalLine}
 use Rattle.listing.specs.Wordlist.{startWords, mostTiles, listed}
 use Rattle.listing.specs.Blocks.{NumberWalk, lineFor, goesOn, linesOf}
-use Rattle.listing.proofs.WalkedLaws.{by-index-cut}
+use Rattle.lookup.specs.WalkedLaws.{by-index-cut}
 
 -- ---- the walk names the words
 -- what the walk leaves of a word, with room for 256 tiles
