@@ -27,11 +27,11 @@ abbrev pub withCase : ℕ → CaseTally → CaseTally
 withCase call t =
     record { line = t .line; cases = set (t .cases) call (oneMoreCapped (getD (t .cases) call 0)); malformed = t .malformed; differences = t .differences }
 
-abbrev pub withVerdict : ℕ → Verdict → CaseTally → CaseTally
-withVerdict call Verdict.Same t = withCase call t
-withVerdict call Verdict.Different t = withCase call (withDifference t)
-withVerdict call Verdict.Malformed t = withMalformed t
+abbrev pub caseTallied : ℕ → Verdict → CaseTally → CaseTally
+caseTallied call Verdict.Same t = withCase call t
+caseTallied call Verdict.Different t = withCase call (withDifference t)
+caseTallied call Verdict.Malformed t = withMalformed t
 
 -- a call that has no place makes its line malformed
-abbrev pub caseTallied : ℕ → Verdict → CaseTally → CaseTally
-caseTallied call verdict t = pick (ltb call 32) (withVerdict call verdict t) (withMalformed t)
+abbrev pub withVerdict : ℕ → Verdict → CaseTally → CaseTally
+withVerdict call verdict t = pick (ltb call 32) (caseTallied call verdict t) (withMalformed t)

@@ -3,7 +3,7 @@ use crate::answers::Verdict;
 use libc::STDOUT_FILENO;
 ghost use mathlib.Core.Path.{_≡_};
 ghost use Prim.Native.Nat.{_<_};
-ghost use Rattle.stored.specs.CaseTally.{oneMoreCapped, newTally, withLine, withMalformed, withDifference, withCase, caseTallied};
+ghost use Rattle.stored.specs.CaseTally.{oneMoreCapped, newTally, withLine, withMalformed, withDifference, withCase, withVerdict};
 
 // One more than the highest number that a call may have.
 pub const CALLS: usize = 32;
@@ -46,7 +46,7 @@ impl CaseTally {
 
     // A call that has no place in the tally makes its line malformed, so that no case goes uncounted.
     pub fn with_verdict(self, call: u64, verdict: Verdict) -> CaseTally
-        ensures { λ r. ⌜ r ≡ caseTallied call verdict self ⌝ }
+        ensures { λ r. ⌜ r ≡ withVerdict call verdict self ⌝ }
     {
         let call = call as usize;
         if CALLS <= call {

@@ -1,4 +1,4 @@
--- `CaseTally::judged` meets its contract: its test says whether the call has a place, and then it goes by the verdict.
+-- `CaseTally::with_verdict` meets its contract: its test says whether the call has a place, and then it goes by the verdict.
 use mathlib.Core.Path.{_∙_, ap}
 use borrow.Author.Tests.{le-ltb, lt-ltb}
 use borrow.Author.Needs.{needs}
