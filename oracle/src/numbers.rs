@@ -1,4 +1,4 @@
-// Lines of unsigned decimal numbers parted by single blanks.
+// Lines of unsigned decimal numbers separated by single spaces.
 
 // What is wrong with a request. It stops the run: a list with a hole in it
 // would pass for a whole one.

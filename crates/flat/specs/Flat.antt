@@ -56,10 +56,10 @@ nodeCarried (gives vs) = 0
 nodeCarried nothing = 0
 nodeCarried (refused n vs) = elim (eqb n 6 || eqb n 12) [ true ↦ getD vs 0 0 | false ↦ 0 ]
 
-abbrev pub tileIn : Answer → ℕ
-tileIn (gives vs) = 0
-tileIn nothing = 0
-tileIn (refused n vs) = elim (eqb n 6) [ true ↦ getD vs 1 0 | false ↦ 0 ]
+abbrev pub tileCarried : Answer → ℕ
+tileCarried (gives vs) = 0
+tileCarried nothing = 0
+tileCarried (refused n vs) = elim (eqb n 6) [ true ↦ getD vs 1 0 | false ↦ 0 ]
 
 abbrev pub arcCarried : Answer → ℕ
 arcCarried (gives vs) = 0

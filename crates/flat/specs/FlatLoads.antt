@@ -11,7 +11,7 @@ use Rattle.load.specs.declared.loader.KeptRefusal.{KeptRefusal}
 use Rattle.load.specs.declared.loader.KeptRefusal.the-variants.{Nothing, DoesNotFit}
 use Rattle.load.specs.declared.loader.Loader.{Loader}
 use Rattle.pieces.specs.Said.{LoadLeft}
-use Rattle.flat.specs.Flat.{layoutOf, layoutNumber, refusedOr, plainly, refusalIn, valueIn, nodeCarried, tileIn, arcCarried}
+use Rattle.flat.specs.Flat.{layoutOf, layoutNumber, refusedOr, plainly, refusalIn, valueIn, nodeCarried, tileCarried, arcCarried}
 use Rattle.flat.specs.declared.loading.FlatRepacked.{FlatRepacked}
 use Rattle.flat.specs.declared.loading.FlatLoader.{FlatLoader}
 use Rattle.flat.specs.declared.loading.FlatBegun.{FlatBegun}
@@ -24,7 +24,7 @@ abbrev pub repackedOf : FlatRepacked → Answer
 repackedOf r = refusedOr (r .refusal) (r .node) (r .tile) (r .arc) (gives [])
 
 abbrev pub flatRepacked : Answer → FlatRepacked
-flatRepacked a = record { refusal = refusalIn a; arc = arcCarried a; node = nodeCarried a; tile = tileIn a }
+flatRepacked a = record { refusal = refusalIn a; arc = arcCarried a; node = nodeCarried a; tile = tileCarried a }
 
 -- ---- the state: "a refusal 6 once met" is kept where the state's refusal is not 0
 abbrev pub keptOf : ℕ → ℕ → ℕ → ℕ → KeptRefusal
@@ -54,7 +54,7 @@ flatLoader s =
       layout = layoutNumber (s .layout);
       refusal = refusalIn (keptAnswer (s .kept));
       arc = arcCarried (keptAnswer (s .kept));
-      tile = tileIn (keptAnswer (s .kept));
+      tile = tileCarried (keptAnswer (s .kept));
       held = s .held;
     }
 
@@ -79,7 +79,7 @@ flatFed f =
       refusal = refusalIn (f .answer);
       arc = arcCarried (f .answer);
       node = nodeCarried (f .answer);
-      tile = tileIn (f .answer);
+      tile = tileCarried (f .answer);
       loader = flatLoader (f .state);
     }
 
@@ -90,7 +90,7 @@ abbrev pub finishesOf : FlatFinished → Graph → Finishes
 finishesOf r nodes = record { answer = finishedOf r; nodes = nodes }
 
 abbrev pub flatFinished : Answer → FlatFinished
-flatFinished a = record { refusal = refusalIn a; arc = arcCarried a; nodes = valueIn a; node = nodeCarried a; tile = tileIn a }
+flatFinished a = record { refusal = refusalIn a; arc = arcCarried a; nodes = valueIn a; node = nodeCarried a; tile = tileCarried a }
 
 -- ---- a whole load, with the lists that it left
 abbrev pub loadedOf : FlatLoaded → List ℕ → Graph → LoadLeft

@@ -4,4 +4,5 @@ pub mod FlatFiles
 pub mod FlatLoads
 pub mod FlatLookups
 pub mod FlatSets
+pub mod PlainLaws
 pub mod StateLaws

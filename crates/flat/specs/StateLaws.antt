@@ -5,7 +5,7 @@ use Rattle.node.specs.declared.Layout.the-variants.{Kwg, Kbwg}
 use Rattle.load.specs.declared.loader.KeptRefusal.{KeptRefusal}
 use Rattle.load.specs.declared.loader.KeptRefusal.the-variants.{Nothing, DoesNotFit}
 use Rattle.load.specs.declared.loader.Loader.{Loader}
-use Rattle.flat.specs.Flat.{layoutOf, layoutNumber, refusalIn, nodeCarried, tileIn, arcCarried}
+use Rattle.flat.specs.Flat.{layoutOf, layoutNumber, refusalIn, nodeCarried, tileCarried, arcCarried}
 use Rattle.flat.specs.FlatLoads.{keptOf, keptAnswer, stateOf, flatLoader}
 use Rattle.flat.specs.declared.loading.FlatLoader.{FlatLoader}
 
@@ -13,7 +13,7 @@ layout-back : (y : Layout) → layoutOf (layoutNumber y) ≡ y
 layout-back Kwg = refl
 layout-back Kbwg = refl
 
-kept-back : (k : KeptRefusal) → let a = keptAnswer k in keptOf (refusalIn a) (nodeCarried a) (tileIn a) (arcCarried a) ≡ k
+kept-back : (k : KeptRefusal) → let a = keptAnswer k in keptOf (refusalIn a) (nodeCarried a) (tileCarried a) (arcCarried a) ≡ k
 kept-back Nothing = refl
 kept-back (DoesNotFit m) = refl
 

@@ -26,7 +26,7 @@ fn file(refusal: u32, arc: u32, written: usize) -> FlatFile
     }
 }
 
-pub fn format_of(number: u32) -> MacondoFormat
+pub fn format_numbered(number: u32) -> MacondoFormat
     ensures { λ r. ⌜ r ≡ formatNumbered number ⌝ }
 {
     if number == 0 {

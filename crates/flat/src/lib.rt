@@ -10,7 +10,7 @@ pub use counting::flat_counted;
 pub use files::FlatFile;
 pub use files::flat_lxd;
 pub use files::flat_macondo;
-pub use files::format_of;
+pub use files::format_numbered;
 pub use loading::FlatBegun;
 pub use loading::FlatFed;
 pub use loading::FlatFinished;

@@ -4,7 +4,7 @@ ghost use mathlib.Core.List.{[]};
 ghost use Rattle.answers.specs.Answers.{gives};
 ghost use Rattle.load.specs.Repacking.{saidRepack};
 ghost use Rattle.load.specs.Said.{saidBegin, saidFeed, saidFinish};
-ghost use Rattle.flat.specs.Flat.{layoutOf, layoutNumber, plainly, refusalIn};
+ghost use Rattle.flat.specs.Flat.{layoutOf, layoutNumber, plainly};
 ghost use Rattle.flat.specs.FlatLoads.{keptOf, repackedOf, flatRepacked, stateOf, flatLoader, finishedOf, flatFinished};
 use load::BeginAnswer;
 use load::FeedAnswer;
@@ -175,8 +175,7 @@ pub fn flat_repacked(answer: Repacked) -> FlatRepacked
 }
 
 pub fn begin_refusal(answer: BeginAnswer) -> u32
-    ensures answer { λ r. ⌜ plainly r (gives []) ≡ saidBegin answer ⌝ }
-    ensures flat { λ r. ⌜ r ≡ refusalIn (plainly r (gives [])) ⌝ }
+    ensures { λ r. ⌜ plainly r (gives []) ≡ saidBegin answer ⌝ }
 {
     match answer {
         BeginAnswer::Ready => 0,

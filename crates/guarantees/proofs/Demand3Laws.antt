@@ -5,7 +5,7 @@ use mathlib.Core.List.{List}
 use mathlib.Core.Option.{Option, none, some}
 use Prim.Native.Nat.{ℕ, _≤_, _<_}
 use native.Mathlib.Omega.{arith}
-use lib.ListN.{length, take, drop}
+use lib.ListN.{length, drop}
 use lib.Seq.{length-take-le, take-at}
 use Rattle.answers.specs.Answers.{Answer, Row, firstOf}
 use Rattle.answers.specs.RowLaws.{row-never-gives}
@@ -16,7 +16,7 @@ use Rattle.load.specs.StateLaws.{sound}
 use Rattle.pieces.specs.Pieces.{loadPieces, fedPieces}
 use Rattle.pieces.specs.PiecesLaws.{loads-as-whole, loads-however-cut}
 use Rattle.numbers.specs.WordNumbers.{Lent, WordNumbers}
-use Rattle.numbers.specs.WordNumbersLaws.{numbered, counted-lent}
+use Rattle.numbers.specs.WordNumbersLaws.{numbered, counted-lent, lent-left}
 use Rattle.export.specs.ChainLaws.{shallow-equation}
 use Rattle.export.specs.Written.{written}
 use Rattle.macondo_file.specs.File.{Format, dawg, gaddag, marks, macondoFile}
@@ -27,29 +27,27 @@ use Rattle.lxd_file.specs.File.{lxdFile}
 use Rattle.lxd_file.specs.Row.{lxdRow, toLxd}
 use Rattle.lxd_file.specs.RowLaws.{accepted}
 use Rattle.lxd_file.specs.SpellingLaws.{lxd-spells}
-use Rattle.guarantees.specs.Demand3.{Demand3, CountedLoad, Wrote, WordsAt, loadedNodes}
+use Rattle.guarantees.specs.Demand3.{Demand3, CountedLoad, Wrote, WordsAt, loadedNodes, loadedGraph}
 
 module _ (announced : ℕ) (layout : Layout) (lent : Graph) (pieces : List (List ℕ)) (limit n : ℕ) (counted : List ℕ)
     (r : CountedLoad announced layout lent pieces limit n counted) where
-  nodes-loaded : length (take n (loadedNodes announced layout lent pieces)) ≡ n
+  abbrev nodes : Graph
+  nodes = loadedNodes announced layout lent pieces
+
+  abbrev graph : Graph
+  graph = loadedGraph announced layout lent pieces n
+
+  within : n ≤ length nodes
   unfolding loadPieces
-  nodes-loaded =
-      let fed = fedPieces announced layout lent pieces in
-      length-take-le n (loadedNodes announced layout lent pieces) (finished-within (fed .state) (fed .nodes) (r .loads))
+  within = let fed = fedPieces announced layout lent pieces in finished-within (fed .state) (fed .nodes) (r .loads)
 
   -- the lists as the calls left them
-  lists-left : Lent (take n (loadedNodes announced layout lent pieces)) (loadedNodes announced layout lent pieces) counted
-  lists-left =
-      record {
-        nodes-are = ap (λ k. take k (loadedNodes announced layout lent pieces)) nodes-loaded;
-        counts-are = counted-lent limit _ _ _ _ (r .counts) .1;
-      }
+  lists-left : Lent graph nodes counted
+  lists-left = lent-left limit n nodes _ _ _ within (r .counts)
 
-  numbers : (nodes counts : List ℕ) → Lent (take n (loadedNodes announced layout lent pieces)) nodes counts
-      → (p : ℕ) → 0 < p → p < n → WordNumbers limit (take n (loadedNodes announced layout lent pieces)) nodes counts p
-  numbers nodes counts is p z h =
-      numbered limit (take n (loadedNodes announced layout lent pieces)) (counted-lent limit _ _ _ _ (r .counts) .0)
-      (r .ascending) nodes counts is p z (rw nodes-loaded h)
+  numbers : (lentNodes counts : List ℕ) → Lent graph lentNodes counts → (p : ℕ) → 0 < p → p < n → WordNumbers limit graph lentNodes counts p
+  numbers lentNodes counts is p z h =
+      numbered limit graph (counted-lent limit _ _ _ _ (r .counts) .0) (r .ascending) lentNodes counts is p z (rw (length-take-le n nodes within) h)
 
 -- ---- where a writer answers a length, no check refused, and the bytes are the file's
 wrote-passed : (row : Row) (file lent : List ℕ) {bytes : List ℕ} (o : Option Answer) → firstOf row ≡ o

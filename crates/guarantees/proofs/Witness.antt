@@ -35,7 +35,7 @@ use Rattle.lxd_file.specs.Row.{lxdRow, toLxd}
 use Rattle.lxd_file.specs.Spelling as lxd
 use Rattle.alphagrams.specs.Alphagrams.{NeverDescends, AlphagramLexicon, AlphaMeans}
 use Rattle.alphagrams.specs.MeaningLaws.{alpha-means}
-use Rattle.guarantees.specs.Demand3.{CountedLoad, Wrote, loadedNodes as loaded}
+use Rattle.guarantees.specs.Demand3.{CountedLoad, Wrote, loadedNodes}
 use Rattle.guarantees.proofs.Demand3Laws.{demand-3}
 use Rattle.guarantees.specs.Starred.{G, labels}
 
@@ -152,7 +152,7 @@ spelled-lxd = demand-3 countLimit .lxd G labels (0x47 ∷ []) [] 40 bytes (take 
 pub record Met : Type 0 where
   pub answers : fedPieces 20 Kwg lent G-pieces .answers ≡ gives [] ∷ gives [] ∷ refused 5 [] ∷ gives [] ∷ gives [] ∷ []
   pub ready : CountedLoad 20 Kwg lent G-pieces countLimit 5 counted
-  pub numbered : WordNumbers countLimit G (loaded 20 Kwg lent G-pieces) counted 2
+  pub numbered : WordNumbers countLimit G (loadedNodes 20 Kwg lent G-pieces) counted 2
   pub lent-longer : WordNumbers countLimit G otherNodes otherCounts 2
   pub dawg-written : Wrote (G-macondo dawg) (take 57 (G-macondo dawg .bytes))
   pub dawg-spelled : macondo.Spells (take 57 (G-macondo dawg .bytes)) labels wordsOfDawg

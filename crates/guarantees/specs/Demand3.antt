@@ -38,14 +38,18 @@ module _ (announced : ℕ) (layout : Layout) (lent : Graph) (pieces : List (List
   abbrev pub loadedNodes : Graph
   loadedNodes = loadPieces announced layout lent pieces .nodes
 
+  -- the first n of them
+  abbrev pub loadedGraph : ℕ → Graph
+  loadedGraph n = take n loadedNodes
+
   -- "A file loads where finish gives no refusal, and counts where counting its N nodes, with lists long enough, gives none"; its runs
   -- ascend; `counted` is what counting left of the counts it was lent
   pub record CountedLoad (limit n : ℕ) (counted : List ℕ) : Type 0 where
     pub loads : loadPieces announced layout lent pieces .finished ≡ gives (n ∷ [])
     pub lentCounts : List ℕ
     pub lentWork : ℕ
-    pub counts : IsCounted limit (take n loadedNodes) lentCounts lentWork (gives []) counted
-    pub ascending : ascends KBWG (take n loadedNodes) ≡ true
+    pub counts : IsCounted limit (loadedGraph n) lentCounts lentWork (gives []) counted
+    pub ascending : ascends KBWG (loadedGraph n) ≡ true
 
 -- The limit is the lowest count that is too many, of as many bits as the counts have.
 pub record Demand3 (limit : ℕ) : Type 0 where
@@ -56,12 +60,12 @@ pub record Demand3 (limit : ℕ) : Type 0 where
   -- from every node above 0: the numbers below its count name its words, its words give their numbers back, and all else gets none
   pub numbering : (announced : ℕ) (layout : Layout) (lent : Graph) (pieces : List (List ℕ)) (n : ℕ) (counted : List ℕ)
       → CountedLoad announced layout lent pieces limit n counted
-      → (p : ℕ) → 0 < p → p < n → WordNumbers limit (take n (loadedNodes announced layout lent pieces)) (loadedNodes announced layout lent pieces) counted p
+      → (p : ℕ) → 0 < p → p < n → WordNumbers limit (loadedGraph announced layout lent pieces n) (loadedNodes announced layout lent pieces) counted p
   -- the same where node and count lists are lent longer than N
   pub lending : (announced : ℕ) (layout : Layout) (lent : Graph) (pieces : List (List ℕ)) (n : ℕ) (counted : List ℕ)
       → CountedLoad announced layout lent pieces limit n counted
-      → (nodes counts : List ℕ) → Lent (take n (loadedNodes announced layout lent pieces)) nodes counts
-      → (p : ℕ) → 0 < p → p < n → WordNumbers limit (take n (loadedNodes announced layout lent pieces)) nodes counts p
+      → (nodes counts : List ℕ) → Lent (loadedGraph announced layout lent pieces n) nodes counts
+      → (p : ℕ) → 0 < p → p < n → WordNumbers limit (loadedGraph announced layout lent pieces n) nodes counts p
   -- every Macondo file, once written, spells exactly the words of its start node, renamed, less those ending in tile 0: each once, with
   -- the labels as its code points, to the file's last byte
   pub macondo : (g : Graph) (labels name : List ℕ) (f : Format) (lentWork : ℕ) (lent file : List ℕ)

@@ -53,8 +53,8 @@ module _ (walk : NumberWalk) where
     pub left : Putting (linesOf walk next (e - next)) before 0 (linesOf walk i (e - i)) out at
     pub words : allWords walk i (e - i) ≡ allWords walk next (e - next)
 
-  pub fill-start : (next e : ℕ) (before : List ℕ) → next ≤ e → BlockFilling next e before before next 0
-  fill-start next e before h =
+  pub block-filling-start : (next e : ℕ) (before : List ℕ) → next ≤ e → BlockFilling next e before before next 0
+  block-filling-start next e before h =
       record { from = omega arith; to = h; room = omega arith; left = put-start (linesOf walk next (e - next)) before 0; words = refl }
 
   module _ {next e : ℕ} {before out : List ℕ} {i at : ℕ} (f : BlockFilling next e before out i at) where
@@ -131,11 +131,11 @@ module _ (walk : NumberWalk) where
   unfolding thenLines
   lines-over i j k w = lines-and i j k ∙ ap (λ b. linesOf walk i j ++ thenLines b (linesOf walk (i + j) k)) w
 
-  pub block-first : (count next room : ℕ) → next < count → longest ≤ room
+  pub block-then-rest : (count next room : ℕ) → next < count → longest ≤ room
       → linesOf walk next (count - next)
       ≡ block walk count next room .bytes ++ linesOf walk (block walk count next room .next) (count - block walk count next room .next)
   unfolding block linesOf
-  block-first count next room h l =
+  block-then-rest count next room h l =
       let k = numbersIn count next room in
       let one = some-number walk count next room h l in
       let all : count - next ≡ k + (count - (next + k)) = omega arith in

@@ -1,9 +1,9 @@
 -- What the proofs of several functions use, and the theorem on what the program prints.
 mod LinesLaws
 mod PutLaws
-mod WalkedLaws
 mod BlocksLaws
 mod WordLaws
 mod OpeningLaws
 mod ListedLaws
 mod PrintsLaws
+mod FiveNodes

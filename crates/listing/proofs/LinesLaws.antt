@@ -10,8 +10,8 @@ use borrow.Author.Tests.{ltb-false, lt-ltb, le-ltb}
 use lib.ListN.{length, getD, drop, length-append, drop-of-length-le}
 use lib.Seq.{drop-cons}
 use Rattle.laws.specs.Cases.{split}
-use Rattle.laws.specs.Lists.{All}
 use Rattle.graph.specs.Words.{Word}
+use Rattle.lookup.specs.WalkedLaws.{Tiles}
 use Rattle.listing.specs.Lines.{decimalWithin, decimal, spaced, parted, line, refusalLine}
 
 -- ---- decimal digits
@@ -92,10 +92,6 @@ unfolding refusalLine
 refusal-parts n = simp length-append (omega arith)
 
 -- ---- how long it can get
--- a tile of a node is below 64
-abbrev pub Tiles : Word → Type 0
-Tiles w = All (_< 64) w
-
 pub spaced-length : (w : Word) → Tiles w → length (spaced w) ≤ 3 * length w
 unfolding spaced
 spaced-length [] a = zero-le

@@ -18,6 +18,7 @@ use Rattle.graph.specs.ChecksLaws.{fit}
 use Rattle.graph.specs.Counting.{Counts}
 use Rattle.lookup.specs.Steps.{lentPart}
 use Rattle.lookup.specs.Walks.{wordByIndex}
+use Rattle.lookup.specs.WalkedLaws.{by-index-cut}
 use Rattle.numbers.specs.WordNumbers.{Lent}
 use Rattle.numbers.specs.LentLaws.{walkable, lent-parts}
 use Rattle.numbers.specs.ByNumber.{named}
@@ -25,7 +26,6 @@ use Rattle.numbers.specs.Walkable.{Walkable}
 use Rattle.listing.specs.Lines.{line, refusalLine}
 use Rattle.listing.specs.Wordlist.{startWords, mostTiles, listed}
 use Rattle.listing.specs.Blocks.{NumberWalk, lineFor, goesOn, linesOf}
-use Rattle.listing.proofs.WalkedLaws.{by-index-cut}
 
 -- ---- the walk names the words
 -- what the walk leaves of a word, with room for 256 tiles

@@ -26,7 +26,7 @@ use Rattle.load.specs.declared.loader.Fed.{Fed}
 use Rattle.pieces.specs.Pieces.{LoadOutcome, feedAll, fedPieces, loadPieces, oneFeed}
 use Rattle.graph.specs.TableLaws.{table-length, table-at}
 use Rattle.numbers.specs.WordNumbersLaws.{counted-lent}
-use Rattle.listing.specs.Wordlist.{startWords, mostBytes, load, lastAnswer, loadAnswer, RefusesBy, CountWork, LongEnough, ReadInto, longer, unloaded, uncounted, counted, refuses, lists}
+use Rattle.listing.specs.Wordlist.{startWords, mostBytes, loadInput, lastAnswer, loadAnswer, RefusesBy, CountWork, LongEnough, ReadInto, longer, unloaded, uncounted, counted, refuses, lists}
 use Rattle.listing.specs.Said.{saidLoad, LoadsAs, atStart, saidCount, CountsAs, Opening, OpensRead}
 use Rattle.listing.specs.declared.opening.Unprinted.{Unprinted}
 use Rattle.listing.specs.declared.opening.Unprinted.the-variants.{Refusal, Words}
@@ -47,7 +47,7 @@ pub record Answered (l : LoadOutcome) (begun : BeginAnswer) (finished : Finished
 -- begin, one feed and finish load the whole
 pub whole-load : (input lentNodes : List ℕ) (b : Begun) (f : Fed) (finished : Finished) {fedNodes nodes : List ℕ}
     → begunAs b ≡ begin (length input) Kwg (length lentNodes) → fedAs f fedNodes ≡ feed (b .loader) lentNodes input
-    → finishedAs finished nodes ≡ finish (f .loader) fedNodes → Answered (load input lentNodes) (b .answer) finished nodes
+    → finishedAs finished nodes ≡ finish (f .loader) fedNodes → Answered (loadInput input lentNodes) (b .answer) finished nodes
 unfolding loadPieces fedPieces feedAll oneFeed
 whole-load input lentNodes b f finished {fedNodes} {nodes} e d g =
     let s : b .loader ≡ begin (length input) Kwg (length lentNodes) .state = ap (λ x. x .state) e in
@@ -57,13 +57,13 @@ whole-load input lentNodes b f finished {fedNodes} {nodes} e d g =
     record { begins = ap (λ x. x .answer) e; finishes = ap (λ x. x .answer) last; table = ap (λ x. x .nodes) last }
 
 module _ {l : LoadOutcome} {begun : BeginAnswer} {finished : Finished} {nodes : List ℕ} (h : Answered l begun finished nodes) where
-  pub begin-refused : (n : ℕ) {vs : List ℕ} → saidBegin begun ≡ refused n vs → LoadsAs l (Refused n) nodes
-  begin-refused n {vs} e =
+  pub load-refused-by-begin : (n : ℕ) {vs : List ℕ} → saidBegin begun ≡ refused n vs → LoadsAs l (Refused n) nodes
+  load-refused-by-begin n {vs} e =
       let b : l .begun ≡ refused n vs = sym (h .begins) ∙ e in
       record { said = subst (λ a. RefusesBy (lastAnswer a (l .finished)) n) (sym b) refl; table = h .table }
 
-  pub begin-ready : (x : FileLoaded) → saidBegin begun ≡ gives [] → saidLoad x (saidFinish finished) → LoadsAs l x nodes
-  begin-ready x e f =
+  pub load-past-begin : (x : FileLoaded) → saidBegin begun ≡ gives [] → saidLoad x (saidFinish finished) → LoadsAs l x nodes
+  load-past-begin x e f =
       let b : l .begun ≡ gives [] = sym (h .begins) ∙ e in
       let a : loadAnswer l ≡ saidFinish finished = ap (λ y. lastAnswer y (l .finished)) b ∙ sym (h .finishes) in
       record { said = subst (saidLoad x) (sym a) f; table = h .table }
@@ -74,15 +74,15 @@ last-gives (gives vs) b e = e
 last-gives nothing b e = e
 last-gives (refused k vs) b e = let z : _≡_ {A = ℕ} 0 1 = cc in absurd (omega arith)
 
-pub loaded-within : (input lentNodes : List ℕ) {n : ℕ} → loadAnswer (load input lentNodes) ≡ gives (n ∷ [])
-    → n ≤ length (load input lentNodes .nodes)
+pub loaded-within : (input lentNodes : List ℕ) {n : ℕ} → loadAnswer (loadInput input lentNodes) ≡ gives (n ∷ [])
+    → n ≤ length (loadInput input lentNodes .nodes)
 unfolding loadPieces fedPieces feedAll oneFeed
 loaded-within input lentNodes e =
-    let l = load input lentNodes in
+    let l = loadInput input lentNodes in
     let fed = oneFeed (length input) Kwg lentNodes input in
     finished-within (fed .state) (fed .nodes) (last-gives (l .begun) (l .finished) e)
 
-pub nodes-within : (input lentNodes : List ℕ) {nodes : List ℕ} {n : ℕ} → LoadsAs (load input lentNodes) (Nodes n) nodes → n ≤ length nodes
+pub nodes-within : (input lentNodes : List ℕ) {nodes : List ℕ} {n : ℕ} → LoadsAs (loadInput input lentNodes) (Nodes n) nodes → n ≤ length nodes
 nodes-within input lentNodes {nodes} {n} a = subst (λ l. n ≤ length l) (sym (a .table)) (loaded-within input lentNodes (a .said))
 
 -- what holds of the answer of a load holds where a match finds it
@@ -91,17 +91,18 @@ loads-as {l} {nodes = nodes} e a = subst (λ r. LoadsAs l r nodes) e a
 
 -- ---- the start
 module _ (nodes counts : List ℕ) {s : ℕ} (e : s ≡ startNode nodes 0) where
-  pub no-words : s ≡ 0 → Words s 0 0 ≡ atStart nodes counts
-  no-words z = rw (e, eq-eqb (startNode nodes 0) 0 (sym e ∙ z))
+  pub start-none : s ≡ 0 → Words s 0 0 ≡ atStart nodes counts
+  start-none z = rw (e, eq-eqb (startNode nodes 0) 0 (sym e ∙ z))
 
-  pub some-words : (s ≡ 0 → ⊥) → Words s (getD counts s 0) 0 ≡ atStart nodes counts
-  some-words n = rw (e, ne-eqb (startNode nodes 0) 0 (λ z. n (e ∙ z)))
+  pub start-some : (s ≡ 0 → ⊥) → Words s (getD counts s 0) 0 ≡ atStart nodes counts
+  start-some n = rw (e, ne-eqb (startNode nodes 0) 0 (λ z. n (e ∙ z)))
 
 -- ---- the count
 module _ {g : Graph} {lentCounts lentWork after work : List ℕ} where
-  pub counts-refused : (n : ℕ) {vs : List ℕ} {a : Answer} → a ≡ refused n vs → IsCounted countLimit g lentCounts (length lentWork) a after
-      → CountWork g lentCounts lentWork work → CountsAs g lentCounts lentWork (Refusal n) after work
-  counts-refused n {vs} {a} e c w = record { answer = a; said = subst (λ x. RefusesBy x n) (sym e) refl; counted = c; free = w }
+  pub counts-refused : (n : ℕ) {vs : List ℕ} {a : Answer} → a ≡ refused n vs
+      → (IsCounted countLimit g lentCounts (length lentWork) a after) × (CountWork g lentCounts lentWork work)
+      → CountsAs g lentCounts lentWork (Refusal n) after work
+  counts-refused n {a = a} e k = record { answer = a; said = subst (λ x. RefusesBy x n) (sym e) refl; counted = k .0; free = k .1 }
 
 module _ (g : Graph) (lentCounts lentWork after : List ℕ) (c : IsCounted countLimit g lentCounts (length lentWork) (gives []) after) where
   ok : Counts countLimit g × (take (length g) after ≡ counts g)
@@ -157,11 +158,11 @@ module _ {input lentNodes lentCounts lentWork : List ℕ} (n : LongEnough lentNo
   open-longer h = record { enough = n; ends = refuses 2; said = refl; opens = longer h }
 
   module _ (h : length input ≤ mostBytes) {nodes : List ℕ} where
-    pub open-unloaded : (m : ℕ) → LoadsAs (load input lentNodes) (Refused m) nodes
+    pub open-unloaded : (m : ℕ) → LoadsAs (loadInput input lentNodes) (Refused m) nodes
         → Opening input lentNodes lentCounts lentWork (Refusal m) nodes lentCounts lentWork
     open-unloaded m a = record { enough = n; ends = refuses m; said = refl; opens = rw (a .table) (unloaded h (a .said)) }
 
-    pub open-loaded : (size : ℕ) (r : Unprinted) {counts work : List ℕ} → LoadsAs (load input lentNodes) (Nodes size) nodes
+    pub open-loaded : (size : ℕ) (r : Unprinted) {counts work : List ℕ} → LoadsAs (loadInput input lentNodes) (Nodes size) nodes
         → CountsAs (take size nodes) lentCounts lentWork r counts work → Opening input lentNodes lentCounts lentWork r nodes counts work
     open-loaded size (Refusal m) a c =
         let k = rw (a .table) at (c .counted) in
@@ -174,7 +175,7 @@ module _ {input lentNodes lentCounts lentWork : List ℕ} (n : LongEnough lentNo
         let all : (s ≡ startNode (take size nodes) 0) × (m ≡ length (startWords (take size nodes))) × (i ≡ 0) = (c .said .1, c .said .2, c .said .3) in
         record {
           enough = n;
-          ends = lists (take size (load input lentNodes .nodes));
+          ends = lists (take size (loadInput input lentNodes .nodes));
           said = rw (a .table) at all;
           opens = rw (a .table) (counted h (a .said) k w);
         }

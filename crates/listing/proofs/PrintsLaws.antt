@@ -7,24 +7,23 @@ use native.Mathlib.Omega.{arith}
 use lib.Dec.{ltb}
 use borrow.Author.Tests.{ltb-true, ltb-false}
 use lib.ListN.{length, take}
-use lib.Seq.{length-take-le}
 use Rattle.laws.specs.Cases.{split, split-option, some≢none}
 use Rattle.laws.specs.Lists.{joinAll}
 use Rattle.answers.specs.Answers.{Answer, gives, nothing, refused}
 use Rattle.graph.specs.Runs.{Graph}
 use Rattle.graph.specs.Counting.{IsCounted, unfit, loop, many, all, Counts, countLimit}
 use Rattle.numbers.specs.WordNumbers.{Lent}
-use Rattle.numbers.specs.WordNumbersLaws.{counted-lent}
+use Rattle.numbers.specs.WordNumbersLaws.{counted-lent, lent-left}
 use Rattle.listing.specs.Lines.{refusalLine}
-use Rattle.listing.specs.Wordlist.{startWords, load, loadAnswer, RefusesBy, Ends, refuses, lists}
+use Rattle.listing.specs.Wordlist.{startWords, loadInput, loadAnswer, RefusesBy, Ends, refuses, lists}
 use Rattle.listing.specs.Wordlist.{Opens, longer, unloaded, uncounted, counted, printed, Prints}
 use Rattle.listing.specs.Blocks.{linesOf, block}
 use Rattle.listing.specs.Printing.{room, walkFrom, linesLeft, Next, nextBlock, blocksWithin, outputBlocks}
 use Rattle.listing.specs.Said.{saidOpen, Opening, WholeOutput}
-use Rattle.listing.specs.NextLaws.{next-less}
+use Rattle.listing.specs.NextLaws.{fewer-lines-left}
 use Rattle.listing.specs.declared.opening.Unprinted.{Unprinted}
 use Rattle.listing.specs.declared.opening.Unprinted.the-variants.{Refusal, Words}
-use Rattle.listing.proofs.BlocksLaws.{block-first}
+use Rattle.listing.proofs.BlocksLaws.{block-then-rest}
 use Rattle.listing.proofs.ListedLaws.{start-listed}
 use Rattle.listing.proofs.OpeningLaws.{loaded-within}
 
@@ -33,9 +32,10 @@ use Rattle.listing.proofs.OpeningLaws.{loaded-within}
 lists-left : {input lentNodes lentCounts lentWork nodes counts work : List ℕ} {g : Graph}
     → Opens input lentNodes lentCounts lentWork (lists g) nodes counts work → Counts countLimit g × Lent g nodes counts
 lists-left {input} {lentNodes} {lentCounts} {lentWork} {counts = after} (counted {size} h a c w) =
-    let nodes = load input lentNodes .nodes in
-    let k = counted-lent countLimit (take size nodes) lentCounts after (length lentWork) c in
-    (k .0, record { nodes-are = ap (λ n. take n nodes) (length-take-le size nodes (loaded-within input lentNodes a)); counts-are = k .1 })
+    let nodes = loadInput input lentNodes .nodes in (
+      counted-lent countLimit (take size nodes) lentCounts after (length lentWork) c .0,
+      lent-left countLimit size nodes lentCounts after (length lentWork) (loaded-within input lentNodes a) c,
+    )
 
 module _ (nodes counts : List ℕ) where
   -- what is still to be printed
@@ -62,7 +62,7 @@ module _ (nodes counts : List ℕ) where
       split (ltb next count)
       (λ t. let e′ = rw (t, nextBlock) at e in
       let walk = walkFrom nodes counts start in
-      let first = block-first walk count next room (ltb-true next count t) (omega arith) in
+      let first = block-then-rest walk count next room (ltb-true next count t) (omega arith) in
       let bytes : block walk count next room .bytes ≡ b .bytes = cc in
       let left : Words start count (block walk count next room .next) ≡ b .unprinted = cc in
       first ∙ ap (λ l. l ++ bytesLeft (Words start count (block walk count next room .next))) bytes ∙ ap (λ u. b .bytes ++ bytesLeft u) left)
@@ -75,7 +75,7 @@ module _ (nodes counts : List ℕ) where
   blocks-join (suc t) u h =
       split-option (nextBlock nodes counts u)
       (λ e. rw (e, blocksWithin) (sym (none-left u e)))
-      (λ b e. rw (e, blocksWithin) (ap (b .bytes ++_) (blocks-join t (b .unprinted) (omega (arith, h, next-less nodes counts u e))) ∙ sym (one-block u e)))
+      (λ b e. rw (e, blocksWithin) (ap (b .bytes ++_) (blocks-join t (b .unprinted) (omega (arith, h, fewer-lines-left nodes counts u e))) ∙ sym (one-block u e)))
 
 module _ {input lentNodes lentCounts lentWork nodes counts work : List ℕ} where
   joined : (u : Unprinted) (e : Ends) → saidOpen u e → Opens input lentNodes lentCounts lentWork e nodes counts work
@@ -151,14 +151,14 @@ gives-refuses n e r = absurd (subst (λ x. RefusesBy x n) e r)
 
 module _ (input lentNodes lentCounts lentWork : List ℕ) where
   abbrev graphOf : ℕ → Graph
-  graphOf size = take size (load input lentNodes .nodes)
+  graphOf size = take size (loadInput input lentNodes .nodes)
 
-  same-size : {s t : ℕ} → loadAnswer (load input lentNodes) ≡ gives (s ∷ []) → loadAnswer (load input lentNodes) ≡ gives (t ∷ []) → s ≡ t
+  same-size : {s t : ℕ} → loadAnswer (loadInput input lentNodes) ≡ gives (s ∷ []) → loadAnswer (loadInput input lentNodes) ≡ gives (t ∷ []) → s ≡ t
   same-size e f = let i = sym e ∙ f in cc
 
   -- two counts of the loaded nodes
-  both-counted : {s t : ℕ} {a b : Answer} {after after′ : List ℕ} → loadAnswer (load input lentNodes) ≡ gives (s ∷ [])
-      → loadAnswer (load input lentNodes) ≡ gives (t ∷ []) → IsCounted countLimit (graphOf s) lentCounts (length lentWork) a after
+  both-counted : {s t : ℕ} {a b : Answer} {after after′ : List ℕ} → loadAnswer (loadInput input lentNodes) ≡ gives (s ∷ [])
+      → loadAnswer (loadInput input lentNodes) ≡ gives (t ∷ []) → IsCounted countLimit (graphOf s) lentCounts (length lentWork) a after
       → IsCounted countLimit (graphOf t) lentCounts (length lentWork) b after′ → Alike a b
   both-counted {s} {t} {a} {after = after} e f c d =
       counted-once (subst (λ k. IsCounted countLimit (graphOf k) lentCounts (length lentWork) a after) (same-size e f) c) d
@@ -171,7 +171,7 @@ module _ (input lentNodes lentCounts lentWork : List ℕ) where
   ends-once (longer h) (uncounted i a c r w) = absurd (omega arith)
   ends-once (longer h) (counted i a c w) = absurd (omega arith)
   ends-once (unloaded h r) (longer i) = absurd (omega arith)
-  ends-once (unloaded h r) (unloaded i s) = ap refuses (refuses-once (loadAnswer (load input lentNodes)) r s)
+  ends-once (unloaded h r) (unloaded i s) = ap refuses (refuses-once (loadAnswer (loadInput input lentNodes)) r s)
   ends-once (unloaded {n} h r) (uncounted i a c s w) = gives-refuses n a r
   ends-once (unloaded {n} h r) (counted i a c w) = gives-refuses n a r
   ends-once (uncounted h a c r w) (longer i) = absurd (omega arith)

@@ -10,6 +10,7 @@ use Rattle.answers.specs.Answers.{Answer, gives, nothing, refused}
 use Rattle.graph.specs.Words.{Word}
 use Rattle.lookup.specs.Said.{saidWord, WordPut}
 use Rattle.lookup.specs.Walks.{wordByIndex}
+use Rattle.lookup.specs.WalkedLaws.{WalkLeaves}
 use Rattle.lookup.specs.declared.by_number.WordByIndex.{WordByIndex}
 use Rattle.lookup.specs.declared.by_number.WordByIndex.the-variants.{Tiles}
 use Rattle.listing.specs.Lines.{line, refusalLine}
@@ -17,7 +18,6 @@ use Rattle.listing.proofs.LinesLaws.{line-length, refusal-length}
 use Rattle.listing.specs.Wordlist.{mostTiles}
 use Rattle.listing.specs.Blocks.{longest, goesOn}
 use Rattle.listing.specs.Printing.{walkFrom}
-use Rattle.listing.proofs.WalkedLaws.{WalkLeaves}
 use Rattle.listing.proofs.PutLaws.{put-none}
 use Rattle.listing.specs.Said.{Puts, PutWord}
 
@@ -44,7 +44,7 @@ pub word-in : {walked : Word × Answer} {after : List ℕ} {r : WordByIndex} {n 
     → r ≡ Tiles n → WordIn walked n after
 word-in {walked} {after} {r} {n} w t e =
     let a : walked .1 ≡ gives (n ∷ []) = sym (t .put .said) ∙ ap saidWord e in
-    let s : n ≡ length (walked .0) = w .told n a ∙ omega arith in
+    let s : n ≡ length (walked .0) = w .given n a ∙ omega arith in
     record {
       answer = a;
       word = ap (take n) (t .put .tiles) ∙ take-at (walked .0) (drop (length (walked .0)) (t .before)) n (sym s);

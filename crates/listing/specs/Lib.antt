@@ -4,4 +4,3 @@ pub mod Blocks
 pub mod Printing
 pub mod Said
 pub mod NextLaws
-pub mod FiveNodes

@@ -43,12 +43,12 @@ front-within {xs} {a} f = omega (arith, f .size, ap length (f .stored), length-a
 
 -- ---- the lines left
 module _ (nodes counts : List ℕ) where
-  pub next-less : (u : Unprinted) {b : Next} → nextBlock nodes counts u ≡ some b → linesLeft (b .unprinted) < linesLeft u
+  pub fewer-lines-left : (u : Unprinted) {b : Next} → nextBlock nodes counts u ≡ some b → linesLeft (b .unprinted) < linesLeft u
   unfolding nextBlock
-  next-less (Refusal n) {b} e =
+  fewer-lines-left (Refusal n) {b} e =
       let v : Words 0 0 0 ≡ b .unprinted = cc in
       subst (λ x. linesLeft x < 1) v (omega arith)
-  next-less (Words start count next) {b} e =
+  fewer-lines-left (Words start count next) {b} e =
       split (ltb next count)
       (λ t. let e′ = rw (t, nextBlock) at e in
       let n = block (walkFrom nodes counts start) count next room .next in
@@ -66,4 +66,4 @@ module _ (nodes counts : List ℕ) where
       split-option (nextBlock nodes counts u)
       (λ n. absurd (subst (λ o. Makes o before after (Bytes written v)) n m′))
       (λ b n. let made = subst (λ o. Makes o before after (Bytes written v)) n m′ in
-      (front-within (made .0), rw (made .1) (next-less u n)))
+      (front-within (made .0), rw (made .1) (fewer-lines-left u n)))

@@ -49,8 +49,8 @@ abbrev pub ReadInto : List ℕ → ℕ → List ℕ → Type 0
 ReadInto buffer read input = take (length buffer) input ≡ take read buffer
 
 -- the load of a whole input, over lent nodes
-abbrev pub load : List ℕ → List ℕ → LoadOutcome
-load input lentNodes = loadWhole (length input) Kwg lentNodes input
+abbrev pub loadInput : List ℕ → List ℕ → LoadOutcome
+loadInput input lentNodes = loadWhole (length input) Kwg lentNodes input
 
 -- its answer: begin's refusal, or else what finish answers
 abbrev pub lastAnswer : Answer → Answer → Answer
@@ -81,17 +81,17 @@ module _ (input lentNodes lentCounts lentWork : List ℕ) where
   pub data Opens : Ends → List ℕ → List ℕ → List ℕ → Type 0 where
     -- "a longer input is 2"
     longer : mostBytes < length input → Opens (refuses 2) lentNodes lentCounts lentWork
-    unloaded : {n : ℕ} → length input ≤ mostBytes → RefusesBy (loadAnswer (load input lentNodes)) n
-        → Opens (refuses n) (load input lentNodes .nodes) lentCounts lentWork
+    unloaded : {n : ℕ} → length input ≤ mostBytes → RefusesBy (loadAnswer (loadInput input lentNodes)) n
+        → Opens (refuses n) (loadInput input lentNodes .nodes) lentCounts lentWork
     uncounted : {n size : ℕ} {r : Answer} {counts work : List ℕ} → length input ≤ mostBytes
-        → loadAnswer (load input lentNodes) ≡ gives (size ∷ [])
-        → IsCounted countLimit (take size (load input lentNodes .nodes)) lentCounts (length lentWork) r counts → RefusesBy r n
-        → CountWork (take size (load input lentNodes .nodes)) lentCounts lentWork work
-        → Opens (refuses n) (load input lentNodes .nodes) counts work
-    counted : {size : ℕ} {counts work : List ℕ} → length input ≤ mostBytes → loadAnswer (load input lentNodes) ≡ gives (size ∷ [])
-        → IsCounted countLimit (take size (load input lentNodes .nodes)) lentCounts (length lentWork) (gives []) counts
-        → CountWork (take size (load input lentNodes .nodes)) lentCounts lentWork work
-        → Opens (lists (take size (load input lentNodes .nodes))) (load input lentNodes .nodes) counts work
+        → loadAnswer (loadInput input lentNodes) ≡ gives (size ∷ [])
+        → IsCounted countLimit (take size (loadInput input lentNodes .nodes)) lentCounts (length lentWork) r counts → RefusesBy r n
+        → CountWork (take size (loadInput input lentNodes .nodes)) lentCounts lentWork work
+        → Opens (refuses n) (loadInput input lentNodes .nodes) counts work
+    counted : {size : ℕ} {counts work : List ℕ} → length input ≤ mostBytes → loadAnswer (loadInput input lentNodes) ≡ gives (size ∷ [])
+        → IsCounted countLimit (take size (loadInput input lentNodes .nodes)) lentCounts (length lentWork) (gives []) counts
+        → CountWork (take size (loadInput input lentNodes .nodes)) lentCounts lentWork work
+        → Opens (lists (take size (loadInput input lentNodes .nodes))) (loadInput input lentNodes .nodes) counts work
 
 -- ---- what is printed
 -- "A refusal prints `refused`, tab, number"; else the words from the start, numbered from 0

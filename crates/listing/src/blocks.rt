@@ -14,7 +14,7 @@ use lookup::WordByIndex;
 // The most tiles of a word.
 const TILES: usize = 256;
 
-// The bytes of the longest line: 10 digits, a tab, 256 tiles of 2 digits parted by spaces, the line's end.
+// The bytes of the longest line: 10 digits, a tab, 256 tiles of 2 digits separated by spaces, the line's end.
 const LONGEST: usize = 779;
 
 // The bytes that a block has room for.
@@ -93,7 +93,7 @@ fn block_end(count: u32, next: u32, room: usize) -> u32
     }
 }
 
-// Makes the lines of the words from number next on, of so many from the start, as far as there is room for them.
+// Writes the lines of words `next` to `count - 1` to the front of `out`, as many as its length allows where each is the longest.
 fn fill(
     nodes: &[u32],
     counts: &[u32],

@@ -3,7 +3,7 @@ ghost use mathlib.Core.Path.{_≡_};
 ghost use Prim.Native.Nat.{_<_};
 ghost use lib.ListN.{length};
 ghost use Rattle.graph.specs.Runs.{startNode};
-ghost use Rattle.listing.specs.Wordlist.{mostBytes, LongEnough, load as loading};
+ghost use Rattle.listing.specs.Wordlist.{mostBytes, LongEnough, loadInput};
 ghost use Rattle.listing.specs.Said.{saidLoad, LoadsAs, atStart, CountsAs, OpensRead};
 ghost use Rattle.load.specs.Said.{saidFinish};
 use count::Counted;
@@ -18,13 +18,13 @@ pub const NODES: usize = 4096;
 
 const MOST_BYTES: usize = 16384;
 
-// Room for one byte more than may be listed, so that a longer input shows.
+// One byte more than the longest input that is accepted, so that a longer one is noticed.
 pub const INPUT: usize = 16385;
 
 // Two numbers a node, to count the words in.
 pub const WORK: usize = 8192;
 
-// What is left to print: a refusal's line, or the lines of the words from number next on, of so many from the start.
+// What is left to print: a refusal's line, or the lines of words `next` to `count - 1` of those from the start.
 pub enum Unprinted {
     Refusal(u32),
     Words { start: u32, count: u32, next: u32 },
@@ -36,8 +36,8 @@ pub enum FileLoaded {
 }
 
 // Loads the input in one piece.
-fn load(input: &[u8], nodes: &mut [u32]) -> FileLoaded
-    ensures { λ r. ⌜ LoadsAs (loading (now (input .entry)) (now (nodes .entry))) r (now (nodes .exit)) ⌝ }
+fn load_input(input: &[u8], nodes: &mut [u32]) -> FileLoaded
+    ensures { λ r. ⌜ LoadsAs (loadInput (now (input .entry)) (now (nodes .entry))) r (now (nodes .exit)) ⌝ }
 {
     let begun = Loader::begin(input.len(), Layout::Kwg, nodes);
     let answer = begun.answer;
@@ -100,7 +100,7 @@ fn count_loaded(nodes: &[u32], counts: &mut [u32], work: &mut [u32]) -> Unprinte
     }
 }
 
-// Opens what was read into a buffer that has room for more bytes than may be listed; the lists are long enough for all that may be.
+// Opens an input of which `read` bytes are in a buffer of more than 16,384 bytes; the lists must be long enough for 4,096 nodes.
 fn open_read(
     input: &[u8],
     read: usize,
@@ -115,13 +115,13 @@ fn open_read(
     if MOST_BYTES < read {
         return Unprinted::Refusal(2);
     }
-    match load(&input[..read], nodes) {
+    match load_input(&input[..read], nodes) {
         FileLoaded::Nodes(count) => count_loaded(&nodes[..count], counts, work),
         FileLoaded::Refused(number) => Unprinted::Refusal(number),
     }
 }
 
-// Loads a KWG of up to 4,096 nodes and counts its words. Its first bytes, as many as there is room for, were read: so many.
+// Loads a KWG of up to 4,096 nodes and counts its words. `read` is how many of its first bytes are in `input`.
 pub fn open(
     input: &[u8; INPUT],
     read: usize,

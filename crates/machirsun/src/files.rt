@@ -10,7 +10,7 @@ ghost use Rattle.flat.specs.FlatFiles.{formatNumbered, fileOf, fileWritten, fla
 use flat::FlatFile;
 use flat::flat_lxd;
 use flat::flat_macondo;
-use flat::format_of;
+use flat::format_numbered;
 use macondo::Macondo;
 
 // Writes the words of a graph as a Macondo file.
@@ -30,7 +30,7 @@ pub extern "C" fn machirsun_to_macondo(
         (8 * length (now (nodes .entry))) (now (work .entry)) (now (work .exit)) ⌝ }
     ensures flat { λ r. ⌜ r ≡ flatFile (fileOf r) ⌝ }
 {
-    let kind = format_of(format);
+    let kind = format_numbered(format);
     flat_macondo(macondo::to_macondo(nodes, labels, name, kind, work, file))
 }
 

@@ -5,6 +5,7 @@ mod loading;
 mod lookups;
 mod sets;
 
+// The calls that crate `replay` makes. Every `extern "C"` function is in the static library.
 pub use counting::machirsun_count_words;
 pub use files::machirsun_to_lxd;
 pub use files::machirsun_to_macondo;

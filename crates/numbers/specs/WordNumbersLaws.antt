@@ -2,10 +2,10 @@
 use mathlib.Core.Path.{_≡_, refl, sym, ap}
 use mathlib.Core.Bool.{true}
 use mathlib.Core.List.{List, [], _∷_, List·Memᴰ, Memᴰ·cast}
-use Prim.Native.Nat.{ℕ, zero, suc, _<_}
+use Prim.Native.Nat.{ℕ, zero, suc, _≤_, _<_}
 use native.Mathlib.Omega.{arith}
 use lib.ListN.{length, getD, take, drop}
-use lib.Seq.{take-at}
+use lib.Seq.{take-at, length-take-le}
 use Rattle.laws.specs.Lists.{all-mem}
 use Rattle.laws.specs.Members.{at-in}
 use Rattle.answers.specs.Answers.{Answer, gives, nothing}
@@ -80,3 +80,12 @@ counted-lent limit g before after lentWork (all e l f) = (
   record { fit = rows-passed (graphRow g) _ e; loopless = l; few = f },
   take-at (counts g) (drop (length g) before) (length g) (table-length (length g) (count KBWG g)),
 )
+
+-- the first nodes of a list, where they are counted, stand in the list and in the counts that are left
+pub lent-left : (limit size : ℕ) (nodes before after : List ℕ) (lentWork : ℕ) → size ≤ length nodes
+    → IsCounted limit (take size nodes) before lentWork (gives []) after → Lent (take size nodes) nodes after
+lent-left limit size nodes before after lentWork h c =
+    record {
+      nodes-are = ap (λ k. take k nodes) (length-take-le size nodes h);
+      counts-are = counted-lent limit (take size nodes) before after lentWork c .1;
+    }

@@ -12,64 +12,64 @@ fn main() {
     // The third node has tile 64.
     let wide = b"\x02\x00\x40\x00\x00\x00\x40\x00\x04\x00\x80\x40\x04\x00\x40\x02\x00\x00\xC0\x02";
     let one = b"\x00\x00\x40\x00";
-    load(b"in one piece\n", 20, g, &[], &mut [9; 2]);
-    load(
+    show_load(b"in one piece\n", 20, g, &[], &mut [9; 2]);
+    show_load(
         b"cut inside nodes, one piece empty\n",
         20,
         g,
         &[5, 2, 0],
         &mut [9; 5],
     );
-    load(b"by three bytes\n", 20, g, &[3, 3, 3, 3, 3, 3], &mut [9; 8]);
-    load(b"a cut past the end\n", 20, g, &[21, 3], &mut [9; 4]);
-    load(
+    show_load(b"by three bytes\n", 20, g, &[3, 3, 3, 3, 3, 3], &mut [9; 8]);
+    show_load(b"a cut past the end\n", 20, g, &[21, 3], &mut [9; 4]);
+    show_load(
         b"room for two answers of four\n",
         20,
         g,
         &[5, 2, 0],
         &mut [9; 2],
     );
-    load(b"room for no answer\n", 20, g, &[5, 2, 0], &mut []);
-    load(
+    show_load(b"room for no answer\n", 20, g, &[5, 2, 0], &mut []);
+    show_load(
         b"12 bytes announced: a piece too long, then one that is not\n",
         12,
         g,
         &[8, 8],
         &mut [9; 4],
     );
-    load(
+    show_load(
         b"24 bytes announced: bytes are missing\n",
         24,
         g,
         &[7],
         &mut [9; 3],
     );
-    load(b"7 bytes announced\n", 7, g, &[7], &mut [9; 3]);
-    load(
+    show_load(b"7 bytes announced\n", 7, g, &[7], &mut [9; 3]);
+    show_load(
         b"28 bytes announced for 6 nodes\n",
         28,
         g,
         &[7],
         &mut [9; 3],
     );
-    load(
+    show_load(
         b"a node that does not fit, begun in the piece before\n",
         20,
         wide,
         &[10, 3, 0],
         &mut [9; 5],
     );
-    load(
+    show_load(
         b"after it a piece that is too long\n",
         16,
         wide,
         &[12],
         &mut [9; 3],
     );
-    load(b"one node, cut in the middle\n", 4, one, &[2], &mut [9; 3]);
+    show_load(b"one node, cut in the middle\n", 4, one, &[2], &mut [9; 3]);
 }
 
-fn load(name: &[u8], announced: usize, bytes: &[u8], cuts: &[u32], answers: &mut [u32]) {
+fn show_load(name: &[u8], announced: usize, bytes: &[u8], cuts: &[u32], answers: &mut [u32]) {
     let mut nodes = [7; 6];
     let loaded = pieces::load_in_pieces(announced, Layout::Kwg, bytes, cuts, answers, &mut nodes);
     let begun = loaded.begun;
@@ -121,13 +121,13 @@ fn print_line(name: &[u8], numbers: &[u32]) {
     io::write_all(libc::STDOUT_FILENO, name);
     let mut i = 0;
     while i < numbers.len() {
-        print_number(numbers[i]);
+        print_hex(numbers[i]);
         i += 1;
     }
     io::write_all(libc::STDOUT_FILENO, b"\n");
 }
 
-fn print_number(number: u32) {
+fn print_hex(number: u32) {
     let high = number / 65536;
     io::write_all(
         libc::STDOUT_FILENO,

@@ -11,13 +11,13 @@ use Rattle.load.specs.Repacking.{repackAnswer, repackedBytes}
 use Rattle.load.specs.Loading.{begin, feed, finish}
 use Rattle.pieces.specs.Pieces.{feedAll, fedPieces, loadPieces}
 use Rattle.flat.specs.Flat.{layoutOf, plainly, refusalIn}
+use Rattle.flat.specs.PlainLaws.{plain-refusal}
 use Rattle.flat.specs.FlatLoads.{repackedOf, flatRepacked, stateOf, begunOf, fedOf, finishedOf, finishesOf, flatFinished}
 use Rattle.flat.specs.declared.loading.FlatRepacked.{FlatRepacked}
 use Rattle.flat.specs.declared.loading.FlatBegun.{FlatBegun}
 use Rattle.flat.specs.declared.loading.FlatFed.{FlatFed}
 use Rattle.flat.specs.declared.loading.FlatFinished.{FlatFinished}
-use Rattle.replay.specs.Loads.{repackedFields, finishedFields, repackReply, loaded, loadReply}
-use Rattle.replay.proofs.SetLaws.{plain-refusal}
+use Rattle.replay.specs.Loads.{repackedFields, finishedFields, repackReply, loadFields, loadReply}
 
 pub repack-replies : (ws bytes after : List ℕ) (r : FlatRepacked) (n m : ℕ) → n ≡ getD ws 0 0 → m ≡ getD ws 1 0
     → repackedOf r ≡ repackAnswer (bitLayout (layoutOf n)) (bitLayout (layoutOf m)) bytes
@@ -34,8 +34,8 @@ module _ (announced : ℕ) (layout : Layout) (lent p q : List ℕ) (b : FlatBegu
   unfolding loadPieces
   begun-is = rw (← eb) (plain-refusal (b .refusal))
 
-  pub refused-load : (b .refusal ≡ 0 → ⊥) → b .refusal ∷ [] ≡ loaded (loadPieces announced layout lent (p ∷ q ∷ []))
-  unfolding loaded
+  pub refused-load : (b .refusal ≡ 0 → ⊥) → b .refusal ∷ [] ≡ loadFields (loadPieces announced layout lent (p ∷ q ∷ []))
+  unfolding loadFields
   refused-load n = rw (begun-is, ne-eqb (b .refusal) 0 n)
 
   module _ (f : FlatFed) (n₁ : List ℕ) (ef : fedOf f n₁ ≡ feed (stateOf (b .loader)) lent p)
@@ -52,13 +52,13 @@ module _ (announced : ℕ) (layout : Layout) (lent p q : List ℕ) (b : FlatBegu
     unfolding loadPieces fedPieces feedAll
     loads = rw (← eb, ← ef, ← eg, ← er)
 
-    pub whole-load : b .refusal ≡ 0 → finishedFields r ++ take (r .nodes) n₃ ≡ loaded (loadPieces announced layout lent (p ∷ q ∷ []))
-    unfolding loaded
-    whole-load z =
+    pub finished-load : b .refusal ≡ 0 → finishedFields r ++ take (r .nodes) n₃ ≡ loadFields (loadPieces announced layout lent (p ∷ q ∷ []))
+    unfolding loadFields
+    finished-load z =
         rw (begun-is, eq-eqb (b .refusal) 0 z, loads) (ap (λ (x : FlatFinished). finishedFields x ++ take (x .nodes) n₃) flat)
 
 -- over the inputs read from the words of a case
 pub load-is : (ws bytes lent p q : List ℕ) (n k : ℕ) → n ≡ getD ws 0 0 → k ≡ getD ws 1 0 → p ≡ take k bytes → q ≡ drop k bytes
-    → loaded (loadPieces (length bytes) (layoutOf n) lent (p ∷ q ∷ [])) ≡ loadReply ws bytes lent
+    → loadFields (loadPieces (length bytes) (layoutOf n) lent (p ∷ q ∷ [])) ≡ loadReply ws bytes lent
 unfolding loadReply
 load-is ws bytes lent p q n k en ek ep eq = rw (ep, eq, en, ek)

@@ -1,20 +1,13 @@
 -- No tile is 165, so the tiles that a walk put into a word of 165s are those before the first of these.
 use mathlib.Core.Path.{_≡_, refl, ap, _∙_}
 use mathlib.Core.List.{List, [], _∷_, _++_, append-nil}
-use Prim.Native.Nat.{ℕ, zero, suc, _+_, _/_, _<_, _≤_}
-use native.Mathlib.Nat.{mod-lt}
+use Prim.Native.Nat.{ℕ, zero, suc, _+_, _<_, _≤_}
 use native.Mathlib.Numerals.{add-one}
 use native.Mathlib.Omega.{arith}
 use borrow.Author.Tests.{eq-eqb, ne-eqb}
 use lib.ListN.{length, getD, take, drop, replicate, length-replicate, drop-of-length-le}
 use lib.Seq.{drop-cons, take-suc, take-all, append-snoc}
-use Rattle.laws.specs.Lists.{All}
-use Rattle.answers.specs.Answers.{Answer, gives}
-use Rattle.node.specs.Nodes.{tile, arc, KBWG}
-use Rattle.graph.specs.Runs.{Graph}
-use Rattle.graph.specs.Words.{Word}
-use Rattle.lookup.specs.Steps.{Try, on, stop, lentPart}
-use Rattle.lookup.specs.Walks.{Turn, last, down, turnIn, wordFrom, wordByIndex}
+use Rattle.lookup.specs.WalkedLaws.{Tiles, by-index-walked}
 use Rattle.flat.specs.FlatLookups.{flatWord}
 use Rattle.replay.specs.Lookups.{wordFields, wordWalk, unmarked, wordReplyIn, wordReply}
 
@@ -31,39 +24,11 @@ module _ (word : List ℕ) (i : ℕ) where
       rw (drop-cons word i 0 h, ne-eqb (getD word i 0) 165 n, add-one, take-suc word i 0 h)
       (append-snoc (take i word) (getD word i 0) (unmarked (drop (suc i) word)))
 
-  pub all-put : length word ≤ i → take i word ++ unmarked (drop i word) ≡ word
+  pub no-mark-left : length word ≤ i → take i word ++ unmarked (drop i word) ≡ word
   unfolding unmarked
-  all-put h = rw (drop-of-length-le word h, take-all i word h) (append-nil word)
+  no-mark-left h = rw (drop-of-length-le word h, take-all i word h) (append-nil word)
 
 -- ---- over a walk
-abbrev Tiles : List ℕ → Type 0
-Tiles ts = All (λ (t : ℕ). t < 64) ts
-
-tile-below : (v : ℕ) → tile KBWG v < 64
-tile-below v = mod-lt (v / 1) {m = 64} (omega arith)
-
-abbrev afterTurn : ℕ → (ℕ → ℕ → Word × Answer) → Try Turn → Word × Answer
-afterTurn n rest t =
-    elim t [
-      | stop r ↦ ([], r)
-      | on u ↦ elim u [
-        | last v ↦ (tile KBWG v ∷ [], gives (suc n ∷ []))
-        | down v left ↦ (tile KBWG v ∷ rest (arc KBWG v) left .0, rest (arc KBWG v) left .1)
-      ]
-    ]
-
-turn-tiles : (n : ℕ) (rest : ℕ → ℕ → Word × Answer) → ((p idx : ℕ) → Tiles (rest p idx .0)) → (t : Try Turn) → Tiles (afterTurn n rest t .0)
-turn-tiles n rest h (stop r) = tt
-turn-tiles n rest h (on (last v)) = (tile-below v, tt)
-turn-tiles n rest h (on (down v left)) = (tile-below v, h (arc KBWG v) left)
-
-module _ (counts : List ℕ) (g : Graph) where
-  walk-tiles : (room n p idx : ℕ) → Tiles (wordFrom counts g room n p idx .0)
-  unfolding wordFrom
-  walk-tiles zero n p idx = tt
-  walk-tiles (suc room) n p idx =
-      turn-tiles n (λ q i. wordFrom counts g room (suc n) q i) (λ q i. walk-tiles room (suc n) q i) (turnIn counts (drop p g) p idx)
-
 tiles-unmarked : (ts rest : List ℕ) → Tiles ts → unmarked (ts ++ rest) ≡ ts ++ unmarked rest
 unfolding unmarked
 tiles-unmarked [] rest h = refl
@@ -81,13 +46,12 @@ put-are ts n h = tiles-unmarked ts (drop (length ts) (replicate n 165)) h ∙ ap
 
 -- a word of n 165s is lent
 lent-marks : (ws : List ℕ) (n : ℕ) → wordReplyIn ws (replicate n 165) ≡ wordFields (flatWord (wordWalk ws n .1)) ++ wordWalk ws n .0
-unfolding wordReplyIn wordWalk wordByIndex
+unfolding wordReplyIn wordWalk
 lent-marks ws n =
     let graph = drop 3 ws in
     let k = getD ws 2 0 in
-    let w = wordFrom (lentPart (drop k graph)) (lentPart (take k graph)) n 0 (getD ws 0 0) (getD ws 1 0) in
-    rw length-replicate
-    (ap (wordFields (flatWord (w .1)) ++_) (put-are (w .0) n (walk-tiles (lentPart (drop k graph)) (lentPart (take k graph)) n 0 (getD ws 0 0) (getD ws 1 0))))
+    let walk = by-index-walked (drop k graph) (take k graph) n (getD ws 0 0) (getD ws 1 0) in
+    rw length-replicate (ap (wordFields (flatWord (wordWalk ws n .1)) ++_) (put-are (wordWalk ws n .0) n (walk .tiles)))
 
 pub word-reply : (ws : List ℕ) → wordReplyIn ws (replicate 514 165) ≡ wordReply ws
 unfolding wordReply

@@ -1,8 +1,8 @@
 -- A call's reply by its number; and the verdict on a case, by how much of it could be read.
-use mathlib.Core.Path.{_≡_, refl, sym, ap, subst, _∙_}
+use mathlib.Core.Path.{_≡_, sym, ap, subst, _∙_}
 use mathlib.Core.Bool.{Bool}
 use mathlib.Core.List.{List}
-use mathlib.Core.Option.{Option, none, some}
+use mathlib.Core.Option.{Option, some}
 use Prim.Native.Nat.{ℕ, _+_, _≤_, _<_}
 use native.Mathlib.Omega.{arith}
 use borrow.Author.Tests.{ltb-true, ltb-false, lt-leb, le-leb}
@@ -12,6 +12,7 @@ use lib.ListN.{length, take, drop, replicate}
 use lib.Seq.{take-append-seam}
 use Rattle.stored.specs.Answers.{same, verdictOf}
 use Rattle.stored.specs.Inputs.{listIn, countOf, copiedTo}
+use Rattle.stored.specs.CountLaws.{not-counted, list-counted}
 use Rattle.stored.specs.declared.answers.Verdict.{Verdict}
 use Rattle.stored.specs.declared.inputs.Count.{Count}
 use Rattle.replay.specs.Counts.{countReply, CountReplied, replied}
@@ -32,38 +33,30 @@ low-call wr br call case h = no-call (rw (lt-leb 1 call h))
 pub high-call : (wr br call : ℕ) (case : List ℕ) → 1 ≤ call → 15 < call → Judged wr br call case Verdict.Malformed
 high-call wr br call case l h = no-call (rw (le-leb 1 call l, lt-leb call 15 h))
 
-not-counted : (o : Option (List ℕ)) → countOf o ≡ Count.Malformed → o ≡ none
-not-counted none e = refl
-not-counted (some l) e = absurd (let z : _≡_ {A = ℕ} 0 1 = cc in omega arith)
-
-pub counted : (o : Option (List ℕ)) (n : ℕ) → countOf o ≡ Count.Are n → (l : List ℕ) × (o ≡ some l) × (length l ≡ n)
-counted none n e = absurd (let z : _≡_ {A = ℕ} 0 1 = cc in omega arith)
-counted (some l) n e = (l, refl, cc)
-
 -- what was copied, of a lent list
 pub copied-front : (lent : List ℕ) (o : Option (List ℕ)) (l : List ℕ) (n : ℕ) (after : List ℕ)
     → o ≡ some l → length l ≡ n → after ≡ copiedTo lent o → take n after ≡ l
 copied-front lent o l n after e s c = rw (c, e, ← s) (take-append-seam l (drop (length l) lent))
 
 module _ (wr br call : ℕ) (case : List ℕ) where
-  pub no-words : countOf (listIn 4294967295 wr case) ≡ Count.Malformed → Judged wr br call case Verdict.Malformed
-  no-words e = unread (ap (afterWords br case) (not-counted (listIn 4294967295 wr case) e))
+  pub words-unread : countOf (listIn 4294967295 wr case) ≡ Count.Malformed → Judged wr br call case Verdict.Malformed
+  words-unread e = unread (ap (afterWords br case) (not-counted (listIn 4294967295 wr case) e))
 
   module _ (n : ℕ) (rest : List ℕ) (e : countOf (listIn 4294967295 wr case) ≡ Count.Are n) (er : rest ≡ drop (n + 1) case) where
-    pub no-bytes : countOf (listIn 255 br rest) ≡ Count.Malformed → Judged wr br call case Verdict.Malformed
-    no-bytes f =
-        let (ws, is, sized) = counted (listIn 4294967295 wr case) n e in
+    pub bytes-unread : countOf (listIn 255 br rest) ≡ Count.Malformed → Judged wr br call case Verdict.Malformed
+    bytes-unread f =
+        let (ws, is, sized) = list-counted (listIn 4294967295 wr case) n e in
         let at : rest ≡ drop (length ws + 1) case = er ∙ ap (λ (k : ℕ). drop (k + 1) case) (sym sized) in
         unread (ap (afterWords br case) is ∙ ap (λ (r : List ℕ). afterBytes ws r (listIn 255 br r)) (sym at)
         ∙ ap (afterBytes ws rest) (not-counted (listIn 255 br rest) f))
 
-    pub judged : (m : ℕ) (words bytes afterWords′ afterBytes′ stored part : List ℕ) {b : Bool} → countOf (listIn 255 br rest) ≡ Count.Are m
+    pub case-judged : (m : ℕ) (words bytes afterWords′ afterBytes′ stored part : List ℕ) {b : Bool} → countOf (listIn 255 br rest) ≡ Count.Are m
         → wr ≡ length words → br ≡ length bytes → afterWords′ ≡ copiedTo words (listIn 4294967295 wr case)
         → afterBytes′ ≡ copiedTo bytes (listIn 255 br rest) → stored ≡ drop (m + 1) rest → part ≡ take n afterWords′
         → Replied part (take m afterBytes′) call stored b → Judged wr br call case (verdictOf b)
-    judged m words bytes aw ab stored part {b} f ew eb cw cb es ep r =
-        let (ws, is, sized) = counted (listIn 4294967295 wr case) n e in
-        let (bs, has, counts) = counted (listIn 255 br rest) m f in
+    case-judged m words bytes aw ab stored part {b} f ew eb cw cb es ep r =
+        let (ws, is, sized) = list-counted (listIn 4294967295 wr case) n e in
+        let (bs, has, counts) = list-counted (listIn 255 br rest) m f in
         let at : rest ≡ drop (length ws + 1) case = er ∙ ap (λ (k : ℕ). drop (k + 1) case) (sym sized) in
         let front : part ≡ ws = ep ∙ copied-front words (listIn 4294967295 wr case) ws n aw is sized cw in
         let first : take m ab ≡ bs = copied-front bytes (listIn 255 br rest) bs m ab has counts cb in

@@ -26,8 +26,8 @@ repackReply ws bytes =
     repackedFields (flatRepacked (repackAnswer old new bytes)) ++ repackedBytes old new bytes
 
 -- begin's refusal, or else what finish answers and the nodes that it counts
-unfoldable pub loaded : LoadOutcome → List ℕ
-loaded r =
+unfoldable pub loadFields : LoadOutcome → List ℕ
+loadFields r =
     pick (eqb (refusalIn (r .begun)) 0)
     (finishedFields (flatFinished (r .finished)) ++ take (flatFinished (r .finished) .nodes) (r .nodes))
     (refusalIn (r .begun) ∷ [])
@@ -36,4 +36,4 @@ loaded r =
 unfoldable pub loadReply : List ℕ → List ℕ → List ℕ → List ℕ
 loadReply ws bytes lent =
     let cut = getD ws 1 0 in
-    loaded (loadPieces (length bytes) (layoutOf (getD ws 0 0)) lent (take cut bytes ∷ drop cut bytes ∷ []))
+    loadFields (loadPieces (length bytes) (layoutOf (getD ws 0 0)) lent (take cut bytes ∷ drop cut bytes ∷ []))

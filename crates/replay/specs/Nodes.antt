@@ -11,10 +11,10 @@ use Rattle.node.specs.Said.{bitLayout, packAnswer, repackNodeAnswer}
 use Rattle.flat.specs.Flat.{layoutOf}
 
 -- an answer in numbers: 0 and its values, 1 for none, or the number of the refusal and what it carries
-abbrev pub flat : Answer → List ℕ
-flat (gives vs) = 0 ∷ vs
-flat nothing = 1 ∷ []
-flat (refused n vs) = n ∷ vs
+abbrev pub answerNumbers : Answer → List ℕ
+answerNumbers (gives vs) = 0 ∷ vs
+answerNumbers nothing = 1 ∷ []
+answerNumbers (refused n vs) = n ∷ vs
 
 abbrev pub layoutAt : List ℕ → ℕ → BitLayout
 layoutAt ws i = bitLayout (layoutOf (getD ws i 0))
@@ -22,15 +22,15 @@ layoutAt ws i = bitLayout (layoutOf (getD ws i 0))
 unfoldable pub fieldsOf : BitLayout → ℕ → List ℕ
 fieldsOf y v = tile y v ∷ flag (accepts y v) ∷ flag (isEnd y v) ∷ arc y v ∷ []
 
--- LAYOUT WORD
+-- LAYOUT NODE
 unfoldable pub fieldsReply : List ℕ → List ℕ
 fieldsReply ws = fieldsOf (layoutAt ws 0) (getD ws 1 0)
 
 -- LAYOUT TILE ACCEPTS END ARC
 unfoldable pub packReply : List ℕ → List ℕ
 packReply ws =
-    flat (packAnswer (layoutAt ws 0) (values (getD ws 1 0 % 256) (not (eqb (getD ws 2 0) 0)) (not (eqb (getD ws 3 0) 0)) (getD ws 4 0)))
+    answerNumbers (packAnswer (layoutAt ws 0) (values (getD ws 1 0 % 256) (not (eqb (getD ws 2 0) 0)) (not (eqb (getD ws 3 0) 0)) (getD ws 4 0)))
 
--- FROM TO WORD
+-- FROM TO NODE
 unfoldable pub repackNodeReply : List ℕ → List ℕ
-repackNodeReply ws = flat (repackNodeAnswer (layoutAt ws 0) (layoutAt ws 1) (getD ws 2 0))
+repackNodeReply ws = answerNumbers (repackNodeAnswer (layoutAt ws 0) (layoutAt ws 1) (getD ws 2 0))

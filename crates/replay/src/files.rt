@@ -17,10 +17,16 @@ pub(crate) fn to_macondo(stored: &[u64], words: &[u32], name: &[u8]) -> bool
 {
     let mut work = [0u32; 4096];
     let mut file = [0u8; 4096];
-    macondo_in(stored, words, name, &mut work, &mut file)
+    macondo_lent(stored, words, name, &mut work, &mut file)
 }
 
-fn macondo_in(stored: &[u64], words: &[u32], name: &[u8], work: &mut [u32], file: &mut [u8]) -> bool
+fn macondo_lent(
+    stored: &[u64],
+    words: &[u32],
+    name: &[u8],
+    work: &mut [u32],
+    file: &mut [u8],
+) -> bool
     ensures { λ r. ⌜ r ≡ same (now (stored .entry)) (macondoReply (now (words .entry)) (now (name .entry)) (length (now (work .entry))) (now (file .entry))) ⌝ }
 {
     let count = word_at(words, 1) as usize;
@@ -42,10 +48,10 @@ pub(crate) fn to_lxd(stored: &[u64], words: &[u32]) -> bool
 {
     let mut work = [0u32; 4096];
     let mut file = [0u8; 4096];
-    lxd_in(stored, words, &mut work, &mut file)
+    lxd_lent(stored, words, &mut work, &mut file)
 }
 
-fn lxd_in(stored: &[u64], words: &[u32], work: &mut [u32], file: &mut [u8]) -> bool
+fn lxd_lent(stored: &[u64], words: &[u32], work: &mut [u32], file: &mut [u8]) -> bool
     ensures { λ r. ⌜ r ≡ same (now (stored .entry)) (lxdReply (now (words .entry)) (length (now (work .entry))) (now (file .entry))) ⌝ }
 {
     let labels = words_from(words, 3);

@@ -42,10 +42,10 @@ pub(crate) fn load(stored: &[u64], words: &[u32], bytes: &[u8]) -> bool
     ensures { λ r. ⌜ r ≡ same (now (stored .entry)) (loadReply (now (words .entry)) (now (bytes .entry)) (replicate 8192 0)) ⌝ }
 {
     let mut nodes = [0u32; 8192];
-    load_in(stored, words, bytes, &mut nodes)
+    load_lent(stored, words, bytes, &mut nodes)
 }
 
-fn load_in(stored: &[u64], words: &[u32], bytes: &[u8], nodes: &mut [u32]) -> bool
+fn load_lent(stored: &[u64], words: &[u32], bytes: &[u8], nodes: &mut [u32]) -> bool
     ensures { λ r. ⌜ r ≡ same (now (stored .entry)) (loadReply (now (words .entry)) (now (bytes .entry)) (now (nodes .entry))) ⌝ }
 {
     let cut = word_at(words, 1) as usize;

@@ -50,10 +50,10 @@ pub(crate) fn word_by_index(stored: &[u64], words: &[u32]) -> bool
     ensures { λ r. ⌜ r ≡ same (now (stored .entry)) (wordReply (now (words .entry))) ⌝ }
 {
     let mut word = [NO_TILE; 514];
-    word_in(stored, words, &mut word)
+    word_lent(stored, words, &mut word)
 }
 
-fn word_in(stored: &[u64], words: &[u32], word: &mut [u8]) -> bool
+fn word_lent(stored: &[u64], words: &[u32], word: &mut [u8]) -> bool
     ensures { λ r. ⌜ r ≡ same (now (stored .entry)) (wordReplyIn (now (words .entry)) (now (word .entry))) ⌝ }
 {
     let graph = words_from(words, 3);
@@ -70,11 +70,11 @@ fn word_in(stored: &[u64], words: &[u32], word: &mut [u8]) -> bool
         bit(found.found) as u64,
         found.tiles as u64,
     ];
-    same_then_bytes(stored, &numbers, put_tiles(word))
+    same_then_bytes(stored, &numbers, tiles_put(word))
 }
 
 // The tiles that were put into a word.
-fn put_tiles(word: &[u8]) -> &[u8]
+fn tiles_put(word: &[u8]) -> &[u8]
     ensures { λ r. ⌜ now r ≡ unmarked (now (word .entry)) ⌝ }
 {
     let mut i = 0;

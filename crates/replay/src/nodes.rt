@@ -1,4 +1,4 @@
-// The calls on single nodes, which the C interface has not.
+// The calls on single nodes, which the C interface does not have.
 use base::bit;
 use flat::layout_of;
 use node::Layout;
@@ -9,12 +9,13 @@ use stored::byte_at;
 use stored::same_words;
 use stored::word_at;
 ghost use mathlib.Core.Path.{_≡_};
-ghost use Rattle.node.specs.Nodes.{KWG, KBWG};
+ghost use mathlib.Core.List.{[], _∷_};
+ghost use Rattle.base.specs.Numbers.{flag};
 ghost use Rattle.node.specs.Said.{saidNode, bitLayout};
 ghost use Rattle.stored.specs.Answers.{same};
-ghost use Rattle.replay.specs.Nodes.{flat, fieldsOf, fieldsReply, packReply, repackNodeReply};
+ghost use Rattle.replay.specs.Nodes.{answerNumbers, fieldsOf, fieldsReply, packReply, repackNodeReply};
 
-// LAYOUT WORD.
+// LAYOUT NODE.
 pub(crate) fn node_fields(stored: &[u64], words: &[u32]) -> bool
     ensures { λ r. ⌜ r ≡ same (now (stored .entry)) (fieldsReply (now (words .entry))) ⌝ }
 {
@@ -26,37 +27,33 @@ fn same_fields(stored: &[u64], layout: Layout, word: u32) -> bool
     ensures { λ r. ⌜ r ≡ same (now (stored .entry)) (fieldsOf (bitLayout layout) word) ⌝ }
 {
     match layout {
-        Layout::Kwg => same_kwg(stored, Node22(word)),
-        Layout::Kbwg => same_kbwg(stored, Node24(word)),
+        Layout::Kwg => {
+            let node = Node22(word);
+            same_node(
+                stored,
+                node.tile(),
+                node.accepts(),
+                node.is_end(),
+                node.arc_index(),
+            )
+        }
+        Layout::Kbwg => {
+            let node = Node24(word);
+            same_node(
+                stored,
+                node.tile(),
+                node.accepts(),
+                node.is_end(),
+                node.arc_index(),
+            )
+        }
     }
 }
 
-fn same_kwg(stored: &[u64], node: Node22) -> bool
-    ensures { λ r. ⌜ r ≡ same (now (stored .entry)) (fieldsOf KWG (node .0)) ⌝ }
+fn same_node(stored: &[u64], tile: u8, accepts: bool, is_end: bool, arc: u32) -> bool
+    ensures { λ r. ⌜ r ≡ same (now (stored .entry)) (tile ∷ flag accepts ∷ flag «is_end» ∷ arc ∷ []) ⌝ }
 {
-    same_words(
-        stored,
-        &[
-            node.tile() as u32,
-            bit(node.accepts()),
-            bit(node.is_end()),
-            node.arc_index(),
-        ],
-    )
-}
-
-fn same_kbwg(stored: &[u64], node: Node24) -> bool
-    ensures { λ r. ⌜ r ≡ same (now (stored .entry)) (fieldsOf KBWG (node .0)) ⌝ }
-{
-    same_words(
-        stored,
-        &[
-            node.tile() as u32,
-            bit(node.accepts()),
-            bit(node.is_end()),
-            node.arc_index(),
-        ],
-    )
+    same_words(stored, &[tile as u32, bit(accepts), bit(is_end), arc])
 }
 
 // LAYOUT TILE ACCEPTS END ARC.
@@ -78,7 +75,7 @@ pub(crate) fn pack(stored: &[u64], words: &[u32]) -> bool
     )
 }
 
-// FROM TO WORD.
+// FROM TO NODE.
 pub(crate) fn repack_node(stored: &[u64], words: &[u32]) -> bool
     ensures { λ r. ⌜ r ≡ same (now (stored .entry)) (repackNodeReply (now (words .entry))) ⌝ }
 {
@@ -88,7 +85,7 @@ pub(crate) fn repack_node(stored: &[u64], words: &[u32]) -> bool
 }
 
 fn same_packed(stored: &[u64], packed: Packed) -> bool
-    ensures { λ r. ⌜ r ≡ same (now (stored .entry)) (flat (saidNode packed)) ⌝ }
+    ensures { λ r. ⌜ r ≡ same (now (stored .entry)) (answerNumbers (saidNode packed)) ⌝ }
 {
     match packed {
         Packed::Node(node) => same_words(stored, &[0, node]),

@@ -12,16 +12,16 @@ ghost use lib.ListN.{replicate};
 ghost use Rattle.stored.specs.Answers.{same};
 ghost use Rattle.replay.specs.Sets.{bitsReply, acceptsReply, crossReply};
 
-// The nodes.
+// The words of the case are the nodes.
 pub(crate) fn letter_bits(stored: &[u64], nodes: &[u32]) -> bool
     ensures { λ r. ⌜ r ≡ same (now (stored .entry)) (bitsReply (now (nodes .entry)) (replicate 512 0) (replicate 512 0)) ⌝ }
 {
     let mut all = [0u64; 512];
     let mut accepting = [0u64; 512];
-    letter_bits_in(stored, nodes, &mut all, &mut accepting)
+    letter_bits_lent(stored, nodes, &mut all, &mut accepting)
 }
 
-fn letter_bits_in(stored: &[u64], nodes: &[u32], all: &mut [u64], accepting: &mut [u64]) -> bool
+fn letter_bits_lent(stored: &[u64], nodes: &[u32], all: &mut [u64], accepting: &mut [u64]) -> bool
     ensures { λ r. ⌜ r ≡ same (now (stored .entry)) (bitsReply (now (nodes .entry)) (now (all .entry)) (now (accepting .entry))) ⌝ }
 {
     let refusal = machirsun::machirsun_letter_bits(nodes, all, accepting);

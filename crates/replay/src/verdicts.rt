@@ -24,10 +24,10 @@ pub fn judge(call: u64, case: &[u64]) -> Verdict
 {
     let mut words = [0u32; ROOM];
     let mut bytes = [0u8; ROOM];
-    judge_in(call, case, &mut words, &mut bytes)
+    judge_lent(call, case, &mut words, &mut bytes)
 }
 
-fn judge_in(call: u64, case: &[u64], words: &mut [u32], bytes: &mut [u8]) -> Verdict
+fn judge_lent(call: u64, case: &[u64], words: &mut [u32], bytes: &mut [u8]) -> Verdict
     ensures { λ r. ⌜ Judged (length (now (words .entry))) (length (now (bytes .entry))) call (now (case .entry)) r ⌝ }
 {
     if call < 1 {

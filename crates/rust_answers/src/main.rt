@@ -28,8 +28,8 @@ fn main() {
     }
 }
 
-// A loop has to end, and nothing says that the input does. So it counts its turns down, from a
-// number that no run uses up.
+// Every loop has to be proved to end, and an input may have any length: the loop counts down from a
+// number of reads that no run makes.
 fn read_all(numbers: &mut [u64]) -> Progress {
     let mut progress = Progress {
         line: stored::empty(),
@@ -48,14 +48,14 @@ fn read_some(progress: Progress, numbers: &mut [u64]) -> Progress {
     let mut buffer = io::large_buffer();
     let got = libc::read(libc::STDIN_FILENO, &mut buffer);
     if got <= 0 {
-        return stopped(progress, got < 0);
+        return end_of_input(progress, got < 0);
     }
     let count = io::count(got, &buffer);
     add_bytes(progress, &buffer[..count], numbers)
 }
 
 // A read that fails is no end of the input: it must show in the output.
-fn stopped(mut progress: Progress, failed: bool) -> Progress {
+fn end_of_input(mut progress: Progress, failed: bool) -> Progress {
     if failed {
         io::write_all(libc::STDOUT_FILENO, b"the input cannot be read\n");
     }
@@ -88,16 +88,16 @@ fn end_line(line: Line, tally: CaseTally, numbers: &mut [u64]) -> CaseTally {
     match stored::end(line, numbers) {
         Ended::Comment => tally.next_line(),
         Ended::Malformed => tally.malformed().next_line(),
-        Ended::Case(count) => judged(tally, numbers, count).next_line(),
+        Ended::Case(count) => judge_line(tally, numbers, count).next_line(),
     }
 }
 
 // The first of a line's numbers is the call's.
-fn judged(tally: CaseTally, numbers: &[u64], count: usize) -> CaseTally
+fn judge_line(tally: CaseTally, numbers: &[u64], count: usize) -> CaseTally
     requires { ⌜ (1 ≤ count) × (count ≤ length (now numbers)) ⌝ }
 {
     let call = numbers[0];
-    tally.judged(call, replay::judge(call, &numbers[1..count]))
+    tally.with_verdict(call, replay::judge(call, &numbers[1..count]))
 }
 
 fn print(tally: CaseTally) {

@@ -5,7 +5,7 @@ use native.Mathlib.Omega.{arith}
 use mathlib.Core.Path.{_≡_, refl, sym, ap, _∙_}
 use mathlib.Core.Bool.{Bool, true, false, _&&_}
 use mathlib.Core.List.{List, [], _∷_, _++_}
-use mathlib.Core.Option.{Option, none, some}
+use mathlib.Core.Option.{none, some}
 use borrow.Author.Tests.{leb-true, le-leb, lt-leb}
 use lib.Dec.{leb}
 use lib.ListN.{length, getD, set, take, drop, length-drop, length-set, drop-of-length-le}
@@ -13,6 +13,7 @@ use lib.Seq.{sets, drop-cons, length-take-le}
 use Rattle.laws.specs.ListWrites.{sets-front, sets-done}
 use Rattle.laws.specs.Cases.{and-left, and-right}
 use Rattle.stored.specs.Inputs.{pick, allWithin, listIn, countOf, copiedTo}
+use Rattle.stored.specs.CountLaws.{not-counted}
 use Rattle.stored.specs.declared.inputs.Count.{Count}
 
 module _ (most : ℕ) where
@@ -23,17 +24,17 @@ module _ (most : ℕ) where
   within-at (n ∷ ns) (suc i) h l = within-at ns i (and-right (leb n most) (allWithin most ns) h) (omega arith)
 
   module _ (ns : List ℕ) (i : ℕ) where
-    pub above : i < length ns → most < getD ns i 0 → false ≡ allWithin most (drop i ns)
+    pub over-limit : i < length ns → most < getD ns i 0 → false ≡ allWithin most (drop i ns)
     unfolding allWithin
-    above l h = rw (drop-cons ns i 0 l, lt-leb (getD ns i 0) most h)
+    over-limit l h = rw (drop-cons ns i 0 l, lt-leb (getD ns i 0) most h)
 
-    pub below : i < length ns → getD ns i 0 ≤ most → allWithin most (drop (i + 1) ns) ≡ allWithin most (drop i ns)
+    pub within-limit : i < length ns → getD ns i 0 ≤ most → allWithin most (drop (i + 1) ns) ≡ allWithin most (drop i ns)
     unfolding allWithin
-    below l h = rw (drop-cons ns i 0 l, le-leb (getD ns i 0) most h, add-one)
+    within-limit l h = rw (drop-cons ns i 0 l, le-leb (getD ns i 0) most h, add-one)
 
-    pub no-more : length ns ≤ i → true ≡ allWithin most (drop i ns)
+    pub all-looked-at : length ns ≤ i → true ≡ allWithin most (drop i ns)
     unfolding allWithin
-    no-more h = rw (drop-of-length-le ns h)
+    all-looked-at h = rw (drop-of-length-le ns h)
 
 -- ---- stores one after the other: what is left to store makes the same list as all of them
 module _ (numbers lent₀ : List ℕ) where
@@ -91,19 +92,19 @@ module _ (most room : ℕ) (case : List ℕ) (h : length case ≡ 0 → ⊥) whe
           (ap Count.Are (sym (length-take-le (first case) (drop 1 case) all-there)))
 
 -- what is known of it where it has n numbers
-record Listed (most room : ℕ) (case : List ℕ) (n : ℕ) : Type 0 where
+record ListRead (most room : ℕ) (case : List ℕ) (n : ℕ) : Type 0 where
   is : listIn most room case ≡ some (take n (drop 1 case))
   sized : length (take n (drop 1 case)) ≡ n
   fits : n ≤ room
   within : allWithin most (take n (drop 1 case)) ≡ true
 
-listed : (most room : ℕ) (case : List ℕ) (n : ℕ) → countOf (listIn most room case) ≡ Count.Are n → Listed most room case n
+list-read : (most room : ℕ) (case : List ℕ) (n : ℕ) → countOf (listIn most room case) ≡ Count.Are n → ListRead most room case n
 unfolding listIn
-listed most room [] n e = absurd (let z : _≡_ {A = ℕ} 0 1 = cc in omega arith)
-listed most room (x ∷ xs) n e = chosen (leb x (length xs)) (leb x room) (allWithin most (take x xs)) refl refl refl e
+list-read most room [] n e = absurd (let z : _≡_ {A = ℕ} 0 1 = cc in omega arith)
+list-read most room (x ∷ xs) n e = chosen (leb x (length xs)) (leb x room) (allWithin most (take x xs)) refl refl refl e
   where
     chosen : (a b d : Bool) → leb x (length xs) ≡ a → leb x room ≡ b → allWithin most (take x xs) ≡ d
-        → countOf (pick (a && (b && d)) (some (take x xs)) none) ≡ Count.Are n → Listed most room (x ∷ xs) n
+        → countOf (pick (a && (b && d)) (some (take x xs)) none) ≡ Count.Are n → ListRead most room (x ∷ xs) n
     chosen true true true p q r f =
         let l : length (take x xs) ≡ x = length-take-le x xs (leb-true x (length xs) p) in
         let z : length (take x xs) ≡ n = cc in
@@ -120,18 +121,14 @@ listed most room (x ∷ xs) n e = chosen (leb x (length xs)) (leb x room) (allWi
     chosen false b d p q r f = absurd (let z : _≡_ {A = ℕ} 0 1 = cc in omega arith)
 
 -- ---- the list read, copied to the front of a lent one
-unlisted : (lent : List ℕ) (o : Option (List ℕ)) → countOf o ≡ Count.Malformed → lent ≡ copiedTo lent o
-unlisted lent none e = refl
-unlisted lent (some l) e = absurd (let z : _≡_ {A = ℕ} 0 1 = cc in omega arith)
-
 module _ (most : ℕ) (case lent : List ℕ) {count : Count} (c : count ≡ countOf (listIn most (length lent) case)) where
   pub not-copied : count ≡ Count.Malformed
       → (Count.Malformed ≡ countOf (listIn most (length lent) case)) × (lent ≡ copiedTo lent (listIn most (length lent) case))
-  not-copied m = (sym m ∙ c, unlisted lent (listIn most (length lent) case) (sym c ∙ m))
+  not-copied m = (sym m ∙ c, ap (copiedTo lent) (sym (not-counted (listIn most (length lent) case) (sym c ∙ m))))
 
   module _ {n : ℕ} (are : count ≡ Count.Are n) {xs : List ℕ} (e : xs ≡ take n (drop 1 case)) where
-    known : Listed most (length lent) case n
-    known = listed most (length lent) case n (sym c ∙ are)
+    known : ListRead most (length lent) case n
+    known = list-read most (length lent) case n (sym c ∙ are)
 
     pub can-copy : (length xs ≤ length lent) × (allWithin most xs ≡ true)
     can-copy = rw e (rw (known .sized) (known .fits), known .within)

@@ -2,14 +2,24 @@
 use Prim.Native.Nat.{ℕ, _+_, _≤_, _<_}
 use native.Mathlib.Numerals.{add-one}
 use native.Mathlib.Omega.{arith}
-use mathlib.Core.Path.{_≡_, sym, ap, _∙_}
-use mathlib.Core.Bool.{true, false}
-use mathlib.Core.List.{List}
-use borrow.Author.Tests.{eq-eqb, ne-eqb}
+use mathlib.Core.Path.{_≡_, refl, sym, ap, _∙_}
+use mathlib.Core.Bool.{true, false, true≢false}
+use mathlib.Core.List.{List, [], _∷_}
+use borrow.Author.Tests.{eqb-true, eq-eqb, ne-eqb}
+use lib.Dec.{eqb}
 use lib.ListN.{length, getD, drop, drop-of-length-le}
 use lib.Seq.{drop-cons}
-use Rattle.laws.specs.Cases.{split}
-use Rattle.stored.specs.Answers.{same, same-equal}
+use Rattle.laws.specs.Cases.{split, and-left, and-right}
+use Rattle.stored.specs.Answers.{same}
+
+-- only equal lists are the same
+same-equal : (xs ys : List ℕ) → same xs ys ≡ true → xs ≡ ys
+unfolding same
+same-equal [] [] h = refl
+same-equal [] (y ∷ ys) h = absurd (true≢false (sym h))
+same-equal (x ∷ xs) [] h = absurd (true≢false (sym h))
+same-equal (x ∷ xs) (y ∷ ys) h =
+    rw (eqb-true x y (and-left (eqb x y) (same xs ys) h), same-equal xs ys (and-right (eqb x y) (same xs ys) h))
 
 module _ (left right : List ℕ) where
   pub other-length : (length left ≡ length right → ⊥) → false ≡ same left right

@@ -1,12 +1,10 @@
 -- When a stored answer is the one given: number by number, with none missing and none left over.
-use mathlib.Core.Path.{_≡_, refl, sym}
-use mathlib.Core.Bool.{Bool, true, false, _&&_, true≢false}
+use mathlib.Core.Path.{_≡_, refl}
+use mathlib.Core.Bool.{Bool, true, false, _&&_}
 use mathlib.Core.List.{List, [], _∷_, _++_}
 use Prim.Native.Nat.{ℕ}
-use borrow.Author.Tests.{eqb-true, eq-eqb}
 use lib.Dec.{eqb}
 use lib.ListN.{length, take, drop}
-use Rattle.laws.specs.Cases.{and-left, and-right}
 use Rattle.stored.specs.declared.answers.Verdict.{Verdict}
 
 unfoldable pub same : List ℕ → List ℕ → Bool
@@ -18,20 +16,6 @@ same (x ∷ xs) (y ∷ ys) = eqb x y && same xs ys
 abbrev pub verdictOf : Bool → Verdict
 verdictOf true = Verdict.Same
 verdictOf false = Verdict.Different
-
--- it says so of equal lists and of no others
-pub same-equal : (xs ys : List ℕ) → same xs ys ≡ true → xs ≡ ys
-unfolding same
-same-equal [] [] h = refl
-same-equal [] (y ∷ ys) h = absurd (true≢false (sym h))
-same-equal (x ∷ xs) [] h = absurd (true≢false (sym h))
-same-equal (x ∷ xs) (y ∷ ys) h =
-    rw (eqb-true x y (and-left (eqb x y) (same xs ys) h), same-equal xs ys (and-right (eqb x y) (same xs ys) h))
-
-pub equal-same : (xs : List ℕ) → same xs xs ≡ true
-unfolding same
-equal-same [] = refl
-equal-same (x ∷ xs) = rw (eq-eqb x x refl, equal-same xs)
 
 after : (b c d e : Bool) → c ≡ d && e → b && c ≡ (b && d) && e
 after true c d e h = h

@@ -8,7 +8,7 @@ use borrow.Author.Tests.{ltb-true}
 use lib.ListN.{length, set, length-set}
 use lib.Dec.{ltb}
 use Rattle.stored.specs.Inputs.{pick}
-use Rattle.stored.specs.Lines.{ended, lineCompleted}
+use Rattle.stored.specs.Lines.{lineEnded, lineCompleted}
 use Rattle.stored.specs.declared.lines.Line.{Line}
 use Rattle.stored.specs.declared.lines.Part.{Part}
 use Rattle.stored.specs.declared.lines.Part.the-variants.{Start, Number, Blank, Spoilt}
@@ -21,7 +21,7 @@ FillsCase (Case count) numbers = (1 ≤ count) × (count ≤ length numbers)
 FillsCase Malformed numbers = Unit {0}
 
 module _ (count : ℕ) (numbers : List ℕ) where
-  whole-fills : (part : Part) → FillsCase (ended (length numbers) count part) (lineCompleted count part numbers)
+  whole-fills : (part : Part) → FillsCase (lineEnded (length numbers) count part) (lineCompleted count part numbers)
   whole-fills Start = tt
   whole-fills (Number value) = kept (ltb count (length numbers)) (ltb-true _ _)
     where
@@ -33,6 +33,6 @@ module _ (count : ℕ) (numbers : List ℕ) where
   whole-fills Spoilt = tt
 
 pub ended-fills :
-    (line : Line) (before : List ℕ) {r : Ended} {after : List ℕ} → r ≡ ended (length before) (line .count) (line .part) →
+    (line : Line) (before : List ℕ) {r : Ended} {after : List ℕ} → r ≡ lineEnded (length before) (line .count) (line .part) →
     after ≡ lineCompleted (line .count) (line .part) before → FillsCase r after
 ended-fills line before e f = rw (e, f) (whole-fills (line .count) before (line .part))

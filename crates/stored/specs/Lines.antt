@@ -51,12 +51,12 @@ withByte room count Part.Comment byte = lineOf count Part.Comment
 withByte room count Spoilt byte = lineOf count Spoilt
 
 -- what the whole line is: a case ends in a number that there is room for
-abbrev pub ended : ℕ → ℕ → Part → Ended
-ended room count Start = Malformed
-ended room count (Number value) = pick (ltb count room) (Case (count + 1)) Malformed
-ended room count Blank = Malformed
-ended room count Part.Comment = Ended.Comment
-ended room count Spoilt = Malformed
+abbrev pub lineEnded : ℕ → ℕ → Part → Ended
+lineEnded room count Start = Malformed
+lineEnded room count (Number value) = pick (ltb count room) (Case (count + 1)) Malformed
+lineEnded room count Blank = Malformed
+lineEnded room count Part.Comment = Ended.Comment
+lineEnded room count Spoilt = Malformed
 
 -- the room's numbers with the one that the line ends in, where it ends in one and there is room for it, at its place
 abbrev pub lineCompleted : ℕ → Part → List ℕ → List ℕ

@@ -39,7 +39,7 @@ pub fn same_numbers(left: &[u64], right: &[u64]) -> bool
     true
 }
 
-// The same of words, and of bytes.
+// The same for words and for bytes.
 pub fn same_words(left: &[u64], right: &[u32]) -> bool
     ensures { λ r. ⌜ r ≡ same (now (left .entry)) (now (right .entry)) ⌝ }
 {
@@ -56,7 +56,7 @@ pub fn same_words(left: &[u64], right: &[u32]) -> bool
     true
 }
 
-pub fn same_bytes(left: &[u64], right: &[u8]) -> bool
+fn same_bytes(left: &[u64], right: &[u8]) -> bool
     ensures { λ r. ⌜ r ≡ same (now (left .entry)) (now (right .entry)) ⌝ }
 {
     if left.len() != right.len() {

@@ -31,7 +31,7 @@ pub fn words_in(case: &[u64], words: &mut [u32]) -> Count
     Count::Are(count)
 }
 
-// The same of bytes.
+// The same for bytes.
 pub fn bytes_in(case: &[u64], bytes: &mut [u8]) -> Count
     ensures count { λ r. ⌜ r ≡ countOf (listIn 255 (length (now (bytes .entry))) (now (case .entry))) ⌝ }
     ensures copied { λ _. ⌜ now (bytes .exit) ≡ copiedTo (now (bytes .entry)) (listIn 255 (length (now (bytes .entry))) (now (case .entry))) ⌝ }

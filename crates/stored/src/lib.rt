@@ -7,7 +7,6 @@ mod parts;
 mod tally;
 
 pub use answers::Verdict;
-pub use answers::same_bytes;
 pub use answers::same_numbers;
 pub use answers::same_then_bytes;
 pub use answers::same_then_numbers;

@@ -1,9 +1,9 @@
-// A line of the input, read byte by byte: unsigned decimal numbers parted by single blanks, or a
+// A line of the input, read byte by byte: unsigned decimal numbers separated by single spaces, or a
 // comment. The bytes of a line may come in any number of pieces.
 ghost use mathlib.Core.Path.{_≡_};
 ghost use lib.ListN.{length, set};
 ghost use lib.Dec.{ltb};
-ghost use Rattle.stored.specs.Lines.{emptyLine, isStart, firstPart, withDigit, withByte, ended, lineCompleted, completedBy};
+ghost use Rattle.stored.specs.Lines.{emptyLine, isStart, firstPart, withDigit, withByte, lineEnded, lineCompleted, completedBy};
 
 // The most numbers that a line may hold.
 pub const ROOM: usize = 32768;
@@ -64,7 +64,7 @@ pub fn add_byte(line: Line, byte: u8, numbers: &mut [u64]) -> Line
 
 // A line that ends in a blank, or holds nothing at all, is no case.
 pub fn end(line: Line, numbers: &mut [u64]) -> Ended
-    ensures { λ r. ⌜ r ≡ ended (length (now (numbers .entry))) (line .count) (line .part) ⌝ }
+    ensures { λ r. ⌜ r ≡ lineEnded (length (now (numbers .entry))) (line .count) (line .part) ⌝ }
     ensures { λ _. ⌜ now (numbers .exit) ≡ lineCompleted (line .count) (line .part) (now (numbers .entry)) ⌝ }
 {
     let count = line.count;

@@ -3,7 +3,7 @@ use crate::answers::Verdict;
 use libc::STDOUT_FILENO;
 ghost use mathlib.Core.Path.{_≡_};
 ghost use Prim.Native.Nat.{_<_};
-ghost use Rattle.stored.specs.CaseTally.{oneCaseMore, newTally, withLine, withMalformed, withDifference, withCase, judgedAs};
+ghost use Rattle.stored.specs.CaseTally.{oneMoreCapped, newTally, withLine, withMalformed, withDifference, withCase, withVerdict};
 
 // One more than the highest number that a call may have.
 pub const CALLS: usize = 32;
@@ -45,8 +45,8 @@ impl CaseTally {
     }
 
     // A call that has no place in the tally makes its line malformed, so that no case goes uncounted.
-    pub fn judged(self, call: u64, verdict: Verdict) -> CaseTally
-        ensures { λ r. ⌜ r ≡ judgedAs call verdict self ⌝ }
+    pub fn with_verdict(self, call: u64, verdict: Verdict) -> CaseTally
+        ensures { λ r. ⌜ r ≡ withVerdict call verdict self ⌝ }
     {
         let call = call as usize;
         if CALLS <= call {
@@ -97,7 +97,7 @@ fn print_number(before: &[u8], number: u64, after: &[u8]) {
 
 // A count that stands at the highest number stays there: it never wraps to none.
 fn one_more(count: u64) -> u64
-    ensures { λ r. ⌜ r ≡ oneCaseMore count ⌝ }
+    ensures { λ r. ⌜ r ≡ oneMoreCapped count ⌝ }
 {
     if count < u64::MAX { count + 1 } else { count }
 }

@@ -17,14 +17,14 @@ write-all-requires c κs = search needs
 loop-holds : tie.Need-loop-holds Inv-loop μ-loop
 loop-holds c = search needs
 
-mul-print-number : tie.Need-mul-print-number Inv-loop μ-loop
-mul-print-number c = search needs
+mul-print-hex : tie.Need-mul-print-hex Inv-loop μ-loop
+mul-print-hex c = search needs
 
-shared-slice-read-print-number : tie.Need-shared-slice-read-print-number Inv-loop μ-loop
-shared-slice-read-print-number c = search needs
+shared-slice-read-print-hex : tie.Need-shared-slice-read-print-hex Inv-loop μ-loop
+shared-slice-read-print-hex c = search needs
 
-print-number-requires : tie.Need-print-number-requires Inv-loop μ-loop
-print-number-requires c κs = search needs
+print-hex-requires : tie.Need-print-hex-requires Inv-loop μ-loop
+print-hex-requires c κs = search needs
 
 add-i : tie.Need-add-i Inv-loop μ-loop
 add-i c = search needs
@@ -52,9 +52,9 @@ print-line-spec =
     μ-loop
     write-all-requires
     loop-holds
-    mul-print-number
-    shared-slice-read-print-number
-    print-number-requires
+    mul-print-hex
+    shared-slice-read-print-hex
+    print-hex-requires
     add-i
     loop-less
     loop-again

@@ -25,8 +25,8 @@ next-line-requires-2 c κs = search needs
 enum-known-count : tie.Need-enum-known-count
 enum-known-count c = search needs
 
-judged-requires : tie.Need-judged-requires
-judged-requires c κs =
+judge-line-requires : tie.Need-judge-line-requires
+judge-line-requires c κs =
     let told = c .before .before in
     let whole = told .before .before .before .before in
     let a = whole .before .before .before .args in
@@ -64,7 +64,7 @@ end-line-spec =
     malformed-requires
     next-line-requires-2
     enum-known-count
-    judged-requires
+    judge-line-requires
     next-line-requires-3
     same-length
     returns

@@ -1,4 +1,4 @@
--- Each block lies within its buffer, and fewer lines are left after it, so that the loop ends.
+-- `print_list` is safe and ends: each block lies within its buffer, and fewer lines are left after it.
 use borrow.Author.Needs.{needs}
 use mathlib.Core.Path.{sym}
 use mathlib.Core.List.{List}

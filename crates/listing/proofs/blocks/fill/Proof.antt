@@ -1,9 +1,10 @@
--- The loop's invariant: the lines that are left, put where they go, give the block.
+-- `blocks::fill` meets its contract: the lines that are left, put where they go, give the block.
 use borrow.Author.Needs.{needs}
 use native.Mathlib.Omega.{arith}
-use Prim.Native.Nat.{_-_}
+use Prim.Native.Nat.{ℕ, _-_}
 use borrow.Author.Tests.{not-true, not-false}
-use Rattle.listing.proofs.BlocksLaws.{BlockFilling, fill-start, fill-next, fill-room, fill-last, fill-done}
+use Rattle.listing.proofs.BlocksLaws.{BlockFilling, block-filling-start, fill-next, fill-room, fill-last, fill-done}
+use Rattle.listing.specs.Blocks.{NumberWalk}
 use Rattle.listing.specs.Printing.{walkFrom}
 use Rattle.listing.proofs.blocks.fill.Statement.{statement}
 use Rattle.listing.proofs.blocks.fill.Tie as tie
@@ -17,21 +18,25 @@ abbrev μ-loop : tie.MeasureT-loop
 block-end-requires : tie.Need-block-end-requires Inv-loop μ-loop
 block-end-requires c κs = search needs
 
-loop-holds : tie.Need-loop-holds Inv-loop μ-loop
-loop-holds c = let a = c .before .before .before .before .args in
-    let walk = walkFrom (a .nodes .now) (a .counts .now) (a .start) in
-    let e = c .block-end in
-    fill-start walk (a .next) (e .result) (a .out .now) (omega (arith, e .ensures))
+-- how many words there are, and the walk to them
+module _ (b : tie.After-block-end Inv-loop μ-loop) where
+  abbrev start : tie.Start Inv-loop μ-loop
+  start = b .before .before .before .before
 
-abbrev start : tie.At-loop Inv-loop μ-loop → tie.Start Inv-loop μ-loop
-start s = s .before .before .before .before .before
+  abbrev count : ℕ
+  count = start .args .count
+
+  abbrev walk : NumberWalk
+  walk = walkFrom (start .args .nodes .now) (start .args .counts .now) (start .args .start)
+
+loop-holds : tie.Need-loop-holds Inv-loop μ-loop
+loop-holds c = block-filling-start (walk c) (start c .args .next) (c .block-end .result) (start c .args .out .now) (omega (arith, c .block-end .ensures))
 
 put-word-requires : tie.Need-put-word-requires Inv-loop μ-loop
 put-word-requires c κs =
     let s = c .before .before in
-    let a = start s .args in
-    let walk = walkFrom (a .nodes .now) (a .counts .now) (a .start) in
-    fill-room walk (s .loop .inv) (a .count) (s .before .block-end .ensures) (c .before .loop-test .taken)
+    let b = s .before in
+    fill-room (walk b) (s .loop .inv) (count b) (b .block-end .ensures) (c .before .loop-test .taken)
 
 same-length : tie.Need-same-length Inv-loop μ-loop
 same-length c = search needs
@@ -41,9 +46,8 @@ returns c =
     let put = c .before .before .before .before in
     let turn = put .before .before in
     let s = turn .before in
-    let a = start s .args in
-    let walk = walkFrom (a .nodes .now) (a .counts .now) (a .start) in
-    fill-last walk (s .loop .inv) (a .count) (s .before .block-end .ensures) (turn .loop-test .taken) (put .put-word .ensures) (not-true _ (c .if1 .taken))
+    let b = s .before in
+    fill-last (walk b) (s .loop .inv) (count b) (b .block-end .ensures) (turn .loop-test .taken) (put .put-word .ensures) (not-true _ (c .if1 .taken))
 
 add-number : tie.Need-add-number Inv-loop μ-loop
 add-number c = search needs
@@ -56,9 +60,7 @@ loop-again c =
     let put = c .before .before .before .before in
     let turn = put .before .before in
     let s = turn .before in
-    let a = start s .args in
-    let walk = walkFrom (a .nodes .now) (a .counts .now) (a .start) in
-    fill-next walk (s .loop .inv) (turn .loop-test .taken) (put .put-word .ensures) (not-false _ (c .if1 .left))
+    fill-next (walk (s .before)) (s .loop .inv) (turn .loop-test .taken) (put .put-word .ensures) (not-false _ (c .if1 .left))
 
 same-length-2 : tie.Need-same-length-2 Inv-loop μ-loop
 same-length-2 c = search needs
@@ -66,9 +68,8 @@ same-length-2 c = search needs
 returns-2 : tie.Need-returns-2 Inv-loop μ-loop
 returns-2 c =
     let s = c .before in
-    let a = start s .args in
-    let walk = walkFrom (a .nodes .now) (a .counts .now) (a .start) in
-    fill-done walk (s .loop .inv) (a .count) (s .before .block-end .ensures) (c .loop-test .left)
+    let b = s .before in
+    fill-done (walk b) (s .loop .inv) (count b) (b .block-end .ensures) (c .loop-test .left)
 
 pub fill-spec : {M : Type 1} → statement M
 fill-spec =

@@ -1,4 +1,5 @@
--- A refusal's line and a block of words both have room, and each case of what is left makes the block that its definition names.
+-- `blocks::next_block` meets its contract: a refusal's line and a block of words both have room, and each case of what is left makes the
+-- block that its definition names.
 use native.Mathlib.Omega.{arith}
 use mathlib.Core.Path.{refl}
 use Rattle.listing.proofs.LinesLaws.{refusal-length}

@@ -1,4 +1,4 @@
--- Each answer of the walk puts its line, and the longest has room.
+-- `blocks::put_word` meets its contract: each answer of the walk puts its line, and the longest has room.
 use native.Mathlib.Omega.{arith}
 use mathlib.Core.Path.{sym, ap}
 use mathlib.Core.List.{List}
@@ -7,10 +7,10 @@ use lib.Seq.{length-take-le}
 use Rattle.answers.specs.Answers.{Answer}
 use Rattle.graph.specs.Words.{Word}
 use Rattle.lookup.specs.Said.{saidWord}
+use Rattle.lookup.specs.WalkedLaws.{WalkLeaves, by-index-walked}
 use Rattle.listing.specs.Wordlist.{mostTiles}
 use Rattle.listing.specs.Printing.{walkFrom}
 use Rattle.listing.proofs.LinesLaws.{refusal-length}
-use Rattle.listing.proofs.WalkedLaws.{WalkLeaves, by-index-walked}
 use Rattle.listing.proofs.WordLaws.{Tiled, tiled, WordIn, word-in, line-room, word-line, word-refused, word-none}
 use borrow.Author.Needs.{needs}
 use Rattle.listing.proofs.blocks.put_word.Statement.{statement}

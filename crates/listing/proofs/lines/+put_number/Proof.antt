@@ -1,4 +1,4 @@
--- A number's digits: one, or those of its tenth and one more; the number falls.
+-- `lines::put_number` meets its contract: the digits are one, or those of the number's tenth and one more; the number falls.
 use borrow.Author.Needs.{needs}
 use native.Mathlib.Omega.{arith}
 use mathlib.Core.Path.{ap}

@@ -1,4 +1,4 @@
--- A line is its four parts, put one after the other.
+-- `lines::put_line` meets its contract: a line is its four parts, put one after the other.
 use native.Mathlib.Omega.{arith}
 use Rattle.listing.proofs.LinesLaws.{line-parts}
 use Rattle.listing.proofs.PutLaws.{put-size, put-parts}

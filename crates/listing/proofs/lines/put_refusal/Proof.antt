@@ -1,4 +1,4 @@
--- A refusal's line is its three parts, put one after the other.
+-- `lines::put_refusal` meets its contract: a refusal's line is its three parts, put one after the other.
 use native.Mathlib.Omega.{arith}
 use mathlib.Core.Path.{refl, ap}
 use Prim.Native.Nat.{_+_}

@@ -1,4 +1,5 @@
--- The first tile, and then each other after a space. The loop's invariant: what is left to put, put where it goes, gives the whole.
+-- `lines::put_tiles` meets its contract: the first tile, and then each other after a space; what is left to put, put where it goes, gives
+-- the whole.
 use borrow.Author.Needs.{needs}
 use native.Mathlib.Omega.{arith}
 use mathlib.Core.Path.{refl}

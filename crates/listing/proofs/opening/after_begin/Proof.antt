@@ -1,4 +1,4 @@
--- Each answer of finish has its number.
+-- `opening::after_begin` meets its contract: each answer of finish has its number.
 use native.Mathlib.Omega.{arith}
 use mathlib.Core.Path.{ap}
 use Rattle.load.specs.Said.{saidFinish}

@@ -1,5 +1,5 @@
--- The start is node 0's arc; where that is 0 there are no words.
-use Rattle.listing.proofs.OpeningLaws.{no-words, some-words}
+-- `opening::at_start` meets its contract: the start is node 0's arc; where that is 0 there are no words.
+use Rattle.listing.proofs.OpeningLaws.{start-none, start-some}
 use native.Mathlib.Omega.{arith}
 use borrow.Author.Needs.{needs}
 use Rattle.listing.proofs.opening.at_start.Statement.{statement}
@@ -13,7 +13,7 @@ arc-index-requires c κs = search needs
 
 returns : tie.Need-returns
 returns c = let a = c .before .before .before .before .before .args in
-    no-words (a .nodes .now) (a .counts .now) (c .before .arc-index .ensures) (omega (arith, c .if1 .taken))
+    start-none (a .nodes .now) (a .counts .now) (c .before .arc-index .ensures) (omega (arith, c .if1 .taken))
 
 cast-t8 : tie.Need-cast-t8
 cast-t8 c = search needs
@@ -28,7 +28,7 @@ returns-2 : tie.Need-returns-2
 returns-2 c =
     let read = c .before .before in
     let a = read .before .before .before .before .args in
-    some-words (a .nodes .now) (a .counts .now) (read .arc-index .ensures) (c .before .if1 .left)
+    start-some (a .nodes .now) (a .counts .now) (read .arc-index .ensures) (c .before .if1 .left)
 
 pub at-start-spec : {M : Type 1} → statement M
 at-start-spec =

@@ -1,4 +1,4 @@
--- The buffer has room for one byte more than may be listed, and the lists for all that may be.
+-- `opening::open` meets its contract: the buffer has room for one byte more than may be listed, and the lists for all that may be.
 use native.Mathlib.Omega.{arith}
 use borrow.Author.Needs.{needs}
 use Rattle.listing.proofs.opening.open.Statement.{statement}

@@ -7,8 +7,8 @@ use borrow.Author.Needs.{needs}
 use Rattle.machirsun.proofs.files.machirsun_to_macondo.Statement.{statement}
 use Rattle.machirsun.proofs.files.machirsun_to_macondo.Tie as tie
 
-format-of-requires : tie.Need-format-of-requires
-format-of-requires c κs = search needs
+format-numbered-requires : tie.Need-format-numbered-requires
+format-numbered-requires c κs = search needs
 
 to-macondo-requires : tie.Need-to-macondo-requires
 to-macondo-requires c κs = search needs
@@ -22,7 +22,7 @@ same-length c = search needs
 same-length-2 : tie.Need-same-length-2
 same-length-2 c = search needs
 
-abbrev start : tie.After-format-of → tie.Start
+abbrev start : tie.After-format-numbered → tie.Start
 start s = s .before .before .before .before .before .before
 
 returns : tie.Need-returns
@@ -34,7 +34,7 @@ returns c =
       rw (c .flat-macondo .ensures .0)
           (done .0
           ∙ ap (λ f. toMacondo (a .nodes .now) (a .labels .now) (a .name .now) (formatOf f) (length (a .work .now)) (a .file .now))
-          (read .format-of .ensures)),
+          (read .format-numbered .ensures)),
       (done .1, c .flat-macondo .ensures .1),
     )
 
@@ -42,7 +42,7 @@ pub machirsun-to-macondo-spec : {M : Type 1} → statement M
 machirsun-to-macondo-spec =
     tie.close
     (tie.spec
-    format-of-requires
+    format-numbered-requires
     to-macondo-requires
     flat-macondo-requires
     same-length

@@ -1,7 +1,8 @@
 -- `machirsun::machirsun_load_in_pieces` meets its contract: the number is a layout, and the two answers and the state are made flat.
-use mathlib.Core.Path.{ap, _∙_}
+use mathlib.Core.Path.{sym, ap, _∙_}
 use Rattle.pieces.specs.Pieces.{cutAt, loadPieces}
 use Rattle.pieces.specs.Said.{loadLeaves}
+use Rattle.flat.specs.PlainLaws.{plain-refusal}
 use Rattle.flat.specs.StateLaws.{reads-state, flat-state}
 use borrow.Author.Needs.{needs}
 use Rattle.machirsun.proofs.loading.machirsun_load_in_pieces.Statement.{statement}
@@ -44,13 +45,13 @@ returns c =
     let a = start (layout-read m) .args in
     let load = m .load-in-pieces in
     let state = c .before .flat-loader .ensures in
-    let begun = made .begin-refusal .ensures in
+    let begun = made .begin-refusal in
     let finished = c .flat-finished .ensures in (
-      rw (begun .0, reads-state (load .result .loader) state, finished .0)
+      rw (begun .ensures, reads-state (load .result .loader) state, finished .0)
           (load .ensures
           ∙ ap (λ y. loadLeaves (a .answers .now) (loadPieces (a .announced) y (a .nodes .now) (cutAt (a .cuts .now) (a .bytes .now))))
           (layout-read m .layout-of .ensures)),
-      λ i. record { begun = begun .1 i; loader = flat-state (load .result .loader) state i; finished = finished .1 i },
+      λ i. record { begun = sym (plain-refusal (begun .result)) i; loader = flat-state (load .result .loader) state i; finished = finished .1 i },
     )
 
 pub machirsun-load-in-pieces-spec : {M : Type 1} → statement M

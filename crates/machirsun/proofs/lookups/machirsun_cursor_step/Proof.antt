@@ -15,9 +15,9 @@ abbrev start : tie.After-step-once → tie.Start
 start s = s .before .before
 
 -- what the step says, and the node reached
-told : (s : tie.After-step-once) (r : Stepped) → s .step-once .result .answer ≡ r
+step-is : (s : tie.After-step-once) (r : Stepped) → s .step-once .result .answer ≡ r
     → _≡_ {A = Moves} (record { answer = saidStep r; at = s .step-once .result .at }) (moves (start s .args .nodes .now) (start s .args .at))
-told s r e = (λ i. record { answer = ap saidStep (sym e) i; at = s .step-once .result .at }) ∙ s .step-once .ensures
+step-is s r e = (λ i. record { answer = ap saidStep (sym e) i; at = s .step-once .result .at }) ∙ s .step-once .ensures
 
 step-once-requires : tie.Need-step-once-requires
 step-once-requires c κs = search needs
@@ -39,13 +39,13 @@ returns c =
     let q = c .enum-told .given .0 .0 in
     let e = c .enum-told .given .1 in
     let place = step-reached (a .nodes .now) (a .at) m q (s .step-once .ensures) e in
-    ((λ i. record { answer = gives (place i ∷ []); at = m .at }) ∙ told s (To q) e, refl)
+    ((λ i. record { answer = gives (place i ∷ []); at = m .at }) ∙ step-is s (To q) e, refl)
 
 returns-2 : tie.Need-returns-2
-returns-2 c = (told (c .before .before) Done (c .enum-told2 .given .1), refl)
+returns-2 c = (step-is (c .before .before) Done (c .enum-told2 .given .1), refl)
 
 returns-3 : tie.Need-returns-3
-returns-3 c = (told (c .before .before) NotLent (c .enum-told3 .given .1), refl)
+returns-3 c = (step-is (c .before .before) NotLent (c .enum-told3 .given .1), refl)
 
 pub machirsun-cursor-step-spec : {M : Type 1} → statement M
 machirsun-cursor-step-spec =

@@ -1,4 +1,4 @@
--- `files::same_file` compares the fields of the flat answer and the bytes written.
+-- `files::same_file` meets its contract: the fields of the flat answer and the bytes written are compared.
 use mathlib.Core.Path.{ap, _∙_}
 use mathlib.Core.List.{List, _++_}
 use Prim.Native.Nat.{ℕ}

@@ -1,4 +1,4 @@
--- `loads::repack` compares the fields of the flat answer and the bytes after the call.
+-- `loads::repack` meets its contract: the fields of the flat answer and the bytes after the call are compared.
 use mathlib.Core.Path.{ap, _∙_}
 use Rattle.stored.specs.Answers.{same}
 use Rattle.replay.proofs.LoadLaws.{repack-replies}

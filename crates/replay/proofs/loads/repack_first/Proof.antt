@@ -1,4 +1,4 @@
--- `loads::repack_first` repacks the bytes up to the place, which are all of them where there are no more.
+-- `loads::repack_first` meets its contract: the bytes up to the place are repacked, which are all of them where there are no more.
 use mathlib.Core.Path.{sym, ap, _∙_}
 use mathlib.Core.List.{List}
 use Prim.Native.Nat.{ℕ}

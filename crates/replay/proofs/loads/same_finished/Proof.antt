@@ -1,4 +1,4 @@
--- `loads::same_finished` compares the fields of the flat answer and the nodes that it counts.
+-- `loads::same_finished` meets its contract: the fields of the flat answer and the nodes that it counts are compared.
 use mathlib.Core.Path.{ap, _∙_}
 use mathlib.Core.List.{List, _++_}
 use Prim.Native.Nat.{ℕ}

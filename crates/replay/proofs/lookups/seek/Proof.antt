@@ -1,4 +1,4 @@
--- `lookups::seek` compares the fields of the flat answer.
+-- `lookups::seek` meets its contract: the fields of the flat answer are compared.
 use mathlib.Core.Path.{ap, _∙_}
 use Rattle.stored.specs.Answers.{same}
 use Rattle.replay.proofs.LookupLaws.{seek-fields}

@@ -1,4 +1,4 @@
--- `lookups::step` compares the fields of the flat answer.
+-- `lookups::step` meets its contract: the fields of the flat answer are compared.
 use mathlib.Core.Path.{ap, _∙_}
 use Rattle.stored.specs.Answers.{same}
 use Rattle.replay.proofs.LookupLaws.{step-fields}

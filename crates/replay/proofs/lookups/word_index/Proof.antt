@@ -1,4 +1,4 @@
--- `lookups::word_index` compares the fields of the flat answer.
+-- `lookups::word_index` meets its contract: the fields of the flat answer are compared.
 use mathlib.Core.Path.{ap, _∙_}
 use Rattle.stored.specs.Answers.{same}
 use Rattle.replay.proofs.LookupLaws.{index-fields}

@@ -1,9 +1,9 @@
--- `nodes::same_packed` compares the answer in numbers, by its cases.
+-- `nodes::same_packed` meets its contract: the answer is compared in numbers, by its cases.
 use mathlib.Core.Path.{sym, ap, _∙_}
 use Rattle.stored.specs.Answers.{same}
 use Rattle.node.specs.Said.{saidNode}
 use Rattle.node.specs.declared.Packed.{Packed}
-use Rattle.replay.specs.Nodes.{flat}
+use Rattle.replay.specs.Nodes.{answerNumbers}
 use borrow.Author.Needs.{needs}
 use Rattle.replay.proofs.nodes.same_packed.Statement.{statement}
 use Rattle.replay.proofs.nodes.same_packed.Tie as tie
@@ -33,13 +33,13 @@ returns : tie.Need-returns
 returns c =
     let told = c .before .before .before in
     let args = told .before .before .before .args in
-    c .same-words .ensures ∙ ap (λ (p : Packed). same (args .stored .now) (flat (saidNode p))) (sym (told .packed .given .1))
+    c .same-words .ensures ∙ ap (λ (p : Packed). same (args .stored .now) (answerNumbers (saidNode p))) (sym (told .packed .given .1))
 
 returns-2 : tie.Need-returns-2
 returns-2 c =
     let told = c .before .before .before in
     let args = told .before .before .before .args in
-    c .same-words2 .ensures ∙ ap (λ (p : Packed). same (args .stored .now) (flat (saidNode p))) (sym (told .packed2 .given .1))
+    c .same-words2 .ensures ∙ ap (λ (p : Packed). same (args .stored .now) (answerNumbers (saidNode p))) (sym (told .packed2 .given .1))
 
 pub same-packed-spec : {M : Type 1} → statement M
 same-packed-spec =

@@ -1,4 +1,4 @@
--- `sets::accepts_alpha` compares the fields of the flat answer.
+-- `sets::accepts_alpha` meets its contract: the fields of the flat answer are compared.
 use mathlib.Core.Path.{ap, _∙_}
 use Rattle.stored.specs.Answers.{same}
 use Rattle.replay.proofs.SetLaws.{accepts-replies}

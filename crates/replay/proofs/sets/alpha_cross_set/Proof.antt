@@ -1,4 +1,4 @@
--- `sets::alpha_cross_set` compares the fields of the flat answer.
+-- `sets::alpha_cross_set` meets its contract: the fields of the flat answer are compared.
 use mathlib.Core.Path.{ap, _∙_}
 use Rattle.stored.specs.Answers.{same}
 use Rattle.replay.proofs.SetLaws.{cross-replies}

@@ -1,4 +1,4 @@
--- `verdicts::after_list` passes the numbers of the list, and one more.
+-- `verdicts::after_list` meets its contract: the numbers of the list are passed, and one more.
 use mathlib.Core.Path.{ap, _∙_}
 use lib.ListN.{drop}
 use lib.Seq.{drop-drop}

@@ -1,4 +1,4 @@
--- `verdicts::replies` takes the call that writes the bytes by itself, and the others over a part of them.
+-- `verdicts::replies` meets its contract: the call that writes the bytes is made by itself, and the others over a part of them.
 use mathlib.Core.Path.{subst}
 use mathlib.Core.List.{List}
 use Prim.Native.Nat.{ℕ}

@@ -1,4 +1,4 @@
--- `verdicts::replies_to` makes each call by its number.
+-- `verdicts::replies_to` meets its contract: each call is made by its number.
 use Rattle.replay.specs.Judged as R
 use Rattle.replay.proofs.VerdictLaws.{replies-as, counts-as, last-call}
 use borrow.Author.Needs.{needs}

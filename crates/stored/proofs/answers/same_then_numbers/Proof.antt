@@ -1,5 +1,7 @@
 -- `answers::same_then_numbers` meets its contract: what is stored is compared by its front and the rest.
 use borrow.Author.Needs.{needs}
+use mathlib.Core.List.{List}
+use Prim.Native.Nat.{ℕ}
 use Rattle.stored.specs.Answers.{then-rest, not-front}
 use Rattle.stored.proofs.answers.same_then_numbers.Statement.{statement}
 use Rattle.stored.proofs.answers.same_then_numbers.Tie as tie
@@ -13,20 +15,17 @@ numbers-from-requires c κs = search needs
 same-numbers-requires : tie.Need-same-numbers-requires
 same-numbers-requires c κs = search needs
 
-abbrev start : tie.After-starts-with → tie.Start
-start s = s .before .before .before .before
+-- the numbers that it must start with
+abbrev front : tie.After-starts-with → List ℕ
+front s = s .before .before .before .before .args .numbers .now
 
 returns : tie.Need-returns
 returns c =
     let s = c .before .before .before in
-    let asked = start s .args in
-    then-rest (asked .stored .now) (asked .numbers .now) (asked .list .now) (s .starts-with .ensures) (c .before .before .if1 .taken)
-    (c .before .numbers-from .ensures) (c .same-numbers .ensures)
+    then-rest _ (front s) _ (s .starts-with .ensures) (c .before .before .if1 .taken) (c .before .numbers-from .ensures) (c .same-numbers .ensures)
 
 returns-2 : tie.Need-returns-2
-returns-2 c =
-    let asked = start (c .before) .args in
-    not-front (asked .stored .now) (asked .numbers .now) (asked .list .now) (c .before .starts-with .ensures) (c .if1 .left)
+returns-2 c = not-front _ (front (c .before)) _ (c .before .starts-with .ensures) (c .if1 .left)
 
 pub same-then-numbers-spec : {M : Type 1} → statement M
 same-then-numbers-spec =

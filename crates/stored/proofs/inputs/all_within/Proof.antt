@@ -5,7 +5,7 @@ use mathlib.Core.Path.{_≡_, refl, _∙_}
 use lib.ListN.{length, drop}
 use borrow.Author.Needs.{needs}
 use Rattle.stored.specs.Inputs.{allWithin}
-use Rattle.stored.proofs.InputLaws.{above, below, no-more}
+use Rattle.stored.proofs.InputLaws.{over-limit, within-limit, all-looked-at}
 use Rattle.stored.proofs.inputs.all_within.Statement.{statement}
 use Rattle.stored.proofs.inputs.all_within.Tie as tie
 
@@ -28,7 +28,7 @@ returns : tie.Need-returns Inv-loop μ-loop
 returns c =
     let args = c .before .before .before .before .args in
     let loop = c .before .before .before .loop in
-    above (args .most) (args .numbers .now) (loop .i) (omega arith) (c .if1 .taken) ∙ loop .inv .1
+    over-limit (args .most) (args .numbers .now) (loop .i) (omega arith) (c .if1 .taken) ∙ loop .inv .1
 
 add-i : tie.Need-add-i Inv-loop μ-loop
 add-i c = omega arith
@@ -40,13 +40,13 @@ loop-again : tie.Need-loop-again Inv-loop μ-loop
 loop-again c =
     let args = c .before .before .before .before .args in
     let loop = c .before .before .before .loop in
-    (omega arith, below (args .most) (args .numbers .now) (loop .i) (omega arith) (c .if1 .left) ∙ loop .inv .1)
+    (omega arith, within-limit (args .most) (args .numbers .now) (loop .i) (omega arith) (c .if1 .left) ∙ loop .inv .1)
 
 returns-2 : tie.Need-returns-2 Inv-loop μ-loop
 returns-2 c =
     let args = c .before .before .args in
     let loop = c .before .loop in
-    no-more (args .most) (args .numbers .now) (loop .i) (omega arith) ∙ loop .inv .1
+    all-looked-at (args .most) (args .numbers .now) (loop .i) (omega arith) ∙ loop .inv .1
 
 pub all-within-spec : {M : Type 1} → statement M
 all-within-spec =

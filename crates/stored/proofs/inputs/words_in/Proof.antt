@@ -13,13 +13,10 @@ enum-known-count c = search needs
 enum-told : tie.Need-enum-told
 enum-told c = search needs
 
-abbrev start : tie.After-count-in → tie.Start
-start s = s .before .before .before
-
 returns : tie.Need-returns
 returns c =
     let s = c .before .before in
-    not-copied 4_294_967_295 (start s .args .case .now) (start s .args .words .now) (s .count-in .ensures) (c .enum-told .given .1)
+    not-copied 4_294_967_295 _ _ (s .count-in .ensures) (c .enum-told .given .1)
 
 list-of-requires : tie.Need-list-of-requires
 list-of-requires c κs = search needs
@@ -28,7 +25,8 @@ copy-words-requires : tie.Need-copy-words-requires
 copy-words-requires c κs =
     let t = c .before .before .before in
     let s = t .before .before in
-    can-copy 4_294_967_295 (start s .args .case .now) (start s .args .words .now) (s .count-in .ensures) (t .count .given .1) (c .before .list-of .ensures)
+    let asked = s .before .before .before .args in
+    can-copy 4_294_967_295 (asked .case .now) (asked .words .now) (s .count-in .ensures) (t .count .given .1) (c .before .list-of .ensures)
 
 same-length : tie.Need-same-length
 same-length c = search needs
@@ -38,7 +36,7 @@ returns-2 c =
     let u = c .before .before .before .before in
     let t = u .before .before in
     let s = t .before .before in
-    copied 4_294_967_295 (start s .args .case .now) (start s .args .words .now) (s .count-in .ensures) (t .count .given .1) (u .list-of .ensures)
+    copied 4_294_967_295 _ _ (s .count-in .ensures) (t .count .given .1) (u .list-of .ensures)
     (c .before .before .copy-words .ensures)
 
 pub words-in-spec : {M : Type 1} → statement M

@@ -7,13 +7,13 @@ use native.Mathlib.Omega.{arith}
 use lib.Dec.{eqb, ltb, leb}
 use lib.ListN.{length, drop}
 use Rattle.laws.specs.Cases.{split}
+use Rattle.laws.specs.Lists.{All}
 use Rattle.answers.specs.Answers.{Answer, gives, nothing, refused}
 use Rattle.node.specs.Nodes.{KBWG, arc, accepts, isEnd}
 use Rattle.graph.specs.Runs.{Graph}
 use Rattle.graph.specs.Words.{Word}
 use Rattle.lookup.specs.Steps.{Try, on, stop, _>>=_, lent, difference, lentPart}
 use Rattle.lookup.specs.Walks.{Turn, last, down, wordsHere, turnIn, wordFrom, wordByIndex}
-use Rattle.listing.proofs.LinesLaws.{Tiles}
 
 -- ---- no step ends the walk with a value
 NoValue : {A : Type 0} → Try A → Type 0
@@ -46,10 +46,10 @@ module _ (counts : List ℕ) where
       (λ t. rw t tt)
       (λ t. rw t (then-none (lent counts (suc p)) _ (lent-none counts (suc p)) (λ d. difference-none c d))))
 
-  turn-none : (g : Graph) (p idx : ℕ) → NoValue (turnIn counts g p idx)
+  turn-no-value : (g : Graph) (p idx : ℕ) → NoValue (turnIn counts g p idx)
   unfolding NoValue turnIn
-  turn-none [] p idx = tt
-  turn-none (v ∷ g) p idx =
+  turn-no-value [] p idx = tt
+  turn-no-value (v ∷ g) p idx =
       split (eqb idx 0 && accepts KBWG v)
       (λ t. rw (t, turnIn) tt)
       (λ t. rw (t, turnIn) (then-none (wordsHere counts v p) _ (here-none v p)
@@ -57,20 +57,24 @@ module _ (counts : List ℕ) where
       (λ u. rw u tt)
       (λ u. rw u (split (isEnd KBWG v)
       (λ e. rw e tt)
-      (λ e. rw e (turn-none g (suc p) (idx - here))))))))
+      (λ e. rw e (turn-no-value g (suc p) (idx - here))))))))
 
 -- ---- what a walk leaves
+-- a tile of a node is below 64
+abbrev pub Tiles : Word → Type 0
+Tiles w = All (_< 64) w
+
 pub record WalkLeaves (room n : ℕ) (x : Word × Answer) : Type 0 where
   pub fits : length (x .0) ≤ room
   pub tiles : Tiles (x .0)
-  pub told : (m : ℕ) → x .1 ≡ gives (m ∷ []) → m ≡ n + length (x .0)
+  pub given : (m : ℕ) → x .1 ≡ gives (m ∷ []) → m ≡ n + length (x .0)
 
 -- a walk that puts nothing
 stopped : (room n : ℕ) (r : Answer) → NoValue {A = Turn} (stop r) → WalkLeaves room n ([], r)
 unfolding NoValue
 stopped room n (gives vs) h = absurd h
-stopped room n nothing h = record { fits = zero-le; tiles = tt; told = λ m e. let z : _≡_ {A = ℕ} 0 1 = cc in absurd (omega arith) }
-stopped room n (refused k vs) h = record { fits = zero-le; tiles = tt; told = λ m e. let z : _≡_ {A = ℕ} 0 1 = cc in absurd (omega arith) }
+stopped room n nothing h = record { fits = zero-le; tiles = tt; given = λ m e. let z : _≡_ {A = ℕ} 0 1 = cc in absurd (omega arith) }
+stopped room n (refused k vs) h = record { fits = zero-le; tiles = tt; given = λ m e. let z : _≡_ {A = ℕ} 0 1 = cc in absurd (omega arith) }
 
 module _ (counts : List ℕ) (g : Graph) where
   full : (n p idx : ℕ) (t : Try Turn) → turnIn counts (drop p g) p idx ≡ t → NoValue t → WalkLeaves 0 n (wordFrom counts g 0 n p idx)
@@ -85,16 +89,16 @@ module _ (counts : List ℕ) (g : Graph) where
   onward room n p idx ih (stop r) e h = rw (e, wordFrom) (stopped (suc room) n r h)
   onward room n p idx ih (on (last v)) e h =
       rw (e, wordFrom)
-      (record { fits = omega arith; tiles = (omega arith, tt); told = λ m i. let k : suc n ≡ m = cc in omega arith })
+      (record { fits = omega arith; tiles = (omega arith, tt); given = λ m i. let k : suc n ≡ m = cc in omega arith })
   onward room n p idx ih (on (down v left)) e h =
       let r = ih (suc n) (arc KBWG v) left in
       rw (e, wordFrom)
-      (record { fits = omega (arith, r .fits); tiles = (omega arith, r .tiles); told = λ m i. omega (arith, r .told m i) })
+      (record { fits = omega (arith, r .fits); tiles = (omega arith, r .tiles); given = λ m i. omega (arith, r .given m i) })
 
   walked : (room n p idx : ℕ) → WalkLeaves room n (wordFrom counts g room n p idx)
-  walked zero n p idx = full n p idx (turnIn counts (drop p g) p idx) refl (turn-none counts (drop p g) p idx)
+  walked zero n p idx = full n p idx (turnIn counts (drop p g) p idx) refl (turn-no-value counts (drop p g) p idx)
   walked (suc room) n p idx =
-      onward room n p idx (walked room) (turnIn counts (drop p g) p idx) refl (turn-none counts (drop p g) p idx)
+      onward room n p idx (walked room) (turnIn counts (drop p g) p idx) refl (turn-no-value counts (drop p g) p idx)
 
   -- ---- with less room than it puts tiles the walk is refused
   Cut : ℕ → ℕ → ℕ → ℕ → ℕ → Type 0

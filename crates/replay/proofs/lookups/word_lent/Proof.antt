@@ -1,10 +1,10 @@
--- `lookups::word_in` compares the fields of the flat answer and the tiles put.
+-- `lookups::word_lent` meets its contract: the fields of the flat answer and the tiles put are compared.
 use mathlib.Core.Path.{ap, _∙_}
 use Rattle.stored.specs.Answers.{same}
 use Rattle.replay.proofs.LookupLaws.{word-fields}
 use borrow.Author.Needs.{needs}
-use Rattle.replay.proofs.lookups.word_in.Statement.{statement}
-use Rattle.replay.proofs.lookups.word_in.Tie as tie
+use Rattle.replay.proofs.lookups.word_lent.Statement.{statement}
+use Rattle.replay.proofs.lookups.word_lent.Tie as tie
 
 words-from-requires : tie.Need-words-from-requires
 words-from-requires c κs = search needs
@@ -42,8 +42,8 @@ cast-t15 c = search needs
 slice-aggregate-same-then-bytes : tie.Need-slice-aggregate-same-then-bytes
 slice-aggregate-same-then-bytes c = search needs
 
-put-tiles-requires : tie.Need-put-tiles-requires
-put-tiles-requires c κs = search needs
+tiles-put-requires : tie.Need-tiles-put-requires
+tiles-put-requires c κs = search needs
 
 same-then-bytes-requires : tie.Need-same-then-bytes-requires
 same-then-bytes-requires c κs = search needs
@@ -68,10 +68,10 @@ returns c =
     (word-fields (args .words .now) (asked .result) (args .word .now) _ _ _ _ _ _ _ _ _ (graph .words-from .ensures) (count .word-at .ensures)
     (nodes .words-to .ensures)
     (counts .words-from2 .ensures) (place .word-at2 .ensures) (number .word-at3 .ensures) (found .bit .ensures .0) (asked .ensures)
-    (c .before .put-tiles .ensures))
+    (c .before .tiles-put .ensures))
 
-pub word-in-spec : {M : Type 1} → statement M
-word-in-spec =
+pub word-lent-spec : {M : Type 1} → statement M
+word-lent-spec =
     tie.close
     (tie.spec
     words-from-requires
@@ -86,7 +86,7 @@ word-in-spec =
     bit-requires
     cast-t15
     slice-aggregate-same-then-bytes
-    put-tiles-requires
+    tiles-put-requires
     same-then-bytes-requires
     same-length
     returns)

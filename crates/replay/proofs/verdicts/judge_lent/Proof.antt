@@ -1,11 +1,11 @@
--- `verdicts::judge_in` meets its contract: the case is read as far as it goes, and its call is made.
+-- `verdicts::judge_lent` meets its contract: the case is read as far as it goes, and its call is made.
 use mathlib.Core.Path.{refl, sym, subst, _∙_}
 use lib.ListN.{length}
 use Rattle.replay.specs.Judged.{Judged}
-use Rattle.replay.proofs.VerdictLaws.{low-call, high-call, no-words, no-bytes, judged}
+use Rattle.replay.proofs.VerdictLaws.{low-call, high-call, words-unread, bytes-unread, case-judged}
 use borrow.Author.Needs.{needs}
-use Rattle.replay.proofs.verdicts.judge_in.Statement.{statement}
-use Rattle.replay.proofs.verdicts.judge_in.Tie as tie
+use Rattle.replay.proofs.verdicts.judge_lent.Statement.{statement}
+use Rattle.replay.proofs.verdicts.judge_lent.Tie as tie
 
 returns : tie.Need-returns
 returns c =
@@ -43,7 +43,7 @@ returns-3 : tie.Need-returns-3
 returns-3 c =
     let words = c .before .before .before .before in
     let args = start words .args in
-    no-words (length (args .words .now)) (length (args .bytes .now)) (args .call) (args .case .now)
+    words-unread (length (args .words .now)) (length (args .bytes .now)) (args .call) (args .case .now)
     (sym (words .words-in .ensures .0) ∙ c .enum-told .given .1)
 
 after-list-requires : tie.Need-after-list-requires
@@ -71,7 +71,7 @@ returns-4 c =
     let words = words-read rest in
     let args = start words .args in
     let count = rest .before .before .word-count .given in
-    no-bytes (length (args .words .now)) (length (args .bytes .now)) (args .call) (args .case .now) (count .0 .0) (rest .after-list .result .now)
+    bytes-unread (length (args .words .now)) (length (args .bytes .now)) (args .call) (args .case .now) (count .0 .0) (rest .after-list .result .now)
     (sym (words .words-in .ensures .0) ∙ count .1) (rest .after-list .ensures) (sym (bytes .bytes-in .ensures .0) ∙ c .enum-told2 .given .1)
 
 after-list-requires-2 : tie.Need-after-list-requires-2
@@ -106,13 +106,13 @@ returns-5 c =
     let word-count = rest .before .before .word-count .given in
     let byte-count = stored .before .before .byte-count .given in
     subst (Judged (length (args .words .now)) (length (args .bytes .now)) (args .call) (args .case .now)) (sym (c .verdict-of .ensures))
-    (judged (length (args .words .now)) (length (args .bytes .now)) (args .call) (args .case .now) (word-count .0 .0) (rest .after-list .result .now)
+    (case-judged (length (args .words .now)) (length (args .bytes .now)) (args .call) (args .case .now) (word-count .0 .0) (rest .after-list .result .now)
     (sym (words .words-in .ensures .0) ∙ word-count .1) (rest .after-list .ensures)
     (byte-count .0 .0) (args .words .now) (args .bytes .now) _ _ _ _ (sym (bytes .bytes-in .ensures .0) ∙ byte-count .1) refl refl
     (words .words-in .ensures .1) (bytes .bytes-in .ensures .1) (stored .after-list2 .ensures) (part .words-to .ensures) (replied .replies .ensures))
 
-pub judge-in-spec : {M : Type 1} → statement M
-judge-in-spec =
+pub judge-lent-spec : {M : Type 1} → statement M
+judge-lent-spec =
     tie.close
     (tie.spec
     returns

@@ -1,11 +1,11 @@
--- `files::macondo_in` meets its contract: the inputs are those of the case.
+-- `files::macondo_lent` meets its contract: the inputs are those of the case.
 use mathlib.Core.Path.{ap, _∙_}
 use lib.ListN.{length}
 use Rattle.stored.specs.Answers.{same}
 use Rattle.replay.proofs.FileLaws.{macondo-replies}
 use borrow.Author.Needs.{needs}
-use Rattle.replay.proofs.files.macondo_in.Statement.{statement}
-use Rattle.replay.proofs.files.macondo_in.Tie as tie
+use Rattle.replay.proofs.files.macondo_lent.Statement.{statement}
+use Rattle.replay.proofs.files.macondo_lent.Tie as tie
 
 word-at-requires : tie.Need-word-at-requires
 word-at-requires c κs = search needs
@@ -53,8 +53,8 @@ returns c =
     (count .word-at .ensures) (rest .words-from .ensures) (nodes .words-from2 .ensures) (labels .words-to .ensures) (format .word-at2 .ensures)
     (asked .ensures .0))
 
-pub macondo-in-spec : {M : Type 1} → statement M
-macondo-in-spec =
+pub macondo-lent-spec : {M : Type 1} → statement M
+macondo-lent-spec =
     tie.close
     (tie.spec
     word-at-requires

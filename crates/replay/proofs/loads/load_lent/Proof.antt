@@ -1,13 +1,13 @@
--- `loads::load_in` meets its contract: begin, both feeds and finish, as their definitions say.
+-- `loads::load_lent` meets its contract: begin, both feeds and finish, as their definitions say.
 use mathlib.Core.Path.{ap, _∙_}
 use lib.ListN.{length, take, drop}
 use mathlib.Core.Path.{refl}
 use Rattle.stored.specs.Answers.{same}
 use Rattle.flat.specs.Flat.{layoutOf}
-use Rattle.replay.proofs.LoadLaws.{refused-load, whole-load, load-is}
+use Rattle.replay.proofs.LoadLaws.{refused-load, finished-load, load-is}
 use borrow.Author.Needs.{needs}
-use Rattle.replay.proofs.loads.load_in.Statement.{statement}
-use Rattle.replay.proofs.loads.load_in.Tie as tie
+use Rattle.replay.proofs.loads.load_lent.Statement.{statement}
+use Rattle.replay.proofs.loads.load_lent.Tie as tie
 
 word-at-requires : tie.Need-word-at-requires
 word-at-requires c κs = search needs
@@ -85,15 +85,15 @@ returns-2 c =
     let bytes = args .bytes .now in
     c .same-finished .ensures
     ∙ ap (same (args .stored .now))
-    (whole-load (length bytes) (layoutOf (layout .word-at2 .result)) (args .nodes .now)
+    (finished-load (length bytes) (layoutOf (layout .word-at2 .result)) (args .nodes .now)
     (first-piece .bytes-to .result .now) (second-piece .bytes-from .result .now) (begun .result) (begun .ensures .0)
     (first .result) _ (first .ensures .0) (second .result) _ (second .ensures .0) (finish .result) _ (finish .ensures .0) (finish .ensures .1)
     (not-refused .if1 .left)
     ∙ load-is (args .words .now) bytes (args .nodes .now) _ _ _ _ (layout .word-at2 .ensures) (cut-read .word-at .ensures) (first-piece .bytes-to .ensures)
     (second-piece .bytes-from .ensures))
 
-pub load-in-spec : {M : Type 1} → statement M
-load-in-spec =
+pub load-lent-spec : {M : Type 1} → statement M
+load-lent-spec =
     tie.close
     (tie.spec
     word-at-requires

@@ -1,8 +1,8 @@
--- `counts::count_in` compares the number of the refusal, its arc and the counts of the nodes.
+-- `counts::count_lent` meets its contract: the number of the refusal, its arc and the counts of the nodes are compared.
 use Rattle.replay.proofs.CountLaws.{count-replies}
 use borrow.Author.Needs.{needs}
-use Rattle.replay.proofs.counts.count_in.Statement.{statement}
-use Rattle.replay.proofs.counts.count_in.Tie as tie
+use Rattle.replay.proofs.counts.count_lent.Statement.{statement}
+use Rattle.replay.proofs.counts.count_lent.Tie as tie
 
 machirsun-count-words-requires : tie.Need-machirsun-count-words-requires
 machirsun-count-words-requires c κs = search needs
@@ -37,8 +37,8 @@ returns c =
     (c .before .words-to .ensures)
     (c .same-then-words .ensures)
 
-pub count-in-spec : {M : Type 1} → statement M
-count-in-spec =
+pub count-lent-spec : {M : Type 1} → statement M
+count-lent-spec =
     tie.close
     (tie.spec
     machirsun-count-words-requires

@@ -1,10 +1,10 @@
--- `CaseTally::judged` meets its contract: its test says whether the call has a place, and then it goes by the verdict.
+-- `CaseTally::with_verdict` meets its contract: its test says whether the call has a place, and then it goes by the verdict.
 use mathlib.Core.Path.{_∙_, ap}
 use borrow.Author.Tests.{le-ltb, lt-ltb}
 use borrow.Author.Needs.{needs}
 use Rattle.stored.specs.CaseTally.{withCase}
-use Rattle.stored.proofs.tally.CaseTally.judged.Statement.{statement}
-use Rattle.stored.proofs.tally.CaseTally.judged.Tie as tie
+use Rattle.stored.proofs.tally.CaseTally.with_verdict.Statement.{statement}
+use Rattle.stored.proofs.tally.CaseTally.with_verdict.Tie as tie
 
 malformed-requires : tie.Need-malformed-requires
 malformed-requires c κs = search needs
@@ -44,8 +44,8 @@ returns-3 c =
 returns-4 : tie.Need-returns-4
 returns-4 c = rw (lt-ltb _ _ (c .before .before .before .if1 .left), c .before .enum-told3 .given .1) (c .malformed2 .ensures)
 
-pub judged-spec : {M : Type 1} → statement M
-judged-spec =
+pub with-verdict-spec : {M : Type 1} → statement M
+with-verdict-spec =
     tie.close
     (tie.spec
     malformed-requires

@@ -1,11 +1,11 @@
--- `files::lxd_in` meets its contract: the inputs are those of the case.
+-- `files::lxd_lent` meets its contract: the inputs are those of the case.
 use mathlib.Core.Path.{ap, _∙_}
 use lib.ListN.{length}
 use Rattle.stored.specs.Answers.{same}
 use Rattle.replay.proofs.FileLaws.{lxd-replies}
 use borrow.Author.Needs.{needs}
-use Rattle.replay.proofs.files.lxd_in.Statement.{statement}
-use Rattle.replay.proofs.files.lxd_in.Tie as tie
+use Rattle.replay.proofs.files.lxd_lent.Statement.{statement}
+use Rattle.replay.proofs.files.lxd_lent.Tie as tie
 
 words-from-requires : tie.Need-words-from-requires
 words-from-requires c κs = search needs
@@ -81,8 +81,8 @@ returns c =
     (label-part .words-to .ensures) (title-part .words-to2 .ensures) (date-part .words-to3 .ensures)
     (asked .ensures .0))
 
-pub lxd-in-spec : {M : Type 1} → statement M
-lxd-in-spec =
+pub lxd-lent-spec : {M : Type 1} → statement M
+lxd-lent-spec =
     tie.close
     (tie.spec
     words-from-requires

@@ -6,7 +6,7 @@ use Rattle.graph.specs.Words.{inOrder, spelled, wordsWithin, words}
 use Rattle.listing.specs.Lines.{decimalWithin, decimal, spaced, parted, line}
 use Rattle.listing.specs.Wordlist.{startWords, listed, lists, printed}
 
-pub five-nodes : printed (lists (0x240 ∷ 0x40 ∷ 0x481 ∷ 0x442 ∷ 0xC2 ∷ []))
+five-nodes : printed (lists (0x240 ∷ 0x40 ∷ 0x481 ∷ 0x442 ∷ 0xC2 ∷ []))
     ≡ 0x30 ∷ 0x09 ∷ 0x31 ∷ 0x0A
     ∷ 0x31 ∷ 0x09 ∷ 0x31 ∷ 0x20 ∷ 0x32 ∷ 0x0A
     ∷ 0x32 ∷ 0x09 ∷ 0x32 ∷ 0x20 ∷ 0x32 ∷ 0x0A ∷ []

@@ -1,4 +1,4 @@
--- `lookups::put_tiles` goes along the tiles up to the first entry that is none: those passed, and what is left without marks, are the whole.
+-- `lookups::tiles_put` meets its contract: up to the first entry that is no tile, the tiles passed and what is left without marks are the whole.
 use mathlib.Core.Path.{_≡_, refl, sym, ap, _∙_}
 use mathlib.Core.List.{_++_, append-nil}
 use native.Mathlib.Omega.{arith}
@@ -6,9 +6,9 @@ use Prim.Native.Nat.{_≤_, _-_}
 use lib.ListN.{length, take, drop}
 use lib.Seq.{length-take-le}
 use Rattle.replay.specs.Lookups.{unmarked}
-use Rattle.replay.proofs.TileLaws.{marked-here, tile-here, all-put}
-use Rattle.replay.proofs.lookups.put_tiles.Statement.{statement}
-use Rattle.replay.proofs.lookups.put_tiles.Tie as tie
+use Rattle.replay.proofs.TileLaws.{marked-here, tile-here, no-mark-left}
+use Rattle.replay.proofs.lookups.tiles_put.Statement.{statement}
+use Rattle.replay.proofs.lookups.tiles_put.Tie as tie
 
 abbrev Inv-loop : tie.InvT-loop
 Inv-loop word i₀ i = (i ≤ length word) × (take i word ++ unmarked (drop i word) ≡ unmarked word)
@@ -49,10 +49,10 @@ loop-again c =
 returns-2 : tie.Need-returns-2 Inv-loop μ-loop
 returns-2 c =
     let loop = c .before .loop in
-    sym (all-put (c .before .before .args .word .now) (loop .i) (omega arith)) ∙ loop .inv .1
+    sym (no-mark-left (c .before .before .args .word .now) (loop .i) (omega arith)) ∙ loop .inv .1
 
-pub put-tiles-spec : {M : Type 1} → statement M
-put-tiles-spec =
+pub tiles-put-spec : {M : Type 1} → statement M
+tiles-put-spec =
     tie.close
     (tie.spec
     Inv-loop

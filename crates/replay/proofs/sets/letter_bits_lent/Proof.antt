@@ -1,10 +1,10 @@
--- `sets::letter_bits_in` compares the number of the refusal and the sets of the nodes.
+-- `sets::letter_bits_lent` meets its contract: the number of the refusal and the sets of the nodes are compared.
 use mathlib.Core.Path.{ap, _∙_}
 use Rattle.stored.specs.Answers.{same}
 use Rattle.replay.proofs.SetLaws.{bits-replies}
 use borrow.Author.Needs.{needs}
-use Rattle.replay.proofs.sets.letter_bits_in.Statement.{statement}
-use Rattle.replay.proofs.sets.letter_bits_in.Tie as tie
+use Rattle.replay.proofs.sets.letter_bits_lent.Statement.{statement}
+use Rattle.replay.proofs.sets.letter_bits_lent.Tie as tie
 
 machirsun-letter-bits-requires : tie.Need-machirsun-letter-bits-requires
 machirsun-letter-bits-requires c κs = search needs
@@ -34,8 +34,8 @@ returns c =
     (bits-replies (args .nodes .now) (args .all .now) (args .accepting .now) _ _ _ _ (asked .result) (asked .ensures)
     (c .before .before .before .numbers-to .ensures) (c .before .numbers-to2 .ensures))
 
-pub letter-bits-in-spec : {M : Type 1} → statement M
-letter-bits-in-spec =
+pub letter-bits-lent-spec : {M : Type 1} → statement M
+letter-bits-lent-spec =
     tie.close
     (tie.spec
     machirsun-letter-bits-requires
