@@ -15,9 +15,10 @@ use Rattle.macondo_file.specs.File.{endsInLetter}
 abbrev pub Ranks : List ℕ → List ℕ → Type 0
 Ranks labels ranks = (t : ℕ) → t < length labels → getD ranks t 0 ≡ letterOf labels t
 
--- each has a bit among 64: no letter is above 50, which tile 0 is written as
+-- every entry is at most 50, the number written for tile 0, so each has a bit among 64
 abbrev pub Small : List ℕ → Type 0
 Small ranks = (t : ℕ) → getD ranks t 0 ≤ 50
 
+-- "a set has bit r for the letter of rank r", by the ranks of a table
 unfoldable pub setBy : List ℕ → Graph → ℕ → ℕ
 setBy ranks g p = bitSet (map (λ v. getD ranks (tile KBWG v) 0) (kept endsInLetter (runOf g p)))

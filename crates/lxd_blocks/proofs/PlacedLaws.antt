@@ -7,23 +7,23 @@ use Prim.Native.Nat.{ℕ, suc, _+_, _*_, _≤_, _<_}
 use native.Mathlib.Nat.{suc-mul}
 use native.Mathlib.Omega.{arith}
 use native.Mathlib.Numerals.{add-one}
-use lib.ListN.{length, getD, take, drop, length-append, length-drop, drop-of-length-le}
+use lib.ListN.{length, getD, drop, length-append, length-drop, drop-of-length-le}
 use lib.Seq.{sets, drop-cons, getD-take, getD-drop, length-take-le}
 use borrow.Author.Tests.{eq-eqb, ne-eqb}
 use Rattle.laws.specs.Lists.{joinAll}
 use Rattle.laws.specs.Members.{at-in}
 use Rattle.laws.specs.ListWrites.{sets-append}
 use Rattle.endian.specs.Bytes.{toBytes, nodeBytes}
+use Rattle.endian.specs.BytesLaws.{numbers-append}
 use Rattle.node.specs.Nodes.{KBWG, tile, arc, accepts, isEnd, values, packed}
 use Rattle.graph.specs.Runs.{Graph, node}
 use Rattle.export.specs.Starts.{runOf}
 use Rattle.export.specs.RunOfLaws.{run-ends, run-goes-on}
-use Rattle.block_record.specs.Record.{placeAt}
+use Rattle.block_record.specs.Record.{placeAt, blocksIn}
 use Rattle.block_record.specs.RecordLaws.{place-none, place-value}
 use Rattle.block_record.specs.declared.Place.the-variants.{Numbered, Unnumbered}
-use Rattle.latin1.specs.Latin1.{byteWritten}
-use Rattle.lxd_file.specs.File.{LXD}
-use Rattle.lxd_blocks.specs.Placed.{childIn, nodeIn, bytesIn, runBytes, orderBytes}
+use Rattle.lxd_file.specs.File.{LXD, letter}
+use Rattle.lxd_blocks.specs.Placed.{childIn, nodeIn, bytesIn, orderBytes}
 use Rattle.lxd_blocks.proofs.RunLaws.{run-first}
 
 -- ---- a child
@@ -43,15 +43,10 @@ module _ (w : List ℕ) (p : ℕ) where
 
 -- ---- a node, by its parts
 module _ (labels w : List ℕ) (v : ℕ) where
-  pub node-packed : {t k : ℕ} {a e : Bool} → t ≡ byteWritten (getD labels (tile KBWG v) 0) → a ≡ accepts KBWG v → e ≡ isEnd KBWG v
+  pub node-packed : {t k : ℕ} {a e : Bool} → t ≡ letter labels (tile KBWG v) → a ≡ accepts KBWG v → e ≡ isEnd KBWG v
       → k ≡ childIn w (arc KBWG v) → packed LXD (values t a e k) ≡ nodeIn labels w v
   unfolding nodeIn
   node-packed h i j m = rw (h, i, j, m)
-
-numbers-append : (a b : List ℕ) → nodeBytes (a ++ b) ≡ nodeBytes a ++ nodeBytes b
-unfolding nodeBytes
-numbers-append [] b = refl
-numbers-append (v ∷ a) b = ap (toBytes v ++_) (numbers-append a b) ∙ sym (append-assoc (toBytes v) (nodeBytes a) (nodeBytes b))
 
 -- ---- a node written: what is left then, after it, is what was left
 module _ (file whole : List ℕ) (at end v : ℕ) (rest after : List ℕ) (e : rest ≡ toBytes v ++ after) where
@@ -62,22 +57,26 @@ module _ (file whole : List ℕ) (at end v : ℕ) (rest after : List ℕ) (e : r
   step-written h = sym (sets-append file at (toBytes v) after) ∙ ap (sets file at) (sym e) ∙ h
 
 module _ (g : Graph) (labels w : List ℕ) where
-  order-bytes : (p : ℕ) (ps : List ℕ) → orderBytes g labels w (p ∷ ps) ≡ runBytes g labels w p ++ orderBytes g labels w ps
-  order-bytes p ps =
+  -- the bytes of a run
+  abbrev runBytes : ℕ → List ℕ
+  runBytes p = bytesIn labels w (runOf g p)
+
+  order-bytes-cons : (p : ℕ) (ps : List ℕ) → orderBytes g labels w (p ∷ ps) ≡ runBytes p ++ orderBytes g labels w ps
+  order-bytes-cons p ps =
       ap nodeBytes (map-append (nodeIn labels w) (runOf g p) (joinAll (map (runOf g) ps)))
       ∙ numbers-append (map (nodeIn labels w) (runOf g p)) (map (nodeIn labels w) (joinAll (map (runOf g) ps)))
 
   module _ (k : ℕ) where
     -- the first k runs of the record, and the bytes of those from run i on
     abbrev order : List ℕ
-    order = take k (drop (length g) w)
+    order = blocksIn (length g) w k
 
     abbrev from : ℕ → List ℕ
     from i = orderBytes g labels w (drop i order)
 
     -- ---- what is left to write at node p of run i: the rest of the run, and the runs after it
     abbrev left : ℕ → ℕ → List ℕ
-    left i p = runBytes g labels w p ++ from (i + 1)
+    left i p = runBytes p ++ from (i + 1)
 
     module _ (i p : ℕ) (inside : p < length g) where
       left-last : isEnd KBWG (node g p) ≡ true → left i p ≡ toBytes (nodeIn labels w (node g p)) ++ from (i + 1)
@@ -88,15 +87,15 @@ module _ (g : Graph) (labels w : List ℕ) where
       unfolding nodeBytes
       left-more e =
           ap (λ vs. bytesIn labels w vs ++ from (i + 1)) (run-goes-on g p inside e)
-          ∙ append-assoc (toBytes (nodeIn labels w (node g p))) (runBytes g labels w (p + 1)) (from (i + 1))
+          ∙ append-assoc (toBytes (nodeIn labels w (node g p))) (runBytes (p + 1)) (from (i + 1))
 
       -- at least one node
       pub left-some : 4 ≤ length (left i p)
       unfolding nodeBytes
       left-some =
           let r = run-first g p inside in
-          let l = length-append (runBytes g labels w p) (from (i + 1)) in
-          let s : 4 ≤ length (runBytes g labels w p) = rw (r .1) (omega arith) in
+          let l = length-append (runBytes p) (from (i + 1)) in
+          let s : 4 ≤ length (runBytes p) = rw (r .1) (omega arith) in
           omega arith
 
     -- the bytes before `at` are written, and what is left gives the whole
@@ -129,7 +128,7 @@ module _ (g : Graph) (labels w : List ℕ) where
         run-left =
             let l = order-length in
             let c : drop i order ≡ getD order i 0 ∷ drop (i + 1) order = rw (add-one, drop-cons order i 0 (omega arith)) in
-            ap (orderBytes g labels w) c ∙ order-bytes (getD order i 0) (drop (i + 1) order) ∙ ap (left i) (order-at i h ∙ sym e)
+            ap (orderBytes g labels w) c ∙ order-bytes-cons (getD order i 0) (drop (i + 1) order) ∙ ap (left i) (order-at i h ∙ sym e)
 
       pub writing-starts : (file : List ℕ) (p : ℕ) → p ≡ getD w (length g) 0 → RunsWriting file file 72 0 p
       writing-starts file p e =

@@ -6,13 +6,13 @@ use native.Mathlib.Omega.{arith}
 use lib.ListN.{length, getD, drop, replicate, length-append, length-take, length-replicate}
 use lib.Seq.{drop-drop, drop-at}
 use Rattle.endian.specs.Bytes.{toBytes, nodeBytes, wholeNodes}
+use Rattle.endian.specs.BytesLaws.{number-read, numbers-read, length-numbers}
 use Rattle.node.specs.Nodes.{KBWG}
 use Rattle.graph.specs.Runs.{Graph, startNode}
 use Rattle.graph.specs.Words.{count}
 use Rattle.latin1.specs.Latin1.{byteWritten}
 use Rattle.lxd_file.specs.File.{field, lxdNodes, lxdFile}
 use Rattle.lxd_file.specs.Reading.{nodesRead, nodeCount, wordCount}
-use Rattle.lxd_file.specs.NumbersLaws.{number-read, numbers-read, length-numbers}
 
 pub length-field : (size : ℕ) (text : List ℕ) → length (field size text) ≡ size
 length-field size text =
