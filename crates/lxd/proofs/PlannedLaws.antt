@@ -18,7 +18,7 @@ use Rattle.graph.specs.Words.{count}
 use Rattle.block_record.specs.Record.{blocksIn}
 use Rattle.block_record.specs.RecordLaws.{holds-most}
 use Rattle.block_record.specs.declared.BlockTally.{BlockTally}
-use Rattle.lxd_file.specs.File.{runs, reached, runPlace, child, lxdNode, lxdNodes}
+use Rattle.lxd_file.specs.File.{childBy, runs, reached, runPlace, child, lxdNode, lxdNodes}
 use Rattle.lxd_file.specs.RunsLaws.{no-child, child-place, reached-size, runs-inside, arc-in-runs, place-within}
 use Rattle.lxd_file.specs.NodesLaws.{nodes-none, nodes-some, length-none, length-some, words-or-none}
 use Rattle.endian.specs.BytesLaws.{length-numbers}
@@ -44,7 +44,7 @@ module _ {g : Graph} {labels w : List ℕ} {words : ℕ} {t : BlockTally} (h : P
 
   child-by-record : (p : ℕ) → p ≢ 0 → childIn w p ≡ getD w p 0 - 1
   unfolding childIn
-  child-by-record p n = rw (ne-eqb p 0 n, childIn)
+  child-by-record p n = rw (ne-eqb p 0 n, childBy)
 
   no-child-by-record : childIn w 0 ≡ 0
   unfolding childIn

@@ -6,6 +6,7 @@ use mathlib.Core.Logic.{_≢_}
 use mathlib.Core.List.{List, [], _∷_, _++_}
 use mathlib.Core.Option.{none}
 use Prim.Native.Nat.{ℕ, zero, suc, _+_, _*_, _^_, _≤_, _<_}
+use native.Mathlib.Nat.{zero-add}
 use native.Mathlib.Omega.{arith}
 use lib.Dec.{eqb, ltb, leb}
 use lib.ListN.{length, getD}
@@ -30,16 +31,15 @@ use Rattle.survey.specs.ReachLaws.{survey-byteless, survey-many, survey-count}
 use Rattle.survey.specs.declared.Findings.{Findings}
 use Rattle.survey.specs.declared.Surveyed.{Surveyed}
 use Rattle.block_record.specs.declared.BlockTally.{BlockTally}
-use Rattle.lxd_file.specs.File.{field, runs, reached, runSize, lxdNodes, lxdFile}
-use Rattle.lxd_file.specs.FileLaws.{length-file}
+use Rattle.lxd_file.specs.File.{header, runs, reached, runSize, lxdNodes, lxdFile}
+use Rattle.lxd_file.specs.FileLaws.{length-header, length-file}
 use Rattle.lxd_file.specs.Row.{lxdWalkRow}
 use Rattle.lxd_file.specs.RunsLaws.{reached-size}
 use Rattle.lxd_blocks.specs.RunsNumbered.{RunsNumbered}
 use Rattle.lxd_blocks.specs.declared.numbering.Walked.{Walked}
-use Rattle.lxd.specs.Header.{header}
 use Rattle.lxd.specs.Said.{afterChecks}
 use Rattle.lxd.specs.Planned.{ChecksPassed, Planned, nodesWritten}
-use Rattle.lxd.proofs.HeaderLaws.{written-after, length-header, header-before}
+use Rattle.lxd.proofs.HeaderLaws.{written-after}
 use Rattle.lxd.proofs.PlannedLaws.{total-nodes, count-nodes}
 use Rattle.answers.specs.RowLaws.{StopsAt, answerAt, stops-at, all-pass}
 
@@ -152,13 +152,13 @@ module _ (g : Graph) (labels title date lent : List ℕ) where
       unfolding lxdFile
       in-two-parts =
           ap₂ (λ k c. header k title date c ++ nodeBytes (lxdNodes g labels)) node-count-is (p .found .counted)
-          ∙ header-before (field 32 title) (field 20 date) (nodeBytes (lxdNodes g labels)) (length (lxdNodes g labels)) (count KBWG g (startNode g 0))
 
       bytes-after : {a b : List ℕ} → a ≡ sets lent 0 (header n title date words) → b ≡ sets a 64 (nodeBytes (lxdNodes g labels))
           → b ≡ sets lent 0 file
       bytes-after i j =
           j ∙ ap (λ x. sets x 64 (nodeBytes (lxdNodes g labels))) i
-          ∙ written-after lent (header n title date words) (nodeBytes (lxdNodes g labels)) 0 64 (length-header n title date words)
+          ∙ written-after lent (header n title date words) (nodeBytes (lxdNodes g labels)) 0 64
+          (zero-add (length (header n title date words)) ∙ length-header n title date words)
           ∙ ap (sets lent 0) in-two-parts
 
       pub file-written : {a b : List ℕ} → a ≡ sets lent 0 (header n title date words) → b ≡ sets a 64 (nodeBytes (lxdNodes g labels))

@@ -1,26 +1,24 @@
 -- The file's nodes by the record of places.
 use mathlib.Core.Path.{_≡_}
-use mathlib.Core.Bool.{true, false}
+use mathlib.Core.Bool.{false}
 use mathlib.Core.List.{List, map}
 use Prim.Native.Nat.{ℕ, _-_, _^_, _≤_, _<_}
-use lib.Dec.{eqb}
 use lib.ListN.{length, getD}
 use Rattle.laws.specs.Lists.{joinAll}
 use Rattle.endian.specs.Bytes.{nodeBytes}
-use Rattle.node.specs.Nodes.{KBWG, tile, arc, accepts, isEnd, values, packed}
 use Rattle.graph.specs.Runs.{Graph}
 use Rattle.graph.specs.ChecksLaws.{Fit}
 use Rattle.export.specs.Starts.{runOf, unlabelled}
-use Rattle.lxd_file.specs.File.{LXD, letter}
+use Rattle.lxd_file.specs.File.{childBy, nodeBy}
 
--- where the run of an arc stands by the record, which has the place plus 1; an arc of 0 is written 0
+-- where the run of an arc stands by the record, which has the place plus 1
 unfoldable pub childIn : List ℕ → ℕ → ℕ
-childIn w p = elim (eqb p 0) [ true ↦ 0 | false ↦ getD w p 0 - 1 ]
+childIn w p = childBy (λ q. getD w q 0 - 1) p
 
 module _ (labels w : List ℕ) where
   -- a node as it is written by the record
   unfoldable pub nodeIn : ℕ → ℕ
-  nodeIn v = packed LXD (values (letter labels (tile KBWG v)) (accepts KBWG v) (isEnd KBWG v) (childIn w (arc KBWG v)))
+  nodeIn v = nodeBy labels (childIn w) v
 
   abbrev pub bytesIn : List ℕ → List ℕ
   bytesIn vs = nodeBytes (map nodeIn vs)

@@ -19,7 +19,7 @@ use Rattle.export.specs.Starts.{runOf, arcsFrom, deeper}
 use Rattle.export.specs.Blocks.{blockAt, total}
 use Rattle.export.specs.BlocksLaws.{every-met, first-met, start-met, children-met, blocks-length, block-first, block-within, block-from, blocks-most}
 use Rattle.export.specs.ChainLaws.{arc-from, arcs-inside, shallow-low, shallow-closed, shallow-within}
-use Rattle.lxd_file.specs.File.{runs, reached, runSize, runPlace, child}
+use Rattle.lxd_file.specs.File.{childBy, runs, reached, runSize, runPlace, child}
 
 -- the nodes from p on have the graph's last, an end
 pub ends-from : (g : Graph) → Closed g → (p : ℕ) → p < length g → lastEnds KBWG (drop p g) ≡ true
@@ -36,7 +36,7 @@ module _ (g : Graph) where
 
   pub child-place : (p : ℕ) → p ≢ 0 → child g p ≡ runPlace g p
   unfolding child
-  child-place p n = rw (ne-eqb p 0 n, child)
+  child-place p n = rw (ne-eqb p 0 n, childBy)
 
   pub reached-size : length (reached g) ≡ total (runSize g) (runs g)
   reached-size = blocks-length (runSize g) (runOf g) (λ q. refl) (runs g)

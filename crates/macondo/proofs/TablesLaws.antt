@@ -22,7 +22,8 @@ use Rattle.block_record.specs.Record.{blocksIn}
 use Rattle.block_record.specs.RecordLaws.{holds-most}
 use Rattle.block_record.specs.declared.BlockTally.{BlockTally}
 use Rattle.macondo_file.specs.Alphabet.{letters}
-use Rattle.macondo_file.specs.File.{section, Format, marks, arcsOf, sizeOf, setOf, blocks, letterSets, blockNumber, headNode, arcNode, blockOf, macondoNodes, macondoFile}
+use Rattle.macondo_file.specs.File.{section, Format, marks, arcsOf, sizeOf, setOf, blocks, letterSets, blockNumber}
+use Rattle.macondo_file.specs.File.{headNode, arcNode, blockOf, macondoNodes, macondoFile}
 use Rattle.macondo_file.specs.ReadingLaws.{file-length}
 use Rattle.macondo_file.specs.RowLaws.{MacondoReady}
 use Rattle.macondo_file.specs.ArcLaws.{in-arcs}

@@ -7,7 +7,7 @@ use mathlib.Core.List.{List, [], _∷_, _++_, map, List·Memᴰ}
 use Prim.Native.Nat.{ℕ, suc, _+_, _-_, _*_, _≤_, _<_, max}
 use native.Mathlib.Numerals.{add-one}
 use native.Mathlib.Omega.{arith}
-use lib.ListN.{length, getD, set, take, drop, length-set}
+use lib.ListN.{length, getD, set, take, length-set}
 use lib.Seq.{slice, slice-cons, slice-empty, length-take-le}
 use borrow.Author.Tests.{lt-ltb, le-ltb}
 use Rattle.node.specs.Nodes.{KBWG, arc}
@@ -15,7 +15,7 @@ use Rattle.graph.specs.Runs.{Graph}
 use Rattle.export.specs.Starts.{arcsFrom, deeper}
 use Rattle.export.specs.Blocks.{each, met}
 use Rattle.laws.specs.Cleared.{cleared, cleared-length, cleared-at}
-use Rattle.block_record.specs.Record.{orderIn, Pushed, HoldsBlocks}
+use Rattle.block_record.specs.Record.{blocksIn, orderIn, Pushed, HoldsBlocks}
 use Rattle.block_record.specs.RecordLaws.{holds-room, met-old, met-new, push-holds, holds-past, fresh-of, stale-of, holds-here, holds-at, holds-none}
 use Rattle.block_record.specs.Depths.{depthAt, Depth, Deepest, Depths, Below, NoneBut, NoneLeft}
 use Rattle.block_record.specs.DepthsLaws.{deep-by-arc, loop-deep, below-arc, deepest-none, deepest-next, deepest-all}
@@ -223,7 +223,7 @@ module _ (w w′ : List ℕ) {g : Graph} {labels : List ℕ} (ready : MacondoRea
       → NumberingIs g labels s w v r
   clear-numbering t z s v (Done r) n = (
     record {
-      holds = holds-at (ap (λ o. met (childrenOf g labels) 64 (take o (drop (length g) w′)) s) z) (n .numbered .holds);
+      holds = holds-at (ap (λ o. met (childrenOf g labels) 64 (blocksIn (length g) w′ o) s) z) (n .numbered .holds);
       size = n .numbered .size ∙ clear-length;
     },
     n .depth,

@@ -31,6 +31,10 @@ marks gaddag = record { magic = 0x63 ∷ 0x67 ∷ 0x64 ∷ 0x67 ∷ []; root = 1
 abbrev pub endsInLetter : ℕ → Bool
 endsInLetter v = accepts KBWG v && not (eqb (tile KBWG v) 0)
 
+-- "a set has bit r for the letter of rank r": the set of p's run, where `rank` gives the letter of a node
+abbrev pub setWith : (ℕ → ℕ) → Graph → ℕ → ℕ
+setWith rank g p = bitSet (map rank (kept endsInLetter (runOf g p)))
+
 -- "the code points stand in rank order"
 abbrev pub codePoints : List ℕ → List ℕ
 codePoints labels = map (λ t. getD labels t 0) (letters labels)
@@ -56,9 +60,9 @@ module _ (g : Graph) (labels : List ℕ) where
   abbrev pub blocksFrom : ℕ → List ℕ
   blocksFrom s = met childrenOf 64 [] s
 
-  -- "a set has bit r for the letter of rank r"
+  -- a block's set: that of its run, by the letters written
   unfoldable pub setOf : ℕ → ℕ
-  setOf p = bitSet (map (letterAt labels) (kept endsInLetter (runOf g p)))
+  setOf p = setWith (letterAt labels) g p
 
   module _ (f : Format) where
     -- "depth first, each before its children", from the start of the format
@@ -80,10 +84,10 @@ module _ (g : Graph) (labels : List ℕ) where
     abbrev pub arcNode : ℕ → ℕ
     arcNode v = letterAt labels v * 2 ^ 24 + blockNumber (arc KBWG v)
 
-    -- "A block is one head, then its arcs by that order."
     abbrev pub arcNodes : ℕ → List ℕ
     arcNodes p = map arcNode (arcsOf p)
 
+    -- "A block is one head, then its arcs by that order."
     unfoldable pub blockOf : ℕ → List ℕ
     blockOf p = headNode p ∷ arcNodes p
 

@@ -29,7 +29,8 @@ use Rattle.macondo_file.specs.ArcLaws.{in-arcs, arcs-once, letters-apart
 use Rattle.macondo_file.specs.SetLaws.{in-set-words}
 use Rattle.macondo_file.specs.BlockLaws.{start-block, child-block}
 use Rattle.macondo_file.specs.Spelling.{wordEndsInLetter, renamedToLetters, endingInLetters}
-use Rattle.macondo_file.specs.WordLaws.{in-in-order, in-spelled, MadeOf, ends, goes, word-node, blockWordsIn, arc-read, block-words, read-made, start-read}
+use Rattle.macondo_file.specs.WordLaws.{in-in-order, in-spelled, MadeOf, ends, goes, word-node}
+use Rattle.macondo_file.specs.WordLaws.{blockWordsIn, arc-read, block-words, read-made, start-read}
 
 -- ---- the letters of a set, and the words along arcs
 abbrev topWord : ℕ → ℕ → List Word
@@ -115,7 +116,8 @@ module _ {g : Graph} {labels : List ℕ} (c : MacondoReady g labels) (f : Format
   read-once zero p m = tt
   read-once (suc k) p m =
       subst NoRepeats (sym (block-words c f few shallow k p m))
-      (no-repeats-append (setWords 64 (setOf g labels p)) (inOrder (arcWords (blockWordsIn g labels f k)) (arcNodes g labels f p)) (set-words-once 64 (setOf g labels p))
+      (no-repeats-append (setWords 64 (setOf g labels p)) (inOrder (arcWords (blockWordsIn g labels f k)) (arcNodes g labels f p))
+      (set-words-once 64 (setOf g labels p))
       (arc-words-once (blockWordsIn g labels f k) (arcNodes g labels f p) (entries-once p m)
       (λ e i. let x = entry-child p e m i in subst (λ b. NoRepeats (blockWordsIn g labels f k b)) (sym (x .2)) (read-once k (x .0) (x .1))))
       (set-arc-apart k p m))

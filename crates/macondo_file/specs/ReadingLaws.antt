@@ -133,7 +133,7 @@ module _ {g : Graph} {labels : List ℕ} (c : MacondoReady g labels) (f : Format
   set-count-back : countAt (setSection file) ≡ length (letterSets g labels f)
   set-count-back = ap countAt sets-read ∙ section-count 8 (letterSets g labels f) (nodePart g labels f name) sets-counted
 
-  -- ---- the header
+  -- ---- as many letters as there are tiles from 1 up
   pub letter-count-read : countAt (letterSection file) ≡ length labels - 1
   letter-count-read = letter-count-back ∙ code-points-length labels
 

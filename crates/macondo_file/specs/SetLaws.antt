@@ -31,7 +31,8 @@ module _ (g : Graph) (labels : List ℕ) where
       → (v : ℕ) × List·Memᴰ v (runOf g p) × (endsInLetter v ≡ true) × (r ≡ letterAt labels v)
   unfolding setOf
   in-set p r e =
-      let m = in-map (letterAt labels) (enders p) r (member-mem r (map (letterAt labels) (enders p)) (sym (bit-set-bit (map (letterAt labels) (enders p)) r) ∙ e)) in
+      let rs = map (letterAt labels) (enders p) in
+      let m = in-map (letterAt labels) (enders p) r (member-mem r rs (sym (bit-set-bit rs r) ∙ e)) in
       let k = in-kept (endsInLetter) (runOf g p) (m .0) (m .1) in
       (m .0, k .0, k .1, m .2)
 

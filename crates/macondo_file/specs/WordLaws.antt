@@ -95,7 +95,8 @@ module _ (g : Graph) (labels : List ℕ) where
   renamed-in : (k p : ℕ) (u : Word) → List·Memᴰ u (wordsUpTo k p) → wordEndsInLetter u ≡ true → RenamedWord k p (renamedToLetters labels u)
   renamed-in k p u m h = map-in (renamedToLetters labels) (kept wordEndsInLetter (wordsUpTo k p)) u (kept-in wordEndsInLetter (wordsUpTo k p) u m h)
 
-  in-renamed : (k p : ℕ) (w : Word) → RenamedWord k p w → (u : Word) × List·Memᴰ u (wordsUpTo k p) × (wordEndsInLetter u ≡ true) × (w ≡ renamedToLetters labels u)
+  in-renamed : (k p : ℕ) (w : Word) → RenamedWord k p w
+      → (u : Word) × List·Memᴰ u (wordsUpTo k p) × (wordEndsInLetter u ≡ true) × (w ≡ renamedToLetters labels u)
   in-renamed k p w n =
       let r = in-map (renamedToLetters labels) (kept wordEndsInLetter (wordsUpTo k p)) w n in
       let s = in-kept wordEndsInLetter (wordsUpTo k p) (r .0) (r .1) in
@@ -188,8 +189,9 @@ module _ {g : Graph} {labels : List ℕ} (c : MacondoReady g labels) (f : Format
     made-read w (goes v u n h t i) =
         let r = arc-read p v m n h in
         let at = map-in (arcNode g labels f) (arcsOf g labels p) v (arcs-in g labels p v n h) in
-        let word = map-in ((arcNode g labels f v / 2 ^ 24) ∷_) (blockWordsIn g labels f k (arcNode g labels f v % 2 ^ 24)) u (rw (r .1) t) in
-        let here = in-order-in (arcWords (blockWordsIn g labels f k)) (arcNodes g labels f p) (arcNode g labels f v) ((arcNode g labels f v / 2 ^ 24) ∷ u) at word in
+        let a = arcNode g labels f v in
+        let word = map-in ((a / 2 ^ 24) ∷_) (blockWordsIn g labels f k (a % 2 ^ 24)) u (rw (r .1) t) in
+        let here = in-order-in (arcWords (blockWordsIn g labels f k)) (arcNodes g labels f p) a ((a / 2 ^ 24) ∷ u) at word in
         rw block-words (Memᴰ·append-right (setWords 64 (setOf g labels p)) (Memᴰ·cast (i ∙ ap (_∷ u) (sym (r .0))) here))
 
     pub read-made : (w : Word) → ReadsBack (suc k) p w → MadeOf g labels (ReadsBack k) p w
@@ -234,7 +236,8 @@ module _ {g : Graph} {labels : List ℕ} (c : MacondoReady g labels) (f : Format
       ≡ blockWordsIn g labels f (length nodes) (blockNumber g labels f (startNode g (marks f .root)))
   start-read name = file-read c f name few ∙ sym (ap (blockWordsIn g labels f (length nodes)) (start-number g labels f))
 
-  pub words-read : (name : List ℕ) (w : Word) → List·Memᴰ w (macondoWords (macondoFile g labels f name)) ↔ List·Memᴰ w (map (renamedToLetters labels) (endingInLetters g f))
+  pub words-read : (name : List ℕ) (w : Word)
+      → List·Memᴰ w (macondoWords (macondoFile g labels f name)) ↔ List·Memᴰ w (map (renamedToLetters labels) (endingInLetters g f))
   words-read name w =
       let s = startNode g (marks f .root) in
       let n = length nodes in
