@@ -3,7 +3,7 @@ use mathlib.Core.Path.{_≡_, refl, sym, ap, _∙_}
 use mathlib.Core.Bool.{Bool, true, false, false≢true}
 use mathlib.Core.List.{List, [], _∷_, _++_}
 use mathlib.Core.Option.{none, some}
-use Prim.Native.Nat.{ℕ}
+use Prim.Native.Nat.{ℕ, zero, suc}
 use Rattle.laws.specs.Cases.{split, isSome, some≢none}
 use Rattle.laws.specs.Lists.{All}
 use Rattle.answers.specs.Answers.{Answer, gives, nothing, refused, Refusal, asAnswer, Row, firstOf}
@@ -44,7 +44,32 @@ rows-passed (c ∷ cs) ds e =
     let p = row-passed (c .0) (c .1) (cs ++ ds) e in
     row-passes (c .0) (c .1) cs (p .0) ∙ rows-passed cs ds (p .1)
 
--- a row with one refusal refuses by that
+-- ---- by the facts that decide it: the k-th test holds, and none before it
+abbrev pub StopsAt : ℕ → Row → Type 0
+StopsAt k [] = ⊥
+StopsAt zero (c ∷ cs) = c .0 ≡ true
+StopsAt (suc k) (c ∷ cs) = (c .0 ≡ false) × StopsAt k cs
+
+abbrev pub answerAt : ℕ → Row → Answer
+answerAt k [] = nothing
+answerAt zero (c ∷ cs) = asAnswer (c .1)
+answerAt (suc k) (c ∷ cs) = answerAt k cs
+
+pub stops-at : (k : ℕ) (row : Row) → StopsAt k row → firstOf row ≡ some (answerAt k row)
+stops-at k [] s = absurd s
+stops-at zero (c ∷ cs) s = row-refuses (c .0) (c .1) cs s
+stops-at (suc k) (c ∷ cs) s = row-passes (c .0) (c .1) cs (s .0) ∙ stops-at k cs (s .1)
+
+-- or no test holds
+pub all-pass : (row : Row) → All (λ (c : Bool × Refusal). c .0 ≡ false) row → firstOf row ≡ none
+all-pass [] s = row-ends
+all-pass (c ∷ cs) s = row-passes (c .0) (c .1) cs (s .0) ∙ all-pass cs (s .1)
+
+pub passed-all : (row : Row) → firstOf row ≡ none → All (λ (c : Bool × Refusal). c .0 ≡ false) row
+passed-all [] e = tt
+passed-all (c ∷ cs) e = let p = row-passed (c .0) (c .1) cs e in (p .0, passed-all cs (p .1))
+
+-- ---- what it refuses by: a row with one refusal refuses by that
 pub one-refusal : (r : Refusal) (cs : Row) → All (λ (c : Bool × Refusal). c .1 ≡ r) cs → isSome (firstOf cs) ≡ true → firstOf cs ≡ some (asAnswer r)
 unfolding firstOf
 one-refusal r [] h e = absurd (false≢true e)

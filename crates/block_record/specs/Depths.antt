@@ -33,7 +33,7 @@ module _ (g : Graph) where
   abbrev pub Depths : List ℕ → Type 0
   Depths w = (q : ℕ) → q < length g → getD w q 0 ≢ 0 → getD w (depthAt (length g) q) 0 ≢ 0 → Depth q (getD w (depthAt (length g) q) 0)
 
-  -- every chain from p goes on one from each block that is being followed
+  -- a chain from p, after each block that is being followed, makes a chain one run longer from that block
   abbrev pub Below : List ℕ → ℕ → Type 0
   Below w p = (q : ℕ) → q < length g → Followed w q → (k : ℕ) → deeper g k p ≡ true → deeper g (suc k) q ≡ true
 
@@ -41,5 +41,6 @@ module _ (g : Graph) where
   abbrev pub NoneBut : ℕ → List ℕ → List ℕ → Type 0
   NoneBut p w w′ = (q : ℕ) → q < length g → q ≢ p → Followed w′ q → Followed w q
 
+  -- no block is followed now that was not before
   abbrev pub NoneLeft : List ℕ → List ℕ → Type 0
   NoneLeft w w′ = (q : ℕ) → q < length g → Followed w′ q → Followed w q

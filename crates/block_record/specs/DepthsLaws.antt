@@ -1,8 +1,8 @@
 -- Depths of blocks while they are numbered. The idea: each arc followed adds one run to every chain, so an arc to a block that is being
--- followed goes round for ever; and the depth of a run is one more than the most of those that its arcs lead to.
+-- followed closes a loop; and the depth of a run is one more than the most of those that its arcs lead to.
 use mathlib.Core.Path.{_≡_, refl, sym, ap, _∙_, subst}
 use mathlib.Core.Logic.{_≢_}
-use mathlib.Core.Bool.{Bool, true, false, _||_, true≢false}
+use mathlib.Core.Bool.{true, _||_, true≢false, or-false, or-assoc}
 use mathlib.Core.List.{List, [], _∷_, List·Memᴰ}
 use Prim.Native.Nat.{ℕ, zero, suc, _+_, _*_, _≤_, _<_, max}
 use native.Mathlib.Omega.{arith}
@@ -14,10 +14,12 @@ use Rattle.laws.specs.Cases.{split}
 use Rattle.laws.specs.Lists.{someOf}
 use Rattle.laws.specs.Members.{some-of, of-some}
 use Rattle.graph.specs.Runs.{Graph}
-use Rattle.export.specs.Starts.{deeper}
-use Rattle.export.specs.ChainLaws.{arcsFrom, shallow-arc, shallow-more, shallow-over}
-use Rattle.laws.specs.Tests.{or-assoc, ltb-max, ltb-suc}
+use Rattle.export.specs.Starts.{arcsFrom, deeper}
+use Rattle.export.specs.ChainLaws.{shallow-arc, shallow-more, shallow-over}
+use Rattle.laws.specs.Tests.{ltb-max, ltb-suc}
 use Rattle.block_record.specs.Depths.{depthAt, Depth, Deepest, Followed, Depths, Below, NoneBut, NoneLeft}
+use Rattle.block_record.specs.Record.{blockPushed}
+use Rattle.block_record.specs.declared.BlockTally.{BlockTally}
 
 module _ (g : Graph) where
   -- ---- chains by one arc
@@ -63,11 +65,7 @@ module _ (g : Graph) where
   pub deepest-all : (p h : ℕ) → Deepest g p h [] → Depth g p (h + 1)
   unfolding deeper
   deepest-all p h a zero = sym (lt-ltb 0 (h + 1) (omega arith))
-  deepest-all p h a (suc k) = sym (a k) ∙ or-none (ltb k h) ∙ ltb-suc k h
-    where
-      or-none : (b : Bool) → b || false ≡ b
-      or-none true = refl
-      or-none false = refl
+  deepest-all p h a (suc k) = sym (a k) ∙ or-false (ltb k h) ∙ ltb-suc k h
 
 -- ---- the entries of the work list
 pub depths-none : (g : Graph) (w : List ℕ) → ((q : ℕ) → q < length g → getD w q 0 ≡ 0) → Depths g w × ((p : ℕ) → Below g w p)
@@ -87,7 +85,7 @@ module _ (g : Graph) (w : List ℕ) (p d : ℕ) (l : p < length g) (room : 3 * l
   depth-same : getD after (depthAt (length g) p) 0 ≡ d
   depth-same = getD-set-same w (depthAt (length g) p) d 0 (omega arith)
 
-  pub none-but : NoneBut g p w after
+  none-but : NoneBut g p w after
   none-but q m n f = ((λ e. f .0 (place-same q m ∙ e)), sym (depth-other q n) ∙ f .1)
 
   -- a block that is numbered and followed from now on, or whose depth is found
@@ -103,29 +101,38 @@ module _ (g : Graph) (w : List ℕ) (p d : ℕ) (l : p < length g) (room : 3 * l
       subst (Depth g q) (sym (depth-other q n)) (h q m (λ e. a (place-same q m ∙ e)) (λ e. b (depth-other q n ∙ e))))
 
   -- then p is no longer followed
-  pub none-left : (w₀ : List ℕ) → d ≢ 0 → NoneBut g p w₀ w → NoneLeft g w₀ after
-  none-left w₀ n h q m f =
+  pub none-left-followed : (w₀ : List ℕ) → d ≢ 0 → NoneBut g p w₀ w → NoneLeft g w₀ after
+  none-left-followed w₀ n h q m f =
       let other : q ≢ p = λ i. n (sym (ap (λ x. getD after (depthAt (length g) x) 0) i ∙ depth-same) ∙ f .1) in
       h q m other (none-but q m other f)
 
--- a block put into the record, its depth 0: it is numbered, and followed from now on
-module _ (g : Graph) (w : List ℕ) (p v b : ℕ) (l : p < length g) (few : b < length g) (room : 3 * length g ≤ length w) where
-  abbrev pushed : List ℕ
-  pushed = set (set w p v) (length g + b) p
+-- an entry past the depths changes nothing of what is followed
+pub left-past : (g : Graph) (w₀ w : List ℕ) (i v : ℕ) → 3 * length g ≤ i → NoneLeft g w₀ w → NoneLeft g w₀ (set w i v)
+left-past g w₀ w i v b h q m f =
+    h q m (
+      (λ e. f .0 (getD-set-other w i q v 0 (λ z. omega arith) ∙ e)),
+      sym (getD-set-other w i (depthAt (length g) q) v 0 (λ z. omega arith)) ∙ f .1,
+    )
 
-  abbrev pub opened : List ℕ
+-- a block put into the record, its depth 0: it is numbered, and followed from now on
+module _ (g : Graph) (w : List ℕ) (p : ℕ) (t : BlockTally) (l : p < length g) (few : t .blocks < length g) (room : 3 * length g ≤ length w) where
+  abbrev pushed : List ℕ
+  pushed = blockPushed (length g) w p t
+
+  abbrev opened : List ℕ
   opened = set pushed (depthAt (length g) p) 0
 
   pushed-room : 3 * length g ≤ length pushed
   pushed-room = simp length-set room
 
   place-before : (q : ℕ) → q < length g → q ≢ p → getD pushed q 0 ≡ getD w q 0
-  place-before q m n = getD-set-other (set w p v) (length g + b) q p 0 (λ e. omega arith) ∙ getD-set-other w p q v 0 n
+  place-before q m n =
+      getD-set-other (set w p (t .nodes + 1)) (length g + t .blocks) q p 0 (λ e. omega arith) ∙ getD-set-other w p q (t .nodes + 1) 0 n
 
   depth-before : (q : ℕ) → getD pushed (depthAt (length g) q) 0 ≡ getD w (depthAt (length g) q) 0
   depth-before q =
-      getD-set-other (set w p v) (length g + b) (depthAt (length g) q) p 0 (λ e. omega arith)
-      ∙ getD-set-other w p (depthAt (length g) q) v 0 (λ e. omega arith)
+      getD-set-other (set w p (t .nodes + 1)) (length g + t .blocks) (depthAt (length g) q) p 0 (λ e. omega arith)
+      ∙ getD-set-other w p (depthAt (length g) q) (t .nodes + 1) 0 (λ e. omega arith)
 
   pub opened-but : NoneBut g p w opened
   opened-but q m n f =

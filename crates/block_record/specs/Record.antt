@@ -4,14 +4,14 @@ use mathlib.Core.Bool.{true, false}
 use mathlib.Core.List.{List}
 use Prim.Native.Nat.{ℕ, zero, suc, _+_, _-_, _<_}
 use lib.Dec.{eqb}
-use lib.ListN.{getD, take, drop}
+use lib.ListN.{getD, set, take, drop}
 use Rattle.laws.specs.Lists.{member}
-use Rattle.export.specs.Blocks.{met, blockAt, total}
+use Rattle.export.specs.Blocks.{blockAt, total}
 use Rattle.block_record.specs.declared.Place.{Place}
 use Rattle.block_record.specs.declared.Place.the-variants.{Numbered, Unnumbered}
 use Rattle.block_record.specs.declared.BlockTally.{BlockTally}
 
--- entry p is 0, or the place of p's block and 1
+-- entry p is 0, or the place of p's block plus 1
 abbrev pub placeAt : List ℕ → ℕ → Place
 placeAt w p = elim (eqb (getD w p 0) 0) [ true ↦ Unnumbered | false ↦ Numbered (getD w p 0 - 1) ]
 
@@ -21,6 +21,16 @@ blocksIn n w k = take k (drop n w)
 
 abbrev pub orderIn : ℕ → List ℕ → BlockTally → List ℕ
 orderIn n w t = blocksIn n w (t .blocks)
+
+-- the work list with p's block after those of the tally: p's place plus 1, and p in the order
+abbrev pub blockPushed : ℕ → List ℕ → ℕ → BlockTally → List ℕ
+blockPushed n w p t = set (set w p (t .nodes + 1)) (n + t .blocks) p
+
+-- work list and tally after p's block, which takes s nodes
+pub record Pushed (n : ℕ) (w : List ℕ) (p : ℕ) (t : BlockTally) (s : ℕ) (w′ : List ℕ) (t′ : BlockTally) : Type 0 where
+  pub list : w′ ≡ blockPushed n w p t
+  pub blocks : t′ .blocks ≡ t .blocks + 1
+  pub nodes : t′ .nodes ≡ t .nodes + s
 
 -- how many of the first n entries are not 0
 unfoldable pub used : ℕ → List ℕ → ℕ
@@ -34,7 +44,3 @@ pub record HoldsBlocks (n : ℕ) (size : ℕ → ℕ) (base : ℕ) (w : List ℕ
   pub sum : t .nodes ≡ base + total size o
   pub new : (p : ℕ) → p < n → member p o ≡ false → getD w p 0 ≡ 0
   pub old : (p : ℕ) → p < n → member p o ≡ true → getD w p 0 ≡ blockAt size base o p + 1
-
--- what is met through an arc, which may be none
-unfoldable pub metBy : (ℕ → List ℕ) → ℕ → List ℕ → ℕ → List ℕ
-metBy children left seen p = elim (eqb p 0) [ true ↦ seen | false ↦ met children left seen p ]

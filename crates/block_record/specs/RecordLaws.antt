@@ -17,20 +17,20 @@ use Rattle.laws.specs.Lists.{member}
 use Rattle.export.specs.Blocks.{each, met, blockAt, total}
 use Rattle.block_record.specs.declared.Place.the-variants.{Numbered, Unnumbered}
 use Rattle.block_record.specs.declared.BlockTally.{BlockTally}
-use Rattle.block_record.specs.Record.{placeAt, used, orderIn, HoldsBlocks, metBy}
+use Rattle.block_record.specs.Record.{placeAt, orderIn, blockPushed, Pushed, used, HoldsBlocks}
 
 -- ---- entries that are not 0
 mark-le : (t : Bool) → elim t [ true ↦ 0 | false ↦ 1 ] ≤ 1
 mark-le true = omega arith
 mark-le false = omega arith
 
-pub used-le : (n : ℕ) (w : List ℕ) → used n w ≤ n
+used-le : (n : ℕ) (w : List ℕ) → used n w ≤ n
 unfolding used
 used-le zero w = omega arith
 used-le (suc n) w = omega (arith, used-le n w, mark-le (eqb (getD w n 0) 0))
 
 -- where one of the first n entries is 0, fewer than n are not
-pub used-lt : (n : ℕ) (w : List ℕ) (p : ℕ) → p < n → getD w p 0 ≡ 0 → used n w < n
+used-lt : (n : ℕ) (w : List ℕ) (p : ℕ) → p < n → getD w p 0 ≡ 0 → used n w < n
 unfolding used
 used-lt zero w p h e = absurd (omega arith)
 used-lt (suc n) w p h e =
@@ -82,14 +82,6 @@ module _ (children : ℕ → List ℕ) where
       let z : c ≡ suc c - 1 = omega arith in
       rw (e, met) (ap (λ k. each (λ s q. met children k s q) (o ++ p ∷ []) (children p)) z)
 
-  pub met-by-none : (c : ℕ) (o : List ℕ) (p : ℕ) → p ≡ 0 → metBy children c o p ≡ o
-  unfolding metBy
-  met-by-none c o p e = rw (eq-eqb p 0 e, metBy)
-
-  pub met-by-arc : (c : ℕ) (o : List ℕ) (p : ℕ) → p ≢ 0 → metBy children c o p ≡ met children c o p
-  unfolding metBy
-  met-by-arc c o p e = rw (ne-eqb p 0 e, metBy)
-
 -- ---- totals and places as the order grows
 module _ (size : ℕ → ℕ) where
   pub total-snoc : (o : List ℕ) (p : ℕ) → total size (o ++ p ∷ []) ≡ total size o + size p
@@ -129,18 +121,26 @@ module _ (size : ℕ → ℕ) where
       (λ e. absurd (true≢false (sym (rw e) ∙ h)))
       (λ e. let a = at-new (base + size x) o p (rw e at h) in rw (e, blockAt) (omega arith))
 
+-- ---- how many blocks there are: one for each node at most, and fewer where a node has none
+module _ {n : ℕ} {size : ℕ → ℕ} {base : ℕ} {w : List ℕ} {t : BlockTally} {o : List ℕ} (h : HoldsBlocks n size base w t o) where
+  pub holds-most : t .blocks ≤ n
+  holds-most = let a = used-le n w in let b = h .many in omega arith
+
+  pub holds-room : (p : ℕ) → p < n → getD w p 0 ≡ 0 → t .blocks < n
+  holds-room p l e = let a = used-lt n w p l e in let b = h .many in omega arith
+
 -- ---- a block pushed
 module _ {n : ℕ} {size : ℕ → ℕ} {base : ℕ} {w : List ℕ} {t : BlockTally} {o : List ℕ}
     (p : ℕ) (h : HoldsBlocks n size base w t o) (l : p < n) (room : n + n ≤ length w) (fresh : member p o ≡ false) where
   few : t .blocks < n
-  few = let a = used-lt n w p l (h .new p l fresh) in let b = h .many in omega arith
+  few = holds-room h p l (h .new p l fresh)
 
   -- the work list with p's place, and with p in the order
   abbrev placed : List ℕ
   placed = set w p (t .nodes + 1)
 
-  abbrev pub pushed : List ℕ
-  pushed = set (set w p (t .nodes + 1)) (n + t .blocks) p
+  abbrev pushed : List ℕ
+  pushed = blockPushed n w p t
 
   pushed-order : take (suc (t .blocks)) (drop n pushed) ≡ o ++ p ∷ []
   pushed-order =
@@ -166,14 +166,13 @@ module _ {n : ℕ} {size : ℕ → ℕ} {base : ℕ} {w : List ℕ} {t : BlockTa
       entry p l ∙ getD-set-same w p (t .nodes + 1) 0 (omega arith)
       ∙ (let a = at-new size base o p fresh in let b = h .sum in omega arith)
 
-  pub push-holds : (w′ : List ℕ) (t′ : BlockTally) (s : ℕ) → s ≡ size p
-      → (w′ ≡ pushed) × (t′ .blocks ≡ t .blocks + 1) × (t′ .nodes ≡ t .nodes + s) → HoldsBlocks n size base w′ t′ (o ++ p ∷ [])
-  push-holds w′ t′ s z a =
-      subst (λ x. HoldsBlocks n size base x t′ (o ++ p ∷ [])) (sym (a .0))
+  pub push-holds : {w′ : List ℕ} {t′ : BlockTally} {s : ℕ} → s ≡ size p → Pushed n w p t s w′ t′ → HoldsBlocks n size base w′ t′ (o ++ p ∷ [])
+  push-holds {t′ = t′} z a =
+      subst (λ x. HoldsBlocks n size base x t′ (o ++ p ∷ [])) (sym (a .list))
       (record {
-        order = ap (λ k. take k (drop n pushed)) (a .1 ∙ add-one (t .blocks)) ∙ pushed-order;
-        many = pushed-used ∙ sym (a .1);
-        sum = let b = h .sum in let x = a .2 in let y = total-snoc size o p in omega arith;
+        order = ap (λ k. take k (drop n pushed)) (a .blocks ∙ add-one (t .blocks)) ∙ pushed-order;
+        many = pushed-used ∙ sym (a .blocks);
+        sum = let b = h .sum in let x = a .nodes in let y = total-snoc size o p in omega arith;
         new = λ q m e.
             let f : member q o || eqb q p ≡ false = sym (in-snoc q o p) ∙ e in
             let other = eqb-false q p (or-false-right (member q o) (eqb q p) f) in
@@ -193,8 +192,7 @@ module _ {n : ℕ} {size : ℕ → ℕ} {base : ℕ} {w : List ℕ} {t : BlockTa
       record {
         order =
             let j : i ≡ n + (i - n) = omega arith in
-            let few = used-le n w in
-            let many = h .many in
+            let few = holds-most h in
             ap (λ x. take (t .blocks) (drop n (set w x v))) j ∙ ap (take (t .blocks)) (drop-set-add n w (i - n) v)
             ∙ take-set-le (t .blocks) (drop n w) (i - n) v (omega arith) ∙ h .order;
         many = used-above n w i v (omega arith) ∙ h .many;
@@ -207,8 +205,8 @@ module _ {n : ℕ} {size : ℕ → ℕ} {base : ℕ} {w : List ℕ} {t : BlockTa
   pub holds-at : {o′ : List ℕ} → o ≡ o′ → HoldsBlocks n size base w t o → HoldsBlocks n size base w t o′
   holds-at e h = subst (HoldsBlocks n size base w t) e h
 
-  pub self : HoldsBlocks n size base w t o → HoldsBlocks n size base w t (orderIn n w t)
-  self h = holds-at (sym (h .order)) h
+  pub holds-here : HoldsBlocks n size base w t o → HoldsBlocks n size base w t (orderIn n w t)
+  holds-here h = holds-at (sym (h .order)) h
 
 -- an entry says whether its run is numbered
 module _ {n : ℕ} {size : ℕ → ℕ} {base : ℕ} {w : List ℕ} {t : BlockTally} {o : List ℕ} (h : HoldsBlocks n size base w t o) (p : ℕ) (l : p < n) where

@@ -1,9 +1,9 @@
-// The record of blocks already numbered, in a work list: for each node 0, or the place of its block and 1; then, from n on, the blocks
+// The record of blocks already numbered, in a work list: for each node 0, or the place of its block plus 1; then, from n on, the blocks
 // in the order of their places; and from 2n on, for each node whose block's arcs are all followed, the runs in the longest chain from it.
 ghost use mathlib.Core.Path.{_≡_};
 ghost use Prim.Native.Nat.{_+_, _*_, _≤_, _<_};
 ghost use lib.ListN.{length, getD, set};
-ghost use Rattle.block_record.specs.Record.{placeAt};
+ghost use Rattle.block_record.specs.Record.{placeAt, Pushed};
 ghost use Rattle.block_record.specs.Depths.{depthAt};
 
 // What the record says of a node: where its block stands.
@@ -34,8 +34,7 @@ pub fn place_of(work: &[u32], p: usize) -> Place
 // Numbers the block of node p, which takes `size` nodes; the record must have room for it, and the sum must fit 32 bits.
 pub fn push_block(n: usize, work: &mut [u32], p: usize, t: BlockTally, size: u32) -> BlockTally
     requires { ⌜ (n ≤ 16777216) × (n + n ≤ length (now work)) × (p < n) × (t .blocks < n) × (t .nodes + size < 4294967296) × (t .nodes < 4294967295) ⌝ }
-    ensures { λ r. ⌜ (now (work .exit) ≡ set (set (now (work .entry)) p (t .nodes + 1)) (n + t .blocks) p)
-        × (r .blocks ≡ t .blocks + 1) × (r .nodes ≡ t .nodes + size) ⌝ }
+    ensures { λ r. ⌜ Pushed n (now (work .entry)) p t size (now (work .exit)) r ⌝ }
 {
     let at = n + (t.blocks as usize);
     work[p] = t.nodes + 1;

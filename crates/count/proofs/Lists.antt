@@ -4,9 +4,9 @@ use mathlib.Core.List.{List, _++_}
 use Prim.Native.Nat.{ℕ, _+_, _-_, _≤_}
 use native.Mathlib.Omega.{arith}
 use lib.ListN.{length, drop, replicate, length-replicate}
-use lib.Seq.{drop-drop, drop-at}
-use Rattle.laws.specs.Cleared.{cleared, cleared-length}
-use Rattle.graph.specs.Lent.{Kept}
+use lib.Seq.{drop-drop}
+use Rattle.laws.specs.Cleared.{cleared}
+use Rattle.graph.specs.Lent.{Kept, kept-part}
 
 pub kept-all : (n : ℕ) (l : List ℕ) → Kept n l l
 kept-all n l = record { size = refl; rest = refl }
@@ -19,7 +19,7 @@ kept-further m n l r h k =
 
 module _ (n : ℕ) (l : List ℕ) (h : n ≤ length l) where
   pub cleared-kept : Kept n l (cleared n l)
-  cleared-kept = record { size = cleared-length n l h; rest = drop-at (replicate n 0) (drop n l) n (length-replicate n 0) }
+  cleared-kept = kept-part n l (replicate n 0) h (length-replicate n 0)
 
 -- what stands past the numbers set is what stood there before
 pub cleared-of-kept : (n : ℕ) (l r : List ℕ) → Kept n l r → cleared n r ≡ cleared n l

@@ -1,4 +1,5 @@
-pub mod GrowthLaws
-pub mod SearchLaws
-pub mod StoredLaws
-pub mod TableLaws
+-- What the proofs of several functions use.
+mod GrowthLaws
+mod SearchLaws
+mod StoredLaws
+mod TableLaws

@@ -3,7 +3,7 @@
 use mathlib.Core.Path.{_≡_, sym, ap, _∙_, subst}
 use mathlib.Core.Bool.{Bool, true, false, _&&_, not, true≢false}
 use mathlib.Core.Logic.{_≢_, ⊎-elim}
-use mathlib.Core.List.{List, [], _∷_, map, List·Memᴰ, List·Memᴰ·not-nil, List·Memᴰ·cases-cons}
+use mathlib.Core.List.{List, [], _∷_, List·Memᴰ, List·Memᴰ·not-nil, List·Memᴰ·cases-cons}
 use Prim.Native.Nat.{ℕ, zero, suc, _+_, _-_, _≤_, _<_}
 use native.Mathlib.Nat.{zero-add, suc-add}
 use native.Mathlib.Omega.{arith}
@@ -19,7 +19,7 @@ use Rattle.graph.specs.Words.{inOrder, spelled, wordsWithin, words}
 use Rattle.graph.specs.ChecksLaws.{Closed}
 use Rattle.graph.specs.RunLaws.{in-graph}
 use Rattle.graph.specs.WordsEquation.{in-order-ext, spelled-ext, Short, words-within-stable}
-use Rattle.export.specs.Starts.{runOf, hasArc, deeper}
+use Rattle.export.specs.Starts.{runOf, hasArc, arcsFrom, deeper}
 use Rattle.export.specs.BlocksLaws.{Low}
 
 -- with no run left every chain has too many
@@ -36,20 +36,16 @@ node-of (x ∷ g) v m =
     (List·Memᴰ·cases-cons m)
 
 module _ (g : Graph) where
-  -- the nodes that the arcs of the run from p lead to
-  abbrev pub arcsFrom : ℕ → List ℕ
-  arcsFrom p = map (arc KBWG) (kept hasArc (runOf g p))
-
-  pub arc-from : (p v : ℕ) → List·Memᴰ v (runOf g p) → hasArc v ≡ true → List·Memᴰ (arc KBWG v) (arcsFrom p)
+  pub arc-from : (p v : ℕ) → List·Memᴰ v (runOf g p) → hasArc v ≡ true → List·Memᴰ (arc KBWG v) (arcsFrom g p)
   arc-from p v m h = map-in (arc KBWG) (kept hasArc (runOf g p)) v (kept-in hasArc (runOf g p) v m h)
 
-  pub from-arc : (p q : ℕ) → List·Memᴰ q (arcsFrom p) → (v : ℕ) × List·Memᴰ v (runOf g p) × (hasArc v ≡ true) × (q ≡ arc KBWG v)
+  pub from-arc : (p q : ℕ) → List·Memᴰ q (arcsFrom g p) → (v : ℕ) × List·Memᴰ v (runOf g p) × (hasArc v ≡ true) × (q ≡ arc KBWG v)
   from-arc p q m =
       let r = in-map (arc KBWG) (kept hasArc (runOf g p)) q m in
       let k = in-kept hasArc (runOf g p) (r .0) (r .1) in
       (r .0, k .0, k .1, r .2)
 
-  pub arcs-inside : Closed g → (p q : ℕ) → List·Memᴰ q (arcsFrom p) → q < length g
+  pub arcs-inside : Closed g → (p q : ℕ) → List·Memᴰ q (arcsFrom g p) → q < length g
   arcs-inside c p q m =
       let r = from-arc p q m in
       let n = node-of g (r .0) (in-graph KBWG g p (r .0) (r .1)) in
@@ -57,7 +53,7 @@ module _ (g : Graph) where
       subst (λ k. k < length g) (ap (arc KBWG) (n .2) ∙ sym (r .3)) h
 
   -- ---- one run down, and one up
-  pub shallow-arc : (k p q : ℕ) → deeper g (suc k) p ≡ false → List·Memᴰ q (arcsFrom p) → deeper g k q ≡ false
+  pub shallow-arc : (k p q : ℕ) → deeper g (suc k) p ≡ false → List·Memᴰ q (arcsFrom g p) → deeper g k q ≡ false
   unfolding deeper
   shallow-arc k p q e m =
       let r = from-arc p q m in
@@ -65,7 +61,7 @@ module _ (g : Graph) where
       let has = r .2 in
       ap (deeper g k) (r .3) ∙ (rw has at a)
 
-  pub shallow-over : (k p : ℕ) → ((q : ℕ) → List·Memᴰ q (arcsFrom p) → deeper g k q ≡ false) → deeper g (suc k) p ≡ false
+  pub shallow-over : (k p : ℕ) → ((q : ℕ) → List·Memᴰ q (arcsFrom g p) → deeper g k q ≡ false) → deeper g (suc k) p ≡ false
   unfolding deeper
   shallow-over k p h =
       split (deeper g (suc k) p)
@@ -93,13 +89,13 @@ module _ (g : Graph) where
   shallow-within k j p h e = let i : j ≡ (j - k) + k = omega arith in rw i (shallow-by (j - k) k p e)
 
   -- so a writer's walk, which has a turn for each run of a chain, ends by itself
-  pub shallow-low : (children : ℕ → List ℕ) → ((p q : ℕ) → List·Memᴰ q (children p) → List·Memᴰ q (arcsFrom p))
+  pub shallow-low : (children : ℕ → List ℕ) → ((p q : ℕ) → List·Memᴰ q (children p) → List·Memᴰ q (arcsFrom g p))
       → (k p : ℕ) → deeper g k p ≡ false → Low children k p
   shallow-low children c zero p e = none-deeper p e
   shallow-low children c (suc k) p e = λ q m. shallow-low children c k q (shallow-arc k p q e (c p q m))
 
   -- ---- over nodes that the arcs do not leave: no chain has more runs than there are such nodes
-  module _ (xs : List ℕ) (closed : (p q : ℕ) → List·Memᴰ p xs → List·Memᴰ q (arcsFrom p) → List·Memᴰ q xs) where
+  module _ (xs : List ℕ) (closed : (p q : ℕ) → List·Memᴰ p xs → List·Memᴰ q (arcsFrom g p) → List·Memᴰ q xs) where
     -- those from which no chain has over k runs
     abbrev shallow : ℕ → List ℕ
     shallow k = kept (λ x. not (deeper g k x)) xs

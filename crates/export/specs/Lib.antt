@@ -5,3 +5,4 @@ pub mod Blocks
 pub mod BlocksLaws
 pub mod ChainLaws
 pub mod Written
+pub mod WrittenLaws

@@ -1,10 +1,10 @@
 -- What both writers read of a graph, from document 01, "Files for other programs".
 use mathlib.Core.Bool.{Bool, true, _&&_, not}
-use mathlib.Core.List.{List}
+use mathlib.Core.List.{List, map}
 use Prim.Native.Nat.{ℕ, zero, suc}
 use lib.Dec.{eqb, leb}
 use lib.ListN.{length, drop}
-use Rattle.laws.specs.Lists.{someOf}
+use Rattle.laws.specs.Lists.{kept, someOf}
 use Rattle.node.specs.Nodes.{KBWG, tile, arc}
 use Rattle.graph.specs.Runs.{Graph, node, run}
 
@@ -15,6 +15,10 @@ runOf g p = run KBWG (drop p g)
 -- "Arc 0 means no arc."
 abbrev pub hasArc : ℕ → Bool
 hasArc v = not (eqb (arc KBWG v) 0)
+
+-- the nodes that the arcs of the run from p lead to
+abbrev pub arcsFrom : Graph → ℕ → List ℕ
+arcsFrom g p = map (arc KBWG) (kept hasArc (runOf g p))
 
 -- "21+ tile not below the label count", of any node
 abbrev pub unlabelled : Graph → List ℕ → Bool

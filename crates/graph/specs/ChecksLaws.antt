@@ -13,7 +13,7 @@ use Rattle.laws.specs.Cases.{or-false-left, or-false-right}
 use Rattle.answers.specs.Answers.{firstOf}
 use Rattle.answers.specs.RowLaws.{row-passed}
 use Rattle.node.specs.Nodes.{BitLayout, KBWG, arc, isEnd}
-use Rattle.graph.specs.Runs.{Graph, node, largestArc, lastEnds}
+use Rattle.graph.specs.Runs.{Graph, node, largestArc, lastEnds, startNode}
 use Rattle.graph.specs.Checks.{nodesRow, graphRow}
 
 module _ (y : BitLayout) where
@@ -73,3 +73,7 @@ fit g e =
       most = ltb-false 16_777_216 (length g) (or-false-right small large (a .0));
       steps = closed g (a .1);
     }
+
+-- node 0 or 1 leads to the start
+pub start-inside : {g : Graph} → Fit g → (root : ℕ) → root < 2 → startNode g root < length g
+start-inside f root h = let two = f .two in f .steps .arcs root (omega arith)

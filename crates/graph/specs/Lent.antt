@@ -1,11 +1,12 @@
 -- What a call leaves of the lists that it is lent, from document 01, "Where each check stands": "A call writes only what this paper
 -- names; entries past that stay."
 use mathlib.Core.Path.{_≡_, sym, ap, _∙_}
-use mathlib.Core.List.{List}
+use mathlib.Core.List.{List, _++_}
 use mathlib.Core.Option.{none, some}
-use Prim.Native.Nat.{ℕ, _<_}
-use lib.ListN.{length, drop, set, length-set}
-use lib.Seq.{drop-set-lt}
+use Prim.Native.Nat.{ℕ, _≤_, _<_}
+use native.Mathlib.Omega.{arith}
+use lib.ListN.{length, drop, set, length-set, length-append, length-drop}
+use lib.Seq.{drop-set-lt, drop-at}
 use Rattle.laws.specs.Cases.{some≢none}
 use Rattle.answers.specs.Answers.{Answer, Row, firstOf}
 
@@ -19,6 +20,10 @@ kept-then a b = record { size = b .size ∙ a .size; rest = b .rest ∙ a .rest 
 
 pub kept-set : (n : ℕ) (l : List ℕ) (i v : ℕ) → i < n → Kept n l (set l i v)
 kept-set n l i v h = record { size = length-set l i v; rest = drop-set-lt n l i v h }
+
+-- a list whose first n numbers are others
+pub kept-part : (n : ℕ) (l part : List ℕ) → n ≤ length l → length part ≡ n → Kept n l (part ++ drop n l)
+kept-part n l part h e = record { size = simp (length-append, length-drop) (omega arith); rest = drop-at part (drop n l) n e }
 
 -- A work list of n numbers, "free afterwards": where a check before the walk refuses it is as before.
 pub record WorkKept (checks : Row) (n : ℕ) (before after : List ℕ) : Type 0 where

@@ -71,7 +71,7 @@ module _ (g : Graph) (labels name : List ℕ) (f : Format) (lentWork : ℕ) (len
   macondo-equation : WordsAt g (startNode g (marks f .root))
   macondo-equation =
       let row = macondo-wrote .0 in
-      let fits = accepted-checks g labels name f lentWork (length lent) row .sound in
+      let fits = accepted-checks g labels name f lentWork (length lent) row .ready .fit in
       shallow-equation g (fits .steps) 64 (startNode g (marks f .root)) (fits .steps .arcs (marks f .root) (root-inside f (fits .two)))
       (accepted-walk g labels name f lentWork (length lent) row .shallow)
     where

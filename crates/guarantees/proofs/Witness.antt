@@ -29,10 +29,10 @@ use Rattle.export.specs.Written.{Written}
 use Rattle.macondo_file.specs.Alphabet.{letters, letterOf}
 use Rattle.macondo_file.specs.File.{Format, dawg, gaddag, arcsOf, setOf, blocks, letterSets, blockOf, macondoNodes, macondoFile}
 use Rattle.macondo_file.specs.Row.{macondoRow, toMacondo}
-use Rattle.macondo_file.specs.Spelling as macondo
+use Rattle.macondo_file.specs.Spelling.{SpellsMacondo}
 use Rattle.lxd_file.specs.File.{runs, child, lxdNode, lxdNodes, lxdFile}
 use Rattle.lxd_file.specs.Row.{lxdRow, toLxd}
-use Rattle.lxd_file.specs.Spelling as lxd
+use Rattle.lxd_file.specs.Spelling.{SpellsLxd}
 use Rattle.alphagrams.specs.Alphagrams.{NeverDescends, AlphagramLexicon, AlphaMeans}
 use Rattle.alphagrams.specs.MeaningLaws.{alpha-means}
 use Rattle.guarantees.specs.Demand3.{CountedLoad, Wrote, loadedNodes}
@@ -136,15 +136,15 @@ wordsOfGaddag = (0 ∷ 1 ∷ []) ∷ (0 ∷ 1 ∷ 2 ∷ []) ∷ (0 ∷ 2 ∷ 2 �
 abbrev wordsOfLxd : List Word
 wordsOfLxd = (0x41 ∷ []) ∷ (0x41 ∷ 0x42 ∷ []) ∷ (0x42 ∷ 0x42 ∷ []) ∷ []
 
-spelled-dawg : macondo.Spells (take 57 (G-macondo dawg .bytes)) labels wordsOfDawg
+spelled-dawg : SpellsMacondo (take 57 (G-macondo dawg .bytes)) labels wordsOfDawg
 unfolding words wordsWithin inOrder spelled run
 spelled-dawg = demand-3 countLimit .macondo G labels [] dawg 40 bytes (take 57 (G-macondo dawg .bytes)) dawg-file .1
 
-spelled-gaddag : macondo.Spells (take 73 (G-macondo gaddag .bytes)) labels wordsOfGaddag
+spelled-gaddag : SpellsMacondo (take 73 (G-macondo gaddag .bytes)) labels wordsOfGaddag
 unfolding words wordsWithin inOrder spelled run
 spelled-gaddag = demand-3 countLimit .macondo G labels [] gaddag 40 bytes (take 73 (G-macondo gaddag .bytes)) gaddag-file .1
 
-spelled-lxd : lxd.Spells (take 84 (G-lxd .bytes)) wordsOfLxd
+spelled-lxd : SpellsLxd (take 84 (G-lxd .bytes)) wordsOfLxd
 unfolding words wordsWithin inOrder spelled run
 spelled-lxd = demand-3 countLimit .lxd G labels (0x47 ∷ []) [] 40 bytes (take 84 (G-lxd .bytes)) lxd-file .1
 
@@ -155,11 +155,11 @@ pub record Met : Type 0 where
   pub numbered : WordNumbers countLimit G (loadedNodes 20 Kwg lent G-pieces) counted 2
   pub lent-longer : WordNumbers countLimit G otherNodes otherCounts 2
   pub dawg-written : Wrote (G-macondo dawg) (take 57 (G-macondo dawg .bytes))
-  pub dawg-spelled : macondo.Spells (take 57 (G-macondo dawg .bytes)) labels wordsOfDawg
+  pub dawg-spelled : SpellsMacondo (take 57 (G-macondo dawg .bytes)) labels wordsOfDawg
   pub gaddag-written : Wrote (G-macondo gaddag) (take 73 (G-macondo gaddag .bytes))
-  pub gaddag-spelled : macondo.Spells (take 73 (G-macondo gaddag .bytes)) labels wordsOfGaddag
+  pub gaddag-spelled : SpellsMacondo (take 73 (G-macondo gaddag .bytes)) labels wordsOfGaddag
   pub lxd-written : Wrote G-lxd (take 84 (G-lxd .bytes))
-  pub lxd-spelled : lxd.Spells (take 84 (G-lxd .bytes)) wordsOfLxd
+  pub lxd-spelled : SpellsLxd (take 84 (G-lxd .bytes)) wordsOfLxd
 
 pub G-met : Met
 unfolding loadPieces fedPieces feedAll begin feed finish firstOf holding stateAfter nodesAfter wholeNodes partNode firstMisfit

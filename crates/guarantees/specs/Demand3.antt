@@ -18,9 +18,9 @@ use Rattle.numbers.specs.WordNumbers.{Lent, WordNumbers}
 use Rattle.export.specs.Written.{Written}
 use Rattle.macondo_file.specs.File.{Format, marks}
 use Rattle.macondo_file.specs.Row.{toMacondo}
-use Rattle.macondo_file.specs.Spelling as macondo
+use Rattle.macondo_file.specs.Spelling.{SpellsMacondo, endingInLetters}
 use Rattle.lxd_file.specs.Row.{toLxd}
-use Rattle.lxd_file.specs.Spelling as lxd
+use Rattle.lxd_file.specs.Spelling.{SpellsLxd, wordsSpelled}
 
 -- "Words from p: for each node of the run in order, its tile alone if it accepts; then, where its arc is not 0, its tile before each word
 -- from the arc."
@@ -70,9 +70,9 @@ pub record Demand3 (limit : ℕ) : Type 0 where
   -- the labels as its code points, to the file's last byte
   pub macondo : (g : Graph) (labels name : List ℕ) (f : Format) (lentWork : ℕ) (lent file : List ℕ)
       → Wrote (toMacondo g labels name f lentWork lent) file
-      → WordsAt g (startNode g (marks f .root)) × macondo.Spells file labels (macondo.endingInLetters g f)
+      → WordsAt g (startNode g (marks f .root)) × SpellsMacondo file labels (endingInLetters g f)
   -- every LXD file, once written, spells exactly the words of its start node, renamed: as a list, in order; and its header says how many
   -- nodes and words are read
   pub lxd : (g : Graph) (labels title date : List ℕ) (lentWork : ℕ) (lent file : List ℕ)
       → Wrote (toLxd g labels title date lentWork lent) file
-      → WordsAt g (startNode g 0) × lxd.Spells file (lxd.wordsSpelled g labels)
+      → WordsAt g (startNode g 0) × SpellsLxd file (wordsSpelled g labels)

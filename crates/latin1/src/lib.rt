@@ -1,4 +1,4 @@
-// Characters as bytes of ISO/IEC 8859-1. Only `encode` knows the table.
+// Characters as bytes of ISO/IEC 8859-1. Only `encode` depends on the table.
 ghost use mathlib.Core.Path.{_≡_};
 ghost use Rattle.latin1.specs.Latin1.{byteOf, noByte, byteWritten};
 ghost use Rattle.latin1.specs.Encoded.{encoded};

@@ -2,7 +2,7 @@
 use mathlib.Core.Path.{_≡_, refl, sym, subst}
 use mathlib.Core.Bool.{Bool, true, false, _||_}
 use mathlib.Core.Logic.{⊎-elim}
-use mathlib.Core.List.{List, [], _∷_, _++_, map, List·Memᴰ, List·Memᴰ·not-nil, List·Memᴰ·cases-cons}
+use mathlib.Core.List.{List, [], _∷_, _++_, map, List·Memᴰ, List·Memᴰ·head, List·Memᴰ·tail, List·Memᴰ·not-nil, List·Memᴰ·cases-cons}
 use Prim.Native.Nat.{ℕ, zero, suc}
 use lib.Dec.{eqb}
 use lib.ListN.{drop}
@@ -22,6 +22,10 @@ all-weaken P Q f (x ∷ xs) h = (f x (h .0), all-weaken P Q f xs (h .1))
 pub all-mem {ℓ κ} : {A : Type ℓ} (P : A → Type κ) (xs : List A) (x : A) → All P xs → List·Memᴰ x xs → P x
 all-mem P [] x a m = absurd (List·Memᴰ·not-nil m)
 all-mem P (y ∷ xs) x a m = ⊎-elim (λ i. subst P (sym i) (a .0)) (λ k. all-mem P xs x (a .1) k) (List·Memᴰ·cases-cons m)
+
+pub all-members {ℓ κ} : {A : Type ℓ} (P : A → Type κ) (xs : List A) → ((x : A) → List·Memᴰ x xs → P x) → All P xs
+all-members P [] h = tt
+all-members P (x ∷ xs) h = (h x (List·Memᴰ·head refl), all-members P xs (λ y m. h y (List·Memᴰ·tail m)))
 
 abbrev pub kept : {A : Type 0} → (A → Bool) → List A → List A
 kept f [] = []

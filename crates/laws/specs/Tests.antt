@@ -1,6 +1,6 @@
--- Tests of numbers, and tests joined.
-use mathlib.Core.Path.{_≡_, refl, sym, _∙_}
-use mathlib.Core.Bool.{Bool, true, false, _||_}
+-- Tests of numbers.
+use mathlib.Core.Path.{_≡_, sym, _∙_}
+use mathlib.Core.Bool.{_||_}
 use Prim.Native.Nat.{ℕ, suc, _+_, max}
 use native.Mathlib.Omega.{arith}
 use lib.Dec.{ltb}
@@ -20,11 +20,3 @@ ltb-suc k a =
     split (ltb k a)
     (λ t. let h = ltb-true k a t in t ∙ sym (lt-ltb (suc k) (a + 1) (omega arith)))
     (λ t. let h = ltb-false k a t in t ∙ sym (le-ltb (suc k) (a + 1) (omega arith)))
-
-pub or-assoc : (a b c : Bool) → (a || b) || c ≡ a || (b || c)
-or-assoc true b c = refl
-or-assoc false b c = refl
-
-pub or-later : (a b : Bool) → b ≡ true → a || b ≡ true
-or-later true b e = refl
-or-later false b e = e

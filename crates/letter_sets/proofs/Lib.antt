@@ -1,3 +1,4 @@
-pub mod NumberLaws
-pub mod PartLaws
-pub mod RunLaws
+-- What the proofs of several functions use.
+mod NumberLaws
+mod PartLaws
+mod RunLaws

@@ -1,25 +1,23 @@
--- The whole call by its checks before the walk, what is known past them, and the work list after it.
-use mathlib.Core.Path.{_≡_, sym, ap, _∙_}
+-- The whole call by its checks before the walk, and what is known past them.
+use mathlib.Core.Path.{_≡_}
 use mathlib.Core.Bool.{false}
-use mathlib.Core.List.{List, _++_}
+use mathlib.Core.List.{List}
 use mathlib.Core.Option.{none, some}
 use Prim.Native.Nat.{ℕ, _*_, _≤_}
-use native.Mathlib.Omega.{arith}
-use lib.ListN.{length, drop, length-append, length-drop}
-use lib.Seq.{drop-at}
+use lib.ListN.{length}
 use borrow.Author.Tests.{ltb-false}
 use Rattle.answers.specs.Answers.{Answer, Row, firstOf}
-use Rattle.answers.specs.RowLaws.{rows-refuse, rows-pass, rows-passed}
+use Rattle.answers.specs.RowLaws.{rows-passed, passed-all}
 use Rattle.graph.specs.Runs.{Graph}
 use Rattle.graph.specs.Checks.{graphRow}
 use Rattle.graph.specs.ChecksLaws.{Fit, fit}
-use Rattle.graph.specs.Lent.{Kept}
 use Rattle.export.specs.Starts.{unlabelled}
-use Rattle.export.specs.Written.{Written, written}
+use Rattle.export.specs.Written.{Written}
+use Rattle.export.specs.WrittenLaws.{written-refused, written-past}
 use Rattle.lxd_file.specs.File.{lxdFile}
 use Rattle.lxd_file.specs.Row.{lxdChecks, lxdWalkRow, lxdRow, toLxd}
 use Rattle.lxd.specs.Said.{afterChecks}
-use Rattle.lxd.proofs.RowLaws.{passed-all, listsRow}
+use Rattle.lxd.proofs.ListsRow.{listsRow}
 
 module _ (g : Graph) (labels title date : List ℕ) (lentWork : ℕ) where
   abbrev checks : Row
@@ -31,11 +29,11 @@ module _ (g : Graph) (labels title date : List ℕ) (lentWork : ℕ) where
 
     pub call-refuses : {r : Answer} → firstOf checks ≡ some r → record { answer = r; bytes = lent } ≡ toLxd g labels title date lentWork lent
     unfolding lxdRow toLxd
-    call-refuses e = ap (λ o. written o (lxdFile g labels title date) lent) (sym (rows-refuse checks walk e))
+    call-refuses e = written-refused checks walk (lxdFile g labels title date) lent e
 
     pub call-walks : {x : Written} → firstOf checks ≡ none → x ≡ afterChecks g labels title date lent → x ≡ toLxd g labels title date lentWork lent
     unfolding lxdRow toLxd
-    call-walks e i = i ∙ ap (λ o. written o (lxdFile g labels title date) lent) (sym (rows-pass checks walk e))
+    call-walks e i = written-past checks walk (lxdFile g labels title date) lent e i
 
   module _ (passed : firstOf checks ≡ none) where
     pub passed-graph : Fit g
@@ -46,7 +44,3 @@ module _ (g : Graph) (labels title date : List ℕ) (lentWork : ℕ) where
 
     pub passed-work : 8 * length g ≤ lentWork
     passed-work = ltb-false _ _ (passed-all checks passed .1 .1 .1 .1 .1 .1 .1 .1 .0)
-
--- a list whose first n numbers are others
-pub part-kept : (n : ℕ) (l part : List ℕ) → n ≤ length l → length part ≡ n → Kept n l (part ++ drop n l)
-part-kept n l part h e = record { size = simp (length-append, length-drop) (omega arith); rest = drop-at part (drop n l) n e }

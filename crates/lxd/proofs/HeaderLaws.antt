@@ -1,16 +1,15 @@
 -- The header as it is written, field by field, and a field byte by byte.
 use mathlib.Core.Path.{_≡_, refl, sym, ap, _∙_}
-use mathlib.Core.List.{List, [], _∷_, _++_, map, append-assoc}
+use mathlib.Core.List.{List, [], _∷_, _++_, map}
 use Prim.Native.Nat.{ℕ, zero, suc, _+_, _≤_, _<_}
 use native.Mathlib.Omega.{arith}
-use lib.ListN.{length, getD, replicate, length-append, length-map, List·getD-map, List·getD-eq-default}
+use lib.ListN.{length, getD, set, drop, replicate, length-map, List·getD-map, List·getD-eq-default}
 use lib.Seq.{sets, getD-take}
-use Rattle.laws.specs.ListWrites.{sets-append}
+use Rattle.laws.specs.ListWrites.{sets-append, sets-next}
 use Rattle.endian.specs.Bytes.{toBytes}
 use Rattle.latin1.specs.Latin1.{byteOf, byteWritten}
-use Rattle.lxd_file.specs.File.{field}
+use Rattle.lxd_file.specs.File.{field, header}
 use Rattle.lxd_file.specs.FileLaws.{length-field}
-use Rattle.lxd.specs.Header.{header}
 
 -- ---- a text, byte by byte
 pub text-inside : (text : List ℕ) (i : ℕ) → byteWritten (getD text i 0) ≡ getD (map byteWritten text) i 0
@@ -30,8 +29,17 @@ zeros-after [] n i = zeros n i
 zeros-after (x ∷ l) n zero = refl
 zeros-after (x ∷ l) n (suc i) = zeros-after l n i
 
-pub field-at : (size : ℕ) (text : List ℕ) (i : ℕ) → i < size → getD (field size text) i 0 ≡ getD (map byteWritten text) i 0
+field-at : (size : ℕ) (text : List ℕ) (i : ℕ) → i < size → getD (field size text) i 0 ≡ getD (map byteWritten text) i 0
 field-at size text i h = getD-take size (map byteWritten text ++ replicate size 0) i 0 h ∙ zeros-after (map byteWritten text) size i
+
+-- one byte more: what is left then gives the whole field
+pub text-next : (file before : List ℕ) (from size : ℕ) (text : List ℕ) (i b : ℕ) → i < size → b ≡ getD (map byteWritten text) i 0
+    → sets file (from + i) (drop i (field size text)) ≡ sets before from (field size text)
+    → sets (set file (from + i) b) (from + (i + 1)) (drop (i + 1) (field size text)) ≡ sets before from (field size text)
+text-next file before from size text i b h e rest =
+    let n = length-field size text in
+    ap (λ x. sets (set file (from + i) x) (from + (i + 1)) (drop (i + 1) (field size text))) (e ∙ sym (field-at size text i h))
+    ∙ sym (sets-next file (field size text) from i (omega arith)) ∙ rest
 
 -- ---- field after field
 pub written-after : (l a b : List ℕ) (i j : ℕ) → i + length a ≡ j → sets (sets l i a) j b ≡ sets l i (a ++ b)
@@ -52,15 +60,3 @@ module _ (l : List ℕ) (nodes : ℕ) (title date : List ℕ) (words : ℕ) wher
       let counts = i ∙ ap (λ x. sets x 4 (toBytes nodes)) h in
       let texts = k ∙ ap (λ x. sets x 40 (field 20 date)) (j ∙ ap (λ x. sets x 8 (field 32 title)) counts) in
       m ∙ ap (λ x. sets x 60 (toBytes words)) texts ∙ fields-written
-
-pub length-header : (nodes : ℕ) (title date : List ℕ) (words : ℕ) → 0 + length (header nodes title date words) ≡ 64
-length-header nodes title date words =
-    let a = length-field 32 title in
-    let b = length-field 20 date in
-    simp length-append (omega arith)
-
--- a header with what follows it, for any texts
-pub header-before : (title date rest : List ℕ) (nodes words : ℕ)
-    → (toBytes 64 ++ (toBytes nodes ++ (title ++ (date ++ toBytes words)))) ++ rest
-    ≡ toBytes 64 ++ (toBytes nodes ++ (title ++ (date ++ (toBytes words ++ rest))))
-header-before title date rest nodes words = simp append-assoc

@@ -1,6 +1,6 @@
 -- What the proofs of several functions use.
 mod CallLaws
 mod HeaderLaws
+mod ListsRow
 mod PlannedLaws
-mod RowLaws
 mod WalkLaws

@@ -5,7 +5,7 @@ use mathlib.Core.List.{List, map, List·Memᴰ}
 use Prim.Native.Nat.{ℕ, _+_, _-_, _*_, _^_, _≤_, _<_}
 use native.Mathlib.Omega.{arith}
 use lib.Dec.{eqb}
-use lib.ListN.{length, getD, take, drop, length-map}
+use lib.ListN.{length, getD, length-map}
 use lib.Seq.{sets}
 use borrow.Author.Tests.{eqb-true, eqb-false, eq-eqb, ne-eqb}
 use Rattle.laws.specs.Cases.{split}
@@ -15,13 +15,13 @@ use Rattle.endian.specs.Bytes.{toBytes, nodeBytes}
 use Rattle.node.specs.Nodes.{KBWG, arc}
 use Rattle.graph.specs.Runs.{Graph, startNode}
 use Rattle.graph.specs.Words.{count}
-use Rattle.block_record.specs.RecordLaws.{used-le}
+use Rattle.block_record.specs.Record.{blocksIn}
+use Rattle.block_record.specs.RecordLaws.{holds-most}
 use Rattle.block_record.specs.declared.BlockTally.{BlockTally}
-use Rattle.lxd_file.specs.File.{runs, child, lxdNode, lxdNodes}
-use Rattle.lxd_file.specs.Row.{reached}
-use Rattle.lxd_file.specs.RunsLaws.{place, no-child, child-place, reached-size, runs-inside, arc-in-runs, place-within}
+use Rattle.lxd_file.specs.File.{childBy, runs, reached, runPlace, child, lxdNode, lxdNodes}
+use Rattle.lxd_file.specs.RunsLaws.{no-child, child-place, reached-size, runs-inside, arc-in-runs, place-within}
 use Rattle.lxd_file.specs.NodesLaws.{nodes-none, nodes-some, length-none, length-some, words-or-none}
-use Rattle.lxd_file.specs.NumbersLaws.{length-numbers}
+use Rattle.endian.specs.BytesLaws.{length-numbers}
 use Rattle.lxd_blocks.specs.Placed.{childIn, nodeIn, orderBytes, LxdReady}
 use Rattle.lxd.specs.Planned.{Planned, nodesWritten}
 
@@ -39,12 +39,12 @@ module _ {g : Graph} {labels w : List ℕ} {words : ℕ} {t : BlockTally} (h : P
       (λ n. rw (ne-eqb words 0 (λ z. n (sym e ∙ z)), nodesWritten) (total-nodes ∙ sym (length-some g labels n)))
 
   -- ---- where an arc leads
-  recorded : (p : ℕ) → List·Memᴰ p (runs g) → getD w p 0 ≡ place g p + 1
+  recorded : (p : ℕ) → List·Memᴰ p (runs g) → getD w p 0 ≡ runPlace g p + 1
   recorded p m = h .held .runs .old p (runs-inside g (h .found .sound) p m) (mem-member p (runs g) m)
 
   child-by-record : (p : ℕ) → p ≢ 0 → childIn w p ≡ getD w p 0 - 1
   unfolding childIn
-  child-by-record p n = rw (ne-eqb p 0 n, childIn)
+  child-by-record p n = rw (ne-eqb p 0 n, childBy)
 
   no-child-by-record : childIn w 0 ≡ 0
   unfolding childIn
@@ -78,21 +78,21 @@ module _ {g : Graph} {labels w : List ℕ} {words : ℕ} {t : BlockTally} (h : P
       omega arith)
       (λ m. let b = h .held .runs .new p l m in omega arith))
 
-  pub ready : LxdReady g labels w
-  ready = record { fit = h .found .sound; labelled = h .found .labelled; room = let r = h .room in omega arith; child-fits = child-fits }
+  pub lxd-ready : LxdReady g labels w
+  lxd-ready = record { fit = h .found .sound; labelled = h .found .labelled; room = let r = h .room in omega arith; child-fits = child-fits }
 
   -- ---- the record's order
-  pub blocks-room : length g + t .blocks < length w
-  blocks-room = let a = used-le (length g) w in let b = h .held .runs .many in let r = h .room in omega arith
+  pub order-fits : length g + t .blocks < length w
+  order-fits = let a = holds-most (h .held .runs) in let r = h .room in omega arith
 
-  pub order-inside : (p : ℕ) → List·Memᴰ p (take (t .blocks) (drop (length g) w)) → p < length g
+  pub order-inside : (p : ℕ) → List·Memᴰ p (blocksIn (length g) w (t .blocks)) → p < length g
   order-inside p m = runs-inside g (h .found .sound) p (subst (List·Memᴰ p) (h .held .runs .order) m)
 
   node-is : (v : ℕ) → List·Memᴰ v (reached g) → nodeIn labels w v ≡ lxdNode g labels v
   unfolding nodeIn lxdNode
   node-is v m = rw (child-is v m)
 
-  pub order-bytes : orderBytes g labels w (take (t .blocks) (drop (length g) w)) ≡ nodeBytes (map (lxdNode g labels) (reached g))
+  pub order-bytes : orderBytes g labels w (blocksIn (length g) w (t .blocks)) ≡ nodeBytes (map (lxdNode g labels) (reached g))
   order-bytes = ap (orderBytes g labels w) (h .held .runs .order) ∙ ap nodeBytes (map-same (nodeIn labels w) (lxdNode g labels) (reached g) node-is)
 
   -- ---- the nodes after the header
@@ -121,7 +121,7 @@ module _ {g : Graph} {labels w : List ℕ} {words : ℕ} {t : BlockTally} (h : P
     some-words z = some (h .found .counted ∙ z)
 
     abbrev order : List ℕ
-    order = take (t .blocks) (drop (length g) w)
+    order = blocksIn (length g) w (t .blocks)
 
     pub order-room : 72 + length (orderBytes g labels w order) ≡ 64 + 4 * length (lxdNodes g labels)
     order-room =

@@ -6,44 +6,42 @@ use mathlib.Core.Logic.{_≢_}
 use mathlib.Core.List.{List, [], _∷_, _++_}
 use mathlib.Core.Option.{none}
 use Prim.Native.Nat.{ℕ, zero, suc, _+_, _*_, _^_, _≤_, _<_}
+use native.Mathlib.Nat.{zero-add}
 use native.Mathlib.Omega.{arith}
 use lib.Dec.{eqb, ltb, leb}
-use lib.ListN.{length, getD, drop}
+use lib.ListN.{length, getD}
 use lib.Seq.{sets}
 use borrow.Author.Tests.{lt-ltb, le-ltb, lt-leb}
 use Rattle.laws.specs.Members.{all-fail}
 use Rattle.laws.specs.Cases.{or-false-left, or-false-right}
 use Rattle.laws.specs.Lists.{someOf}
-use Rattle.laws.specs.ListWrites.{sets-front}
 use Rattle.base.specs.Numbers.{most}
 use Rattle.endian.specs.Bytes.{nodeBytes}
 use Rattle.answers.specs.Answers.{gives, Row, firstOf}
 use Rattle.node.specs.Nodes.{KBWG, tile}
 use Rattle.graph.specs.Runs.{Graph, startNode}
 use Rattle.graph.specs.Words.{count}
-use Rattle.graph.specs.ChecksLaws.{Fit}
-use Rattle.export.specs.Starts.{unlabelled}
+use Rattle.graph.specs.ChecksLaws.{Fit, start-inside}
+use Rattle.export.specs.Starts.{arcsFrom, unlabelled}
 use Rattle.export.specs.Blocks.{met, total}
-use Rattle.export.specs.ChainLaws.{arcsFrom}
-use Rattle.export.specs.Written.{written}
+use Rattle.export.specs.WrittenLaws.{refused-by, accepted-by}
 use Rattle.latin1.specs.Latin1.{byteOf, noByte}
 use Rattle.survey.specs.Survey.{byteless, bytelessWithin, Surveys, SurveyIs}
 use Rattle.survey.specs.ReachLaws.{survey-byteless, survey-many, survey-count}
 use Rattle.survey.specs.declared.Findings.{Findings}
 use Rattle.survey.specs.declared.Surveyed.{Surveyed}
 use Rattle.block_record.specs.declared.BlockTally.{BlockTally}
-use Rattle.lxd_file.specs.File.{field, runs, lxdNodes, lxdFile}
-use Rattle.lxd_file.specs.FileLaws.{length-file}
-use Rattle.lxd_file.specs.Row.{reached, lxdWalkRow}
-use Rattle.lxd_file.specs.RunsLaws.{size, reached-size, start-inside}
-use Rattle.lxd_blocks.specs.RunsNumbered.{RunsHeld, RunsNumbered}
+use Rattle.lxd_file.specs.File.{header, runs, reached, runSize, lxdNodes, lxdFile}
+use Rattle.lxd_file.specs.FileLaws.{length-header, length-file}
+use Rattle.lxd_file.specs.Row.{lxdWalkRow}
+use Rattle.lxd_file.specs.RunsLaws.{reached-size}
+use Rattle.lxd_blocks.specs.RunsNumbered.{RunsNumbered}
 use Rattle.lxd_blocks.specs.declared.numbering.Walked.{Walked}
-use Rattle.lxd.specs.Header.{header}
 use Rattle.lxd.specs.Said.{afterChecks}
 use Rattle.lxd.specs.Planned.{ChecksPassed, Planned, nodesWritten}
-use Rattle.lxd.proofs.HeaderLaws.{written-after, length-header, header-before}
+use Rattle.lxd.proofs.HeaderLaws.{written-after}
 use Rattle.lxd.proofs.PlannedLaws.{total-nodes, count-nodes}
-use Rattle.lxd.proofs.RowLaws.{StopsAt, answerAt, stops-at, all-pass}
+use Rattle.answers.specs.RowLaws.{StopsAt, answerAt, stops-at, all-pass}
 
 -- ---- by the labels alone: 23
 has-byte : (labels : List ℕ) (t : ℕ) → someOf noByte labels ≡ false → noByte (getD labels t 0) ≡ false
@@ -64,25 +62,26 @@ module _ (g : Graph) (labels : List ℕ) where
   abbrev pub StartFindings : Findings → Type 0
   StartFindings = Surveys g labels 64 (startNode g 0)
 
-  module _ (sound : Fit g) (f : Findings) (surveys : Surveys g labels 64 (startNode g 0) f) where
+  module _ (f : Findings) (surveys : Surveys g labels 64 (startNode g 0) f) where
     pub byteless-label : someOf (byteless labels) (reached g) ≡ f .byteless
     unfolding runs
     byteless-label = survey-byteless g labels 64 (startNode g 0) f surveys
 
-    pub many-words : leb most (count KBWG g (startNode g 0)) ≡ eqb (f .words) most
-    many-words = survey-many g labels 64 (startNode g 0) f surveys (sound .steps) (start-inside g sound)
+    module _ (sound : Fit g) where
+      pub many-words : leb most (count KBWG g (startNode g 0)) ≡ eqb (f .words) most
+      many-words = survey-many g labels 64 (startNode g 0) f surveys (sound .steps) (start-inside sound 0 (omega arith))
 
-    pub found : unlabelled g labels ≡ false → f .byteless ≡ false → f .words ≢ most → ChecksPassed g labels (f .words)
-    found labelled bytes n =
-        let e = surveys .words in
-        record {
-          sound = sound;
-          labelled = labelled;
-          ended = surveys .deep;
-          bytes = byteless-label ∙ bytes;
-          counted = survey-count g labels 64 (startNode g 0) f surveys (sound .steps) (start-inside g sound) n;
-          few = omega arith;
-        }
+      checks-passed : unlabelled g labels ≡ false → someOf (byteless labels) (reached g) ≡ false → f .words ≢ most → ChecksPassed g labels (f .words)
+      checks-passed labelled bytes n =
+          let e = surveys .words in
+          record {
+            sound = sound;
+            labelled = labelled;
+            ended = surveys .deep;
+            bytes = bytes;
+            counted = survey-count g labels 64 (startNode g 0) f surveys (sound .steps) (start-inside sound 0 (omega arith)) n;
+            few = omega arith;
+          }
 
   -- ---- by the numbering: 22, 13 and 25
   -- what a survey would find, but for labels without a byte
@@ -100,14 +99,17 @@ module _ (g : Graph) (labels : List ℕ) where
     pub few-words : leb most (count KBWG g (startNode g 0)) ≡ false
     few-words = let l : count KBWG g (startNode g 0) < most = let e = h .counted in let f = h .few in omega arith in lt-leb _ _ l
 
-    pub plan : {w : List ℕ} {t : BlockTally} → length g + length g < length w → RunsHeld g w t (met (arcsFrom g) 64 [] (startNode g 0))
-        → Planned g labels w words t
-    unfolding runs
-    plan r k = record { found = h; room = r; held = k }
-
-  pub many-nodes : 2 ^ 22 < 2 + total (size g) (met (arcsFrom g) 64 [] (startNode g 0)) → 2 ^ 22 < 2 + length (reached g)
+  -- so the file can be written
+  pub numbered-plan : Fit g → unlabelled g labels ≡ false → someOf (byteless labels) (reached g) ≡ false → {w₀ w : List ℕ} {f : Walked}
+      → RunsNumbered g w₀ w (met (arcsFrom g) 64 [] (startNode g 0)) true (startNode g 0) 64 f
+      → f .words ≢ most → length g + length g < length w → Planned g labels w (f .words) (f .tally)
   unfolding runs
-  many-nodes m = let e = reached-size g in omega arith
+  numbered-plan sound labelled bytes n few room =
+      record { found = checks-passed _ (surveys-too n) sound labelled bytes few; room = room; held = n .held }
+
+pub many-nodes : (g : Graph) → 2 ^ 22 < 2 + total (runSize g) (met (arcsFrom g) 64 [] (startNode g 0)) → 2 ^ 22 < 2 + length (reached g)
+unfolding runs
+many-nodes g m = let e = reached-size g in omega arith
 
 module _ (g : Graph) (labels title date lent : List ℕ) where
   abbrev file : List ℕ
@@ -118,7 +120,7 @@ module _ (g : Graph) (labels title date lent : List ℕ) where
 
   -- "A refusal writes no file byte."
   pub walk-refuses : (k : ℕ) → StopsAt k walkOf → record { answer = answerAt k walkOf; bytes = lent } ≡ afterChecks g labels title date lent
-  walk-refuses k s = ap (λ o. written o file lent) (sym (stops-at k walkOf s))
+  walk-refuses k s = refused-by walkOf file lent (stops-at k walkOf s)
 
   -- ---- by the file's length: 11, or the file
   module _ {w : List ℕ} {words : ℕ} {t : BlockTally} (p : Planned g labels w words t) (n : ℕ) (counted : n ≡ nodesWritten words (t .nodes)) where
@@ -150,16 +152,15 @@ module _ (g : Graph) (labels title date lent : List ℕ) where
       unfolding lxdFile
       in-two-parts =
           ap₂ (λ k c. header k title date c ++ nodeBytes (lxdNodes g labels)) node-count-is (p .found .counted)
-          ∙ header-before (field 32 title) (field 20 date) (nodeBytes (lxdNodes g labels)) (length (lxdNodes g labels)) (count KBWG g (startNode g 0))
 
       bytes-after : {a b : List ℕ} → a ≡ sets lent 0 (header n title date words) → b ≡ sets a 64 (nodeBytes (lxdNodes g labels))
-          → b ≡ file ++ drop (length file) lent
+          → b ≡ sets lent 0 file
       bytes-after i j =
           j ∙ ap (λ x. sets x 64 (nodeBytes (lxdNodes g labels))) i
-          ∙ written-after lent (header n title date words) (nodeBytes (lxdNodes g labels)) 0 64 (length-header n title date words)
-          ∙ ap (sets lent 0) in-two-parts ∙ sets-front lent file whole
+          ∙ written-after lent (header n title date words) (nodeBytes (lxdNodes g labels)) 0 64
+          (zero-add (length (header n title date words)) ∙ length-header n title date words)
+          ∙ ap (sets lent 0) in-two-parts
 
       pub file-written : {a b : List ℕ} → a ≡ sets lent 0 (header n title date words) → b ≡ sets a 64 (nodeBytes (lxdNodes g labels))
           → record { answer = gives ((64 + 4 * n) ∷ []); bytes = b } ≡ afterChecks g labels title date lent
-      file-written i j =
-          (λ x. record { answer = gives (file-long x ∷ []); bytes = bytes-after i j x }) ∙ ap (λ o. written o file lent) (sym passes)
+      file-written i j = accepted-by walkOf file lent (64 + 4 * n) passes file-long whole (bytes-after i j)

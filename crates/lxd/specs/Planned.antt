@@ -14,8 +14,7 @@ use Rattle.base.specs.Numbers.{most}
 use Rattle.export.specs.Starts.{unlabelled, deeper}
 use Rattle.latin1.specs.Latin1.{noByte}
 use Rattle.block_record.specs.declared.BlockTally.{BlockTally}
-use Rattle.lxd_file.specs.File.{runs}
-use Rattle.lxd_file.specs.Row.{reached}
+use Rattle.lxd_file.specs.File.{runs, reached}
 use Rattle.lxd_blocks.specs.RunsNumbered.{RunsHeld}
 
 -- what is known where the checks up to that of the words refuse nothing: so many words

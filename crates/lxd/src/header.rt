@@ -5,8 +5,7 @@ ghost use Prim.Native.Nat.{_+_, _≤_};
 ghost use lib.ListN.{length, getD};
 ghost use lib.Seq.{sets};
 ghost use Rattle.latin1.specs.Latin1.{byteWritten};
-ghost use Rattle.lxd_file.specs.File.{field};
-ghost use Rattle.lxd.specs.Header.{header};
+ghost use Rattle.lxd_file.specs.File.{field, header};
 use endian::write_le_u32;
 use latin1::byte_of;
 

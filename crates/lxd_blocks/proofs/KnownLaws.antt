@@ -1,5 +1,5 @@
 -- What the walk knows of numbered runs: as it reads the entries of one, and as it changes them, where the others stay as they were.
-use mathlib.Core.Path.{_≡_, refl, sym, ap, _∙_}
+use mathlib.Core.Path.{_≡_, refl, sym, _∙_}
 use mathlib.Core.Logic.{_≢_}
 use mathlib.Core.Bool.{true}
 use mathlib.Core.List.{List}
@@ -12,8 +12,11 @@ use borrow.Author.Tests.{eqb-true, eqb-false, eq-eqb, ne-eqb, lt-ltb, le-ltb}
 use Rattle.laws.specs.Cases.{split}
 use Rattle.graph.specs.Runs.{Graph}
 use Rattle.block_record.specs.declared.BlockTally.{BlockTally}
+use Rattle.block_record.specs.Record.{blockPushed}
 use Rattle.block_record.specs.Depths.{depthAt, NoneBut, NoneLeft}
-use Rattle.lxd_blocks.specs.RunsNumbered.{wordsAt, lookedUp, RunCounted, Known}
+use Rattle.block_record.specs.DepthsLaws.{none-left-followed, left-past, opened-but}
+use Rattle.survey.specs.RunCounted.{RunCounted}
+use Rattle.lxd_blocks.specs.RunsNumbered.{wordsAt, lookedUp, Known}
 use Rattle.lxd_blocks.specs.declared.numbering.RunNumbering.the-variants.{Done, TooDeep}
 
 -- ---- the entries of a run, read with its chain first
@@ -62,29 +65,26 @@ module _ (g : Graph) where
         let n = eqb-false q p t in
         rw (others .depth q l n, others .words q l n) (h q l (λ z. a (others .place q l n ∙ z)) (λ z. b (others .depth q l n ∙ z))))
 
-    none-but : NoneBut g p w w′
-    none-but q l n f = ((λ z. f .0 (others .place q l n ∙ z)), sym (others .depth q l n) ∙ f .1)
-
   module _ (w : List ℕ) (p : ℕ) (l : p < length g) (room : 4 * length g ≤ length w) where
     -- p's run numbered, with a place, an entry in the order, and no chain yet: from now on it is followed
-    module _ (x b : ℕ) (few : b < length g) where
+    module _ (t : BlockTally) (few : t .blocks < length g) where
       abbrev begun : List ℕ
-      begun = set (set (set w p x) (length g + b) p) (depthAt (length g) p) 0
+      begun = set (blockPushed (length g) w p t) (depthAt (length g) p) 0
 
       begun-others : Others p w begun
       begun-others =
           others-set (depthAt (length g) p) 0 (λ q m n. ((λ e. n (omega arith)), (λ e. n (omega arith)), (λ e. n (omega arith))))
-          (others-set (length g + b) p (λ q m n. ((λ e. n (omega arith)), (λ e. n (omega arith)), (λ e. n (omega arith))))
-          (others-set p x (λ q m n. ((λ e. n (omega arith)), (λ e. n (omega arith)), (λ e. n (omega arith))))
+          (others-set (length g + t .blocks) p (λ q m n. ((λ e. n (omega arith)), (λ e. n (omega arith)), (λ e. n (omega arith))))
+          (others-set p (t .nodes + 1) (λ q m n. ((λ e. n (omega arith)), (λ e. n (omega arith)), (λ e. n (omega arith))))
           (others-same p w)))
 
       pub begun-known : Known g w → Known g begun
       begun-known =
           known-but begun-others
-          (λ n. absurd (n (getD-set-same (set (set w p x) (length g + b) p) (depthAt (length g) p) 0 0 (simp length-set (omega arith)))))
+          (λ n. absurd (n (getD-set-same (blockPushed (length g) w p t) (depthAt (length g) p) 0 0 (simp length-set (omega arith)))))
 
       pub begun-followed : NoneBut g p w begun
-      begun-followed = none-but begun-others
+      begun-followed = opened-but g w p t l few (omega arith)
 
     -- its chain and words put in: it is no longer followed
     module _ (d words : ℕ) (some : d ≢ 0) where
@@ -109,6 +109,6 @@ module _ (g : Graph) where
       ended-known c = known-but ended-others (λ n. rw (ended-depth, ended-words) c)
 
       pub ended-followed : (w₀ : List ℕ) → NoneBut g p w₀ w → NoneLeft g w₀ ended
-      ended-followed w₀ h q m f =
-          let other : q ≢ p = λ e. some (sym (ap (λ x. getD ended (depthAt (length g) x) 0) e ∙ ended-depth) ∙ f .1) in
-          h q m other (none-but ended-others q m other f)
+      ended-followed w₀ h =
+          left-past g w₀ (set w (depthAt (length g) p) d) (wordsAt (length g) p) words (omega arith)
+          (none-left-followed g w p d l (omega arith) w₀ some h)

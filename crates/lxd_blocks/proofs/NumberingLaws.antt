@@ -1,34 +1,45 @@
 -- What numbering answers: through an arc, by a run, and along a run's nodes, where what is left to meet gives what the whole run meets.
 use mathlib.Core.Path.{_≡_, refl, sym, ap, _∙_, subst}
 use mathlib.Core.Logic.{_≢_}
-use mathlib.Core.Bool.{true, false, _&&_}
+use mathlib.Core.Bool.{true, false, _&&_, not}
 use mathlib.Core.List.{List, [], _∷_, _++_, map, List·Memᴰ, List·Memᴰ·head, List·Memᴰ·tail}
 use Prim.Native.Nat.{ℕ, suc, _+_, _-_, _*_, _^_, _≤_, _<_, max}
 use native.Mathlib.Omega.{arith}
 use lib.Dec.{eqb, ltb}
 use lib.ListN.{length, getD, set}
-use borrow.Author.Tests.{eqb-true, eqb-false, ne-eqb, ltb-false}
+use borrow.Author.Tests.{eqb-true, eqb-false, eq-eqb, ne-eqb, ltb-false}
 use Rattle.laws.specs.Cases.{split, and-left, and-right}
 use Rattle.laws.specs.Lists.{kept, member}
 use Rattle.node.specs.Nodes.{KBWG, arc, isEnd}
 use Rattle.graph.specs.Runs.{Graph, node}
-use Rattle.export.specs.Starts.{runOf, hasArc, deeper}
+use Rattle.export.specs.Starts.{runOf, hasArc, arcsFrom, deeper}
 use Rattle.export.specs.RunOfLaws.{run-ends, run-goes-on}
 use Rattle.export.specs.Blocks.{each, met, total}
-use Rattle.block_record.specs.Record.{orderIn, metBy}
-use Rattle.block_record.specs.RecordLaws.{used-lt, met-old, met-new, met-by-none, met-by-arc, total-snoc, all-total, fresh-of, stale-of, push-holds}
+use Rattle.block_record.specs.Record.{orderIn, Pushed}
+use Rattle.block_record.specs.RecordLaws.{holds-room, met-old, met-new, total-snoc, all-total, fresh-of, stale-of, push-holds}
 use Rattle.block_record.specs.declared.BlockTally.{BlockTally}
-use Rattle.export.specs.ChainLaws.{arcsFrom, arc-from}
+use Rattle.export.specs.ChainLaws.{arc-from}
 use Rattle.block_record.specs.Depths.{depthAt, Below, NoneBut}
 use Rattle.block_record.specs.DepthsLaws.{loop-deep, below-arc, deep-by-arc}
-use Rattle.lxd_file.specs.RunsLaws.{size}
-use Rattle.lxd_blocks.specs.RunsNumbered.{wordsAt, nodePassed, runClosed, lookedUp, RunsHeld, Known, RunsRecorded, RunsNumbered, NumberedAs}
+use Rattle.lxd_file.specs.File.{runSize}
+use Rattle.survey.specs.RunCounted.{counted-none}
+use Rattle.lxd_blocks.specs.RunsNumbered.{wordsAt, nodePassed, runClosed, lookedUp, RunsHeld, Known, RunsRecorded, RunsNumbered, NumberedAs, metBy}
 use Rattle.lxd_blocks.proofs.HeldLaws.{held-as, held-here, held-past}
 use Rattle.lxd_blocks.specs.declared.numbering.Walked.{Walked}
 use Rattle.lxd_blocks.specs.declared.numbering.RunNumbering.{RunNumbering}
 use Rattle.lxd_blocks.proofs.RunLaws.{run-first}
-use Rattle.lxd_blocks.proofs.RunCountedLaws.{counted-none, Passing, passing-starts, passing-node, passing-all}
+use Rattle.lxd_blocks.proofs.RunCountedLaws.{Passing, passing-starts, passing-node, passing-all}
 use Rattle.lxd_blocks.proofs.KnownLaws.{ended-known, ended-followed}
+
+-- ---- what is met through an arc
+module _ (children : ℕ → List ℕ) (c : ℕ) (o : List ℕ) (p : ℕ) where
+  met-by-none : p ≡ 0 → metBy children c o p ≡ o
+  unfolding metBy
+  met-by-none e = rw (eq-eqb p 0 e, metBy)
+
+  met-by-arc : p ≢ 0 → metBy children c o p ≡ met children c o p
+  unfolding metBy
+  met-by-arc e = rw (ne-eqb p 0 e, metBy)
 
 module _ (g : Graph) where
   -- the runs met from the arcs of nodes, with so many runs left in the chain
@@ -40,14 +51,14 @@ module _ (g : Graph) where
     abbrev here : List ℕ
     here = orderIn (length g) w t
 
-    pub no-arc : (v : ℕ) → arc KBWG v ≡ 0
+    pub arc-none-numbered : (v : ℕ) → arc KBWG v ≡ 0
         → RunsNumbered g w w (metBy (arcsFrom g) left here (arc KBWG v)) (hasArc v) (arc KBWG v) left (record { tally = t; runs = 0; words = 0 })
-    no-arc v z =
+    arc-none-numbered v z =
         record {
           held = held-as g (sym (met-by-none (arcsFrom g) left here (arc KBWG v) z)) (r .held);
           known = r .known;
           followed = λ q l f. f;
-          counted = counted-none g v z;
+          counted = let e : hasArc v ≡ false = ap not (eq-eqb _ _ z) in rw e (counted-none g (arc KBWG v));
           ends = omega arith;
         }
 
@@ -84,26 +95,25 @@ module _ (g : Graph) where
     fresh = fresh-of (h .runs) p l new
 
     pub blocks-left : t .blocks < length g
-    blocks-left = let a = used-lt (length g) w p l new in let b = h .runs .many in omega arith
+    blocks-left = holds-room (h .runs) p l new
 
     pub run-met : (left : ℕ) (o₀ : List ℕ) → left ≢ 0 → o₀ ≡ o ++ p ∷ []
         → walk (left - 1) o₀ (runOf g p) ≡ met (arcsFrom g) left o p
     run-met left o₀ e q = ap (λ x. walk (left - 1) x (runOf g p)) q ∙ sym (met-new (arcsFrom g) left o p e fresh)
 
-    pub run-over : (left : ℕ) → left ≢ 0 → 2 ^ 22 - t .nodes < size g p → 2 ^ 22 < 2 + total (size g) (met (arcsFrom g) left o p)
+    pub run-over : (left : ℕ) → left ≢ 0 → 2 ^ 22 - t .nodes < runSize g p → 2 ^ 22 < 2 + total (runSize g) (met (arcsFrom g) left o p)
     run-over left e d =
-        let a = total-snoc (size g) o p in
-        let b = all-total (size g) (arcsFrom g) (left - 1) (o ++ p ∷ []) (arcsFrom g p) in
+        let a = total-snoc (runSize g) o p in
+        let b = all-total (runSize g) (arcsFrom g) (left - 1) (o ++ p ∷ []) (arcsFrom g p) in
         let s = h .runs .sum in
         let k = h .within in
-        subst (λ x. 2 ^ 22 < 2 + total (size g) x) (sym (met-new (arcsFrom g) left o p e fresh)) (omega arith)
+        subst (λ x. 2 ^ 22 < 2 + total (runSize g) x) (sym (met-new (arcsFrom g) left o p e fresh)) (omega arith)
 
-    pub run-pushed : (w′ : List ℕ) (t′ : BlockTally) (s : ℕ) → 4 * length g ≤ length w → s ≡ size g p → s ≤ 2 ^ 22 - t .nodes
-        → (w′ ≡ set (set w p (t .nodes + 1)) (length g + t .blocks) p) × (t′ .blocks ≡ t .blocks + 1) × (t′ .nodes ≡ t .nodes + s)
-        → RunsHeld g w′ t′ (o ++ p ∷ [])
+    pub run-pushed : (w′ : List ℕ) (t′ : BlockTally) (s : ℕ) → 4 * length g ≤ length w → s ≡ runSize g p → s ≤ 2 ^ 22 - t .nodes
+        → Pushed (length g) w p t s w′ t′ → RunsHeld g w′ t′ (o ++ p ∷ [])
     run-pushed w′ t′ s room e d a = record {
-      runs = push-holds p (h .runs) l (omega arith) fresh w′ t′ s e a;
-      within = let k = h .within in let z = a .2 in omega arith;
+      runs = push-holds p (h .runs) l (omega arith) fresh e a;
+      within = let k = h .within in let z = a .nodes in omega arith;
     }
 
   -- ---- along the nodes of a run
@@ -161,12 +171,12 @@ module _ (g : Graph) where
     pub along-deep : hasArc v && deeper g left (arc KBWG v) ≡ true → deeper g (suc left) p ≡ true
     along-deep d = deep-by-arc g left p (arc KBWG v) (arc-own (and-left (hasArc v) _ d)) (and-right (hasArc v) _ d)
 
-    pub along-over : 2 ^ 22 < 2 + total (size g) next → 2 ^ 22 < 2 + total (size g) (walk left o (runOf g p))
+    pub along-over : 2 ^ 22 < 2 + total (runSize g) next → 2 ^ 22 < 2 + total (runSize g) (walk left o (runOf g p))
     along-over h =
         let r = run-first g at (k .inside) in
         let e = ap (walk left seen) (r .1) ∙ walk-node left seen v (r .0) in
-        let m = all-total (size g) (arcsFrom g) left next (map (arc KBWG) (kept hasArc (r .0))) in
-        subst (λ x. 2 ^ 22 < 2 + total (size g) x) (sym e ∙ k .rest) (omega arith)
+        let m = all-total (runSize g) (arcsFrom g) left next (map (arc KBWG) (kept hasArc (r .0))) in
+        subst (λ x. 2 ^ 22 < 2 + total (runSize g) x) (sym e ∙ k .rest) (omega arith)
 
     -- ---- past it
     module _ {w′ : List ℕ} {child : Walked} (c : RunsNumbered g w w′ next (hasArc v) (arc KBWG v) left child) where

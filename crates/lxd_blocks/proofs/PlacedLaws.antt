@@ -1,5 +1,5 @@
 -- The file's nodes as they are written one by one: a child by its entry in the record, and the nodes of all runs in the record's order.
-use mathlib.Core.Path.{_≡_, refl, sym, ap, _∙_}
+use mathlib.Core.Path.{_≡_, refl, sym, ap, _∙_, subst}
 use mathlib.Core.Logic.{_≢_}
 use mathlib.Core.Bool.{Bool, true, false}
 use mathlib.Core.List.{List, [], _∷_, _++_, map, append-assoc, map-append, List·Memᴰ, Memᴰ·cast}
@@ -7,77 +7,68 @@ use Prim.Native.Nat.{ℕ, suc, _+_, _*_, _≤_, _<_}
 use native.Mathlib.Nat.{suc-mul}
 use native.Mathlib.Omega.{arith}
 use native.Mathlib.Numerals.{add-one}
-use lib.ListN.{length, getD, take, drop, length-append, length-drop, drop-of-length-le}
+use lib.ListN.{length, getD, drop, length-append, length-drop, drop-of-length-le}
 use lib.Seq.{sets, drop-cons, getD-take, getD-drop, length-take-le}
 use borrow.Author.Tests.{eq-eqb, ne-eqb}
 use Rattle.laws.specs.Lists.{joinAll}
 use Rattle.laws.specs.Members.{at-in}
-use Rattle.laws.specs.ListWrites.{sets-append}
 use Rattle.endian.specs.Bytes.{toBytes, nodeBytes}
+use Rattle.endian.specs.BytesLaws.{numbers-append}
+use Rattle.endian.specs.Putting.{Putting, put-start, put-next, put-done}
 use Rattle.node.specs.Nodes.{KBWG, tile, arc, accepts, isEnd, values, packed}
 use Rattle.graph.specs.Runs.{Graph, node}
 use Rattle.export.specs.Starts.{runOf}
 use Rattle.export.specs.RunOfLaws.{run-ends, run-goes-on}
-use Rattle.block_record.specs.Record.{placeAt}
+use Rattle.block_record.specs.Record.{placeAt, blocksIn}
 use Rattle.block_record.specs.RecordLaws.{place-none, place-value}
 use Rattle.block_record.specs.declared.Place.the-variants.{Numbered, Unnumbered}
-use Rattle.latin1.specs.Latin1.{byteWritten}
-use Rattle.lxd_file.specs.File.{LXD}
-use Rattle.lxd_blocks.specs.Placed.{childIn, nodeIn, bytesIn, runBytes, orderBytes}
+use Rattle.lxd_file.specs.File.{LXD, letter, childBy}
+use Rattle.lxd_blocks.specs.Placed.{childIn, nodeIn, bytesIn, orderBytes}
 use Rattle.lxd_blocks.proofs.RunLaws.{run-first}
 
 -- ---- a child
 module _ (w : List ℕ) (p : ℕ) where
   pub child-none : p ≡ 0 → 0 ≡ childIn w p
   unfolding childIn
-  child-none e = rw (eq-eqb p 0 e, childIn)
+  child-none e = rw (eq-eqb p 0 e, childBy)
 
   module _ (some : p ≢ 0) where
     pub child-numbered : (x : ℕ) → placeAt w p ≡ Numbered x → x ≡ childIn w p
     unfolding childIn
-    child-numbered x e = let v = place-value w p x e in rw (ne-eqb p 0 some, childIn) (omega arith)
+    child-numbered x e = let v = place-value w p x e in rw (ne-eqb p 0 some, childBy) (omega arith)
 
     pub child-unnumbered : placeAt w p ≡ Unnumbered → 0 ≡ childIn w p
     unfolding childIn
-    child-unnumbered e = let v = place-none w p e in rw (ne-eqb p 0 some, childIn) (omega arith)
+    child-unnumbered e = let v = place-none w p e in rw (ne-eqb p 0 some, childBy) (omega arith)
 
 -- ---- a node, by its parts
 module _ (labels w : List ℕ) (v : ℕ) where
-  pub node-packed : {t k : ℕ} {a e : Bool} → t ≡ byteWritten (getD labels (tile KBWG v) 0) → a ≡ accepts KBWG v → e ≡ isEnd KBWG v
+  pub node-packed : {t k : ℕ} {a e : Bool} → t ≡ letter labels (tile KBWG v) → a ≡ accepts KBWG v → e ≡ isEnd KBWG v
       → k ≡ childIn w (arc KBWG v) → packed LXD (values t a e k) ≡ nodeIn labels w v
   unfolding nodeIn
   node-packed h i j m = rw (h, i, j, m)
 
-numbers-append : (a b : List ℕ) → nodeBytes (a ++ b) ≡ nodeBytes a ++ nodeBytes b
-unfolding nodeBytes
-numbers-append [] b = refl
-numbers-append (v ∷ a) b = ap (toBytes v ++_) (numbers-append a b) ∙ sym (append-assoc (toBytes v) (nodeBytes a) (nodeBytes b))
-
--- ---- a node written: what is left then, after it, is what was left
-module _ (file whole : List ℕ) (at end v : ℕ) (rest after : List ℕ) (e : rest ≡ toBytes v ++ after) where
-  pub step-length : at + length rest ≡ end → at + 4 + length after ≡ end
-  step-length h = let l = ap length e ∙ length-append (toBytes v) after in omega arith
-
-  pub step-written : sets file at rest ≡ whole → sets (sets file at (toBytes v)) (at + 4) after ≡ whole
-  step-written h = sym (sets-append file at (toBytes v) after) ∙ ap (sets file at) (sym e) ∙ h
-
 module _ (g : Graph) (labels w : List ℕ) where
-  order-bytes : (p : ℕ) (ps : List ℕ) → orderBytes g labels w (p ∷ ps) ≡ runBytes g labels w p ++ orderBytes g labels w ps
-  order-bytes p ps =
+  -- the bytes of a run
+  abbrev runBytes : ℕ → List ℕ
+  runBytes p = bytesIn labels w (runOf g p)
+
+  order-bytes-cons : (p : ℕ) (ps : List ℕ) → orderBytes g labels w (p ∷ ps) ≡ runBytes p ++ orderBytes g labels w ps
+  order-bytes-cons p ps =
       ap nodeBytes (map-append (nodeIn labels w) (runOf g p) (joinAll (map (runOf g) ps)))
       ∙ numbers-append (map (nodeIn labels w) (runOf g p)) (map (nodeIn labels w) (joinAll (map (runOf g) ps)))
 
   module _ (k : ℕ) where
     -- the first k runs of the record, and the bytes of those from run i on
     abbrev order : List ℕ
-    order = take k (drop (length g) w)
+    order = blocksIn (length g) w k
 
     abbrev from : ℕ → List ℕ
     from i = orderBytes g labels w (drop i order)
 
     -- ---- what is left to write at node p of run i: the rest of the run, and the runs after it
     abbrev left : ℕ → ℕ → List ℕ
-    left i p = runBytes g labels w p ++ from (i + 1)
+    left i p = runBytes p ++ from (i + 1)
 
     module _ (i p : ℕ) (inside : p < length g) where
       left-last : isEnd KBWG (node g p) ≡ true → left i p ≡ toBytes (nodeIn labels w (node g p)) ++ from (i + 1)
@@ -88,23 +79,22 @@ module _ (g : Graph) (labels w : List ℕ) where
       unfolding nodeBytes
       left-more e =
           ap (λ vs. bytesIn labels w vs ++ from (i + 1)) (run-goes-on g p inside e)
-          ∙ append-assoc (toBytes (nodeIn labels w (node g p))) (runBytes g labels w (p + 1)) (from (i + 1))
+          ∙ append-assoc (toBytes (nodeIn labels w (node g p))) (runBytes (p + 1)) (from (i + 1))
 
       -- at least one node
       pub left-some : 4 ≤ length (left i p)
       unfolding nodeBytes
       left-some =
           let r = run-first g p inside in
-          let l = length-append (runBytes g labels w p) (from (i + 1)) in
-          let s : 4 ≤ length (runBytes g labels w p) = rw (r .1) (omega arith) in
+          let l = length-append (runBytes p) (from (i + 1)) in
+          let s : 4 ≤ length (runBytes p) = rw (r .1) (omega arith) in
           omega arith
 
     -- the bytes before `at` are written, and what is left gives the whole
     pub record RunsWriting (file₀ file : List ℕ) (at i p : ℕ) : Type 0 where
       pub size : length file ≡ length file₀
       pub inside : i < k → p < length g
-      pub fits : i < k → at + length (left i p) ≡ 72 + length (from 0)
-      pub rest : i < k → sets file at (left i p) ≡ sets file₀ 72 (from 0)
+      pub rest : i < k → Putting (from 0) file₀ 72 (left i p) file at
       pub done : k ≤ i → file ≡ sets file₀ 72 (from 0)
 
     module _ (room : length g + k < length w) (runs : (p : ℕ) → List·Memᴰ p order → p < length g) where
@@ -129,7 +119,7 @@ module _ (g : Graph) (labels w : List ℕ) where
         run-left =
             let l = order-length in
             let c : drop i order ≡ getD order i 0 ∷ drop (i + 1) order = rw (add-one, drop-cons order i 0 (omega arith)) in
-            ap (orderBytes g labels w) c ∙ order-bytes (getD order i 0) (drop (i + 1) order) ∙ ap (left i) (order-at i h ∙ sym e)
+            ap (orderBytes g labels w) c ∙ order-bytes-cons (getD order i 0) (drop (i + 1) order) ∙ ap (left i) (order-at i h ∙ sym e)
 
       pub writing-starts : (file : List ℕ) (p : ℕ) → p ≡ getD w (length g) 0 → RunsWriting file file 72 0 p
       writing-starts file p e =
@@ -137,43 +127,30 @@ module _ (g : Graph) (labels w : List ℕ) where
           record {
             size = refl;
             inside = run-inside 0 p z;
-            fits = λ h. ap (λ l. 72 + length l) (sym (run-left 0 p z h));
-            rest = λ h. ap (sets file 72) (sym (run-left 0 p z h));
-            done = λ h. ap (sets file 72) (sym (run-none 0 h));
+            rest = λ h. subst (λ l. Putting (from 0) file 72 l file 72) (run-left 0 p z h) (put-start (from 0) file 72);
+            done = λ h. put-done (put-start (from 0) file 72) (run-none 0 h);
           }
 
       module _ {file₀ file file′ : List ℕ} {at i p : ℕ} (h : RunsWriting file₀ file at i p) (l : i < k)
-          (same : length file′ ≡ length file) (e : file′ ≡ sets file at (toBytes (nodeIn labels w (node g p)))) where
-        wrote : (after : List ℕ) → left i p ≡ toBytes (nodeIn labels w (node g p)) ++ after → sets file′ (at + 4) after ≡ sets file₀ 72 (from 0)
-        wrote after c =
-            ap (λ f. sets f (at + 4) after) e
-            ∙ step-written file (sets file₀ 72 (from 0)) at (72 + length (from 0)) (nodeIn labels w (node g p)) (left i p) after c (h .rest l)
-
-        fitted : (after : List ℕ) → left i p ≡ toBytes (nodeIn labels w (node g p)) ++ after → at + 4 + length after ≡ 72 + length (from 0)
-        fitted after c =
-            step-length file (sets file₀ 72 (from 0)) at (72 + length (from 0)) (nodeIn labels w (node g p)) (left i p) after c (h .fits l)
+          (e : file′ ≡ sets file at (toBytes (nodeIn labels w (node g p)))) where
+        -- the node written, and this left after it
+        wrote : (after : List ℕ) → left i p ≡ toBytes (nodeIn labels w (node g p)) ++ after → Putting (from 0) file₀ 72 after file′ (at + 4)
+        wrote after c = put-next (h .rest l) (toBytes (nodeIn labels w (node g p))) after c refl e
 
         pub writing-on : isEnd KBWG (node g p) ≡ false → suc p < length g → RunsWriting file₀ file′ (at + 4) i (p + 1)
         writing-on b n =
-            let c = left-more i p (h .inside l) b in
-            record {
-              size = same ∙ h .size;
-              inside = λ m. omega arith;
-              fits = λ m. fitted (left i (p + 1)) c;
-              rest = λ m. wrote (left i (p + 1)) c;
-              done = λ m. absurd (omega arith);
-            }
+            let r = wrote (left i (p + 1)) (left-more i p (h .inside l) b) in
+            record { size = r .size; inside = λ m. omega arith; rest = λ m. r; done = λ m. absurd (omega arith) }
 
         pub writing-over : (q : ℕ) → isEnd KBWG (node g p) ≡ true → q ≡ getD w (length g + i + 1) 0 → RunsWriting file₀ file′ (at + 4) (i + 1) q
-        writing-over q b r =
-            let c = left-last i p (h .inside l) b in
-            let z : q ≡ getD w (length g + (i + 1)) 0 = r ∙ ap (λ j. getD w j 0) (omega arith) in
+        writing-over q b x =
+            let r = wrote (from (i + 1)) (left-last i p (h .inside l) b) in
+            let z : q ≡ getD w (length g + (i + 1)) 0 = x ∙ ap (λ j. getD w j 0) (omega arith) in
             record {
-              size = same ∙ h .size;
+              size = r .size;
               inside = run-inside (i + 1) q z;
-              fits = λ m. ap (λ x. at + 4 + length x) (sym (run-left (i + 1) q z m)) ∙ fitted (from (i + 1)) c;
-              rest = λ m. ap (sets file′ (at + 4)) (sym (run-left (i + 1) q z m)) ∙ wrote (from (i + 1)) c;
-              done = λ m. ap (sets file′ (at + 4)) (sym (run-none (i + 1) m)) ∙ wrote (from (i + 1)) c;
+              rest = λ m. subst (λ y. Putting (from 0) file₀ 72 y file′ (at + 4)) (run-left (i + 1) q z m) r;
+              done = λ m. put-done r (run-none (i + 1) m);
             }
 
 -- the measure of the loop: the runs left, then the nodes left in a run

@@ -1,13 +1,13 @@
 -- The chains and words of a run by those that its arcs lead to. The idea: what was found at the nodes passed, with what is left to pass,
 -- gives the chains and words of the whole run at every node of it.
 use mathlib.Core.Path.{_≡_, sym, ap, _∙_}
-use mathlib.Core.Bool.{true, false, not}
+use mathlib.Core.Bool.{true}
 use mathlib.Core.List.{List, [], _∷_, map}
 use Prim.Native.Nat.{ℕ, zero, suc, _+_, _≤_, min, max}
 use native.Mathlib.Omega.{arith}
 use lib.Dec.{eqb}
 use lib.ListN.{length, length-append}
-use borrow.Author.Tests.{le-ltb, ltb-false, eq-eqb}
+use borrow.Author.Tests.{ltb-false}
 use Rattle.laws.specs.Cases.{split}
 use Rattle.laws.specs.Lists.{kept}
 use Rattle.base.specs.Numbers.{flag, most}
@@ -19,7 +19,7 @@ use Rattle.export.specs.Starts.{runOf, hasArc}
 use Rattle.survey.specs.ByArc.{counted-by-arc}
 use Rattle.block_record.specs.Depths.{Deepest}
 use Rattle.block_record.specs.DepthsLaws.{deepest-none, deepest-next, deepest-all}
-use Rattle.lxd_blocks.specs.RunsNumbered.{RunCounted}
+use Rattle.survey.specs.RunCounted.{RunCounted}
 
 -- a number capped on its way into a sum that is capped in the end
 capped : (words own arcs child rest : ℕ) → child ≡ min arcs most
@@ -27,12 +27,6 @@ capped : (words own arcs child rest : ℕ) → child ≡ min arcs most
 capped words own arcs child rest e = omega arith
 
 module _ (g : Graph) where
-  -- ---- what an arc leads to
-  pub counted-none : (v : ℕ) → arc KBWG v ≡ 0 → RunCounted g (hasArc v) (arc KBWG v) 0 0
-  counted-none v z =
-      let e : hasArc v ≡ false = ap not (eq-eqb _ _ z) in
-      rw e (record { depth = λ k. sym (le-ltb k 0 (omega arith)); words-are = λ k h. omega arith })
-
   -- ---- along the nodes of a run
   -- with the nodes vs of p's run left to pass, the longest chain and the words found so far give those from p
   pub record Passing (p runs words : ℕ) (vs : List ℕ) : Type 0 where

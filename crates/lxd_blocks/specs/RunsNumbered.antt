@@ -10,15 +10,14 @@ use lib.ListN.{length, getD}
 use Rattle.base.specs.Numbers.{flag, most}
 use Rattle.node.specs.Nodes.{KBWG, accepts}
 use Rattle.graph.specs.Runs.{Graph}
-use Rattle.graph.specs.Words.{wordsWithin}
 use Rattle.graph.specs.ChecksLaws.{Fit}
 use Rattle.export.specs.Starts.{deeper}
-use Rattle.export.specs.Blocks.{total}
+use Rattle.export.specs.Blocks.{met, total}
 use Rattle.block_record.specs.Record.{orderIn, HoldsBlocks}
 use Rattle.block_record.specs.Depths.{depthAt, NoneLeft}
-use Rattle.survey.specs.ByArc.{whereThere}
+use Rattle.survey.specs.RunCounted.{RunCounted}
 use Rattle.block_record.specs.declared.BlockTally.{BlockTally}
-use Rattle.lxd_file.specs.RunsLaws.{size}
+use Rattle.lxd_file.specs.File.{runSize}
 use Rattle.lxd_blocks.specs.declared.numbering.Walked.{Walked}
 use Rattle.lxd_blocks.specs.declared.numbering.RunNumbering.{RunNumbering}
 use Rattle.lxd_blocks.specs.declared.numbering.RunNumbering.the-variants.{Done, TooDeep, TooMany}
@@ -51,22 +50,21 @@ lookedUp n w p t left =
       ]
     ]
 
+-- what is met through an arc, which may be none
+unfoldable pub metBy : (ℕ → List ℕ) → ℕ → List ℕ → ℕ → List ℕ
+metBy children left seen p = elim (eqb p 0) [ true ↦ seen | false ↦ met children left seen p ]
+
 module _ (g : Graph) where
   -- the work list holds the runs of the list, from node 2 of the file on, and no node too many for a child's 22 bits
   pub record RunsHeld (w : List ℕ) (t : BlockTally) (o : List ℕ) : Type 0 where
-    pub runs : HoldsBlocks (length g) (size g) 2 w t o
+    pub runs : HoldsBlocks (length g) (runSize g) 2 w t o
     pub within : t .nodes ≤ 2 ^ 22
-
-  -- from q, if there is a run, the longest chain has so many runs, and there are so many words, or more than can be counted
-  pub record RunCounted (there : Bool) (q runs words : ℕ) : Type 0 where
-    pub depth : (k : ℕ) → there && deeper g k q ≡ ltb k runs
-    pub words-are : (k : ℕ) → runs ≤ k → words ≡ min (whereThere there (length (wordsWithin KBWG k g q))) most
 
   -- the entries of numbered runs are right, but for those whose arcs are being followed
   abbrev pub Known : List ℕ → Type 0
   Known w =
       (q : ℕ) → q < length g → getD w q 0 ≢ 0 → getD w (depthAt (length g) q) 0 ≢ 0
-      → RunCounted true q (getD w (depthAt (length g) q) 0) (getD w (wordsAt (length g) q) 0)
+      → RunCounted g true q (getD w (depthAt (length g) q) 0) (getD w (wordsAt (length g) q) 0)
 
   -- what numbering begins with
   pub record RunsRecorded (w : List ℕ) (t : BlockTally) : Type 0 where
@@ -80,11 +78,11 @@ module _ (g : Graph) where
     pub held : RunsHeld w (f .tally) o
     pub known : Known w
     pub followed : NoneLeft g w₀ w
-    pub counted : RunCounted there q (f .runs) (f .words)
+    pub counted : RunCounted g there q (f .runs) (f .words)
     pub ends : f .runs ≤ left
 
   -- what it answers
   abbrev pub NumberedAs : List ℕ → List ℕ → List ℕ → Bool → ℕ → ℕ → RunNumbering → Type 0
   NumberedAs w₀ w o there q left (Done f) = RunsNumbered w₀ w o there q left f
   NumberedAs w₀ w o there q left TooDeep = there && deeper g left q ≡ true
-  NumberedAs w₀ w o there q left TooMany = 2 ^ 22 < 2 + total (size g) o
+  NumberedAs w₀ w o there q left TooMany = 2 ^ 22 < 2 + total (runSize g) o

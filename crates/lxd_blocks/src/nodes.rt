@@ -2,9 +2,10 @@
 ghost use mathlib.Core.Path.{_≡_};
 ghost use mathlib.Core.List.{List·Memᴰ};
 ghost use Prim.Native.Nat.{ℕ, _+_, _^_, _≤_, _<_};
-ghost use lib.ListN.{length, take, drop};
+ghost use lib.ListN.{length};
 ghost use lib.Seq.{sets};
 ghost use Rattle.node.specs.Nodes.{KBWG, tile, arc, values, packed};
+ghost use Rattle.block_record.specs.Record.{blocksIn};
 ghost use Rattle.lxd_file.specs.File.{LXD};
 ghost use Rattle.lxd_blocks.specs.Placed.{childIn, nodeIn, orderBytes, LxdReady};
 use base::bit;
@@ -15,7 +16,7 @@ use latin1::byte_of;
 use node::Node24;
 
 // A node of the file; the child's place must have no more than 22 bits.
-fn pack(letter: u8, accepts: bool, is_end: bool, child: u32) -> u32
+fn pack_lxd(letter: u8, accepts: bool, is_end: bool, child: u32) -> u32
     requires { ⌜ child < 2 ^ 22 ⌝ }
     ensures { λ r. ⌜ r ≡ packed LXD (values letter accepts «is_end» child) ⌝ }
 {
@@ -23,7 +24,7 @@ fn pack(letter: u8, accepts: bool, is_end: bool, child: u32) -> u32
 }
 
 // Where the run that an arc leads to stands by the record, which must have an entry for it; arc 0 leads nowhere. The entry is read before it
-// is known whether it is asked for, so that the processor has nothing to guess.
+// is known whether it is asked for, so that no branch can be mispredicted.
 fn child_place(work: &[u32], arc: u32) -> u32
     requires { ⌜ arc < length (now work) ⌝ }
     ensures { λ r. ⌜ r ≡ childIn (now (work .entry)) arc ⌝ }
@@ -46,7 +47,7 @@ fn file_node(labels: &[u32], work: &[u32], node: u32) -> u32
     ensures { λ r. ⌜ r ≡ nodeIn (now (labels .entry)) (now (work .entry)) node ⌝ }
 {
     let t = Node24(node).tile() as usize;
-    pack(
+    pack_lxd(
         byte_of(labels[t]),
         Node24(node).accepts(),
         Node24(node).is_end(),
@@ -55,15 +56,15 @@ fn file_node(labels: &[u32], work: &[u32], node: u32) -> u32
 }
 
 // Writes the first `blocks` runs of the record's order to the bytes from 72 on, which must be there; the record must go on after them. Where
-// the next run begins is read before it is known whether this one ends, so that the processor has nothing to guess.
+// the next run begins is read before it is known whether this one ends, so that no branch can be mispredicted.
 pub fn write_runs(nodes: &[u32], labels: &[u32], work: &[u32], blocks: usize, file: &mut [u8])
     requires { ⌜ LxdReady (now nodes) (now labels) (now work) ⌝ }
     requires { ⌜ length (now nodes) + blocks < length (now work) ⌝ }
-    requires { ⌜ ((p : ℕ) → List·Memᴰ p (take blocks (drop (length (now nodes)) (now work))) → p < length (now nodes)) ⌝ }
-    requires { ⌜ 72 + length (orderBytes (now nodes) (now labels) (now work) (take blocks (drop (length (now nodes)) (now work)))) ≤ length (now file) ⌝ }
+    requires { ⌜ ((p : ℕ) → List·Memᴰ p (blocksIn (length (now nodes)) (now work) blocks) → p < length (now nodes)) ⌝ }
+    requires { ⌜ 72 + length (orderBytes (now nodes) (now labels) (now work) (blocksIn (length (now nodes)) (now work) blocks)) ≤ length (now file) ⌝ }
     ensures { λ _. ⌜ now (file .exit)
         ≡ sets (now (file .entry)) 72 (orderBytes (now (nodes .entry)) (now (labels .entry)) (now (work .entry))
-        (take blocks (drop (length (now (nodes .entry))) (now (work .entry))))) ⌝ }
+        (blocksIn (length (now (nodes .entry))) (now (work .entry)) blocks)) ⌝ }
 {
     let n = nodes.len();
     let mut at: usize = 72;

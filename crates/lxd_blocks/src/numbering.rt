@@ -9,12 +9,11 @@ ghost use Rattle.base.specs.Numbers.{most};
 ghost use Rattle.node.specs.Nodes.{KBWG, arc};
 ghost use Rattle.graph.specs.ChecksLaws.{Fit};
 ghost use Rattle.export.specs.Blocks.{met};
-ghost use Rattle.block_record.specs.Record.{orderIn, metBy};
-ghost use Rattle.export.specs.ChainLaws.{arcsFrom};
-ghost use Rattle.export.specs.Starts.{hasArc};
+ghost use Rattle.block_record.specs.Record.{orderIn};
+ghost use Rattle.export.specs.Starts.{hasArc, arcsFrom};
 ghost use Rattle.block_record.specs.Depths.{depthAt, Below};
-ghost use Rattle.lxd_file.specs.RunsLaws.{size};
-ghost use Rattle.lxd_blocks.specs.RunsNumbered.{wordsAt, nodePassed, runClosed, lookedUp, RunsRecorded, NumberedAs};
+ghost use Rattle.lxd_file.specs.File.{runSize};
+ghost use Rattle.lxd_blocks.specs.RunsNumbered.{wordsAt, nodePassed, runClosed, lookedUp, RunsRecorded, NumberedAs, metBy};
 use base::bit;
 use base::capped_sum;
 use base::larger;
@@ -48,7 +47,7 @@ pub enum RunNumbering {
 fn run_length(nodes: &[u32], p: usize) -> u32
     requires { ⌜ Fit (now nodes) ⌝ }
     requires { ⌜ p < length (now nodes) ⌝ }
-    ensures { λ r. ⌜ r ≡ size (now (nodes .entry)) p ⌝ }
+    ensures { λ r. ⌜ r ≡ runSize (now (nodes .entry)) p ⌝ }
 {
     let mut at = p;
     let mut passed: u32 = 1;
@@ -90,8 +89,8 @@ fn pass_node(node: u32, before: Walked, child: Walked) -> Walked
     }
 }
 
-// What is known of a run that is numbered already. While its arcs are being followed its chain is not known: an arc back to it goes round
-// for ever.
+// What is known of a run that is numbered already. While its arcs are being followed its chain is not known: an arc back to it
+// closes a loop.
 fn look_up(n: usize, work: &[u32], p: usize, t: BlockTally, chain_left: u32) -> RunNumbering
     requires { ⌜ (p < n) × (4 * n ≤ length (now work)) ⌝ }
     ensures { λ r. ⌜ r ≡ lookedUp n (now (work .entry)) p t «chain_left» ⌝ }

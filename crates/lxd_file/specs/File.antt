@@ -4,12 +4,12 @@ use mathlib.Core.List.{List, [], _∷_, _++_, map}
 use Prim.Native.Nat.{ℕ, _+_}
 use lib.Dec.{eqb}
 use lib.ListN.{length, getD, take, replicate}
-use Rattle.laws.specs.Lists.{kept, joinAll}
+use Rattle.laws.specs.Lists.{joinAll}
 use Rattle.endian.specs.Bytes.{toBytes, nodeBytes}
 use Rattle.node.specs.Nodes.{BitLayout, bits, Tile, Accepts, End, Arc, KBWG, tile, arc, accepts, isEnd, values, packed}
 use Rattle.graph.specs.Runs.{Graph, startNode}
 use Rattle.graph.specs.Words.{count}
-use Rattle.export.specs.Starts.{runOf, hasArc}
+use Rattle.export.specs.Starts.{runOf, arcsFrom}
 use Rattle.export.specs.Blocks.{met, blockAt}
 use Rattle.latin1.specs.Latin1.{byteWritten}
 
@@ -28,31 +28,56 @@ LXD =
 abbrev pub field : ℕ → List ℕ → List ℕ
 field size text = take size (map byteWritten text ++ replicate size 0)
 
+-- "Letters .. are ISO/IEC 8859-1": the byte of a tile's label
+abbrev pub letter : List ℕ → ℕ → ℕ
+letter labels t = byteWritten (getD labels t 0)
+
+-- an arc of 0 is written 0, any other by its place
+abbrev pub childBy : (ℕ → ℕ) → ℕ → ℕ
+childBy place p = elim (eqb p 0) [ true ↦ 0 | false ↦ place p ]
+
+-- "Node: end bit 31, accepts 30, letter 22–29, child 0–21": a node of the graph as one of the file, by where its arc leads
+abbrev pub nodeBy : List ℕ → (ℕ → ℕ) → ℕ → ℕ
+nodeBy labels child v = packed LXD (values (letter labels (tile KBWG v)) (accepts KBWG v) (isEnd KBWG v) (child (arc KBWG v)))
+
+-- "64; node count; title (32 bytes) and date (20), zero-filled; word count .. Numbers are 4 bytes."
+abbrev pub header : ℕ → List ℕ → List ℕ → ℕ → List ℕ
+header nodes title date words = toBytes 64 ++ (toBytes nodes ++ (field 32 title ++ (field 20 date ++ toBytes words)))
+
 module _ (g : Graph) where
   -- the runs from the start, in the order in which they are first met, depth first
   unfoldable pub runs : List ℕ
-  runs = met (λ p. map (arc KBWG) (kept hasArc (runOf g p))) 64 [] (startNode g 0)
+  runs = met (arcsFrom g) 64 [] (startNode g 0)
 
-  -- "a run takes consecutive places when first met", after nodes 0 and 1; no arc leads nowhere
+  -- the nodes of the runs met from the start; a node stands once for each of these runs that it is in
+  abbrev pub reached : List ℕ
+  reached = joinAll (map (runOf g) runs)
+
+  -- how many places the run from p takes
+  abbrev pub runSize : ℕ → ℕ
+  runSize p = length (runOf g p)
+
+  -- "a run takes consecutive places when first met", after nodes 0 and 1
+  abbrev pub runPlace : ℕ → ℕ
+  runPlace p = blockAt runSize 2 runs p
+
+  -- where an arc to p leads in the file
   unfoldable pub child : ℕ → ℕ
-  child p = elim (eqb p 0) [ true ↦ 0 | false ↦ blockAt (λ q. length (runOf g q)) 2 runs p ]
+  child p = childBy runPlace p
 
   module _ (labels : List ℕ) where
-    abbrev pub letter : ℕ → ℕ
-    letter t = byteWritten (getD labels t 0)
-
+    -- node v as it stands in the file
     unfoldable pub lxdNode : ℕ → ℕ
-    lxdNode v = packed LXD (values (letter (tile KBWG v)) (accepts KBWG v) (isEnd KBWG v) (child (arc KBWG v)))
+    lxdNode v = nodeBy labels child v
 
     -- "Nodes 0 and 1 are 8A800000 and 8A800002 .. With no words, node 2 is 8A800000 and the last."
     unfoldable pub lxdNodes : List ℕ
     lxdNodes =
         0x8A800000 ∷ 0x8A800002 ∷ elim (eqb (count KBWG g (startNode g 0)) 0) [
           | true ↦ 0x8A800000 ∷ []
-          | false ↦ map lxdNode (joinAll (map (runOf g) runs))
+          | false ↦ map lxdNode reached
         ]
 
-    -- "64; node count; title (32 bytes) and date (20), zero-filled; word count; nodes. Numbers are 4 bytes."
+    -- "word count; nodes": the header, then the nodes
     unfoldable pub lxdFile : List ℕ → List ℕ → List ℕ
-    lxdFile title date =
-        toBytes 64 ++ (toBytes (length lxdNodes) ++ (field 32 title ++ (field 20 date ++ (toBytes (count KBWG g (startNode g 0)) ++ nodeBytes lxdNodes))))
+    lxdFile title date = header (length lxdNodes) title date (count KBWG g (startNode g 0)) ++ nodeBytes lxdNodes

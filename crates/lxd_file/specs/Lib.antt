@@ -2,7 +2,6 @@ pub mod CopiedLaws
 pub mod File
 pub mod FileLaws
 pub mod NodesLaws
-pub mod NumbersLaws
 pub mod PackedLaws
 pub mod Reading
 pub mod Row

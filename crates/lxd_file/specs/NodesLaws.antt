@@ -12,8 +12,7 @@ use Rattle.laws.specs.Members.{in-map}
 use Rattle.node.specs.Nodes.{KBWG, tile, arc, accepts, isEnd}
 use Rattle.graph.specs.Runs.{Graph, startNode}
 use Rattle.graph.specs.Words.{count}
-use Rattle.lxd_file.specs.File.{child, letter, lxdNode, lxdNodes}
-use Rattle.lxd_file.specs.Row.{reached}
+use Rattle.lxd_file.specs.File.{child, letter, lxdNode, lxdNodes, reached}
 use Rattle.latin1.specs.Latin1Laws.{byte-below}
 use Rattle.lxd_file.specs.PackedLaws.{Fields, packed-fields}
 use Rattle.lxd_file.specs.RowLaws.{LxdAccepted}
@@ -58,7 +57,7 @@ module _ (g : Graph) (labels : List ℕ) where
       node-fields =
           subst (λ t. Fields (lxdNode g labels v) t (accepts KBWG v) (isEnd KBWG v) (child g (arc KBWG v)))
           (ok .bytes v m)
-          (packed-fields (letter g labels (tile KBWG v)) (accepts KBWG v) (isEnd KBWG v) (child g (arc KBWG v))
+          (packed-fields (letter labels (tile KBWG v)) (accepts KBWG v) (isEnd KBWG v) (child g (arc KBWG v))
           (byte-below (getD labels (tile KBWG v) 0)) child-below)
 
     -- ---- all of them
@@ -67,14 +66,14 @@ module _ (g : Graph) (labels : List ℕ) where
         let r = in-map (lxdNode g labels) (reached g) v m in
         subst (λ w. w < 2 ^ 32) (sym (r .2)) (node-fields (r .0) (r .1) .below)
 
-    pub nodes-below : (v : ℕ) → List·Memᴰ v (lxdNodes g labels) → v < 2 ^ 32
-    nodes-below v m =
+    pub lxd-nodes-below : (v : ℕ) → List·Memᴰ v (lxdNodes g labels) → v < 2 ^ 32
+    lxd-nodes-below v m =
         words-or-none g
         (λ z. after-two-below (0x8A800000 ∷ []) (λ w k. let e = List·Memᴰ·eq-of-singleton k in omega arith) v (rw (nodes-none z) at m))
         (λ n. after-two-below (map (lxdNode g labels) (reached g)) copies-below v (rw (nodes-some n) at m))
 
-    pub nodes-few : length (lxdNodes g labels) ≤ 2 ^ 22
-    nodes-few =
+    pub lxd-nodes-few : length (lxdNodes g labels) ≤ 2 ^ 22
+    lxd-nodes-few =
         words-or-none g
         (λ z. let e = length-none z in omega arith)
         (λ n. let e = length-some n in let r = ok .room in omega arith)

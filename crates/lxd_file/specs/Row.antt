@@ -1,23 +1,19 @@
 -- The row "LXD" of "Where each check stands" in document 01, and what the call answers and writes.
-use mathlib.Core.List.{List, [], _∷_, _++_, map}
+use mathlib.Core.List.{List, [], _∷_, _++_}
 use Prim.Native.Nat.{ℕ, _+_, _*_, _^_}
 use lib.Dec.{ltb, leb}
 use lib.ListN.{length, getD}
-use Rattle.laws.specs.Lists.{joinAll, someOf}
+use Rattle.laws.specs.Lists.{someOf}
 use Rattle.answers.specs.Answers.{refusing, Row, firstOf}
 use Rattle.node.specs.Nodes.{KBWG, tile}
 use Rattle.graph.specs.Runs.{Graph, startNode}
 use Rattle.graph.specs.Words.{count}
 use Rattle.graph.specs.Checks.{graphRow}
 use Rattle.base.specs.Numbers.{most}
-use Rattle.export.specs.Starts.{runOf, unlabelled, deeper}
+use Rattle.export.specs.Starts.{unlabelled, deeper}
 use Rattle.latin1.specs.Latin1.{noByte}
 use Rattle.export.specs.Written.{Written, written}
-use Rattle.lxd_file.specs.File.{runs, lxdFile}
-
--- the nodes that can be reached from the start, those of a run that is entered twice in both
-abbrev pub reached : Graph → List ℕ
-reached g = joinAll (map (runOf g) (runs g))
+use Rattle.lxd_file.specs.File.{reached, lxdFile}
 
 -- the checks before the walk
 abbrev pub lxdChecks : Graph → List ℕ → List ℕ → List ℕ → ℕ → Row

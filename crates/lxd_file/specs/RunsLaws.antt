@@ -14,13 +14,12 @@ use Rattle.laws.specs.Cases.{split}
 use Rattle.laws.specs.Members.{in-join}
 use Rattle.node.specs.Nodes.{KBWG, arc, isEnd}
 use Rattle.graph.specs.Runs.{Graph, run, lastEnds, startNode}
-use Rattle.graph.specs.ChecksLaws.{Closed, Fit, last-of}
-use Rattle.export.specs.Starts.{runOf, deeper}
+use Rattle.graph.specs.ChecksLaws.{Closed, Fit, last-of, start-inside}
+use Rattle.export.specs.Starts.{runOf, arcsFrom, deeper}
 use Rattle.export.specs.Blocks.{blockAt, total}
 use Rattle.export.specs.BlocksLaws.{every-met, first-met, start-met, children-met, blocks-length, block-first, block-within, block-from, blocks-most}
-use Rattle.export.specs.ChainLaws.{arcsFrom, arc-from, arcs-inside, shallow-low, shallow-closed, shallow-within}
-use Rattle.lxd_file.specs.File.{runs, child}
-use Rattle.lxd_file.specs.Row.{reached}
+use Rattle.export.specs.ChainLaws.{arc-from, arcs-inside, shallow-low, shallow-closed, shallow-within}
+use Rattle.lxd_file.specs.File.{childBy, runs, reached, runSize, runPlace, child}
 
 -- the nodes from p on have the graph's last, an end
 pub ends-from : (g : Graph) → Closed g → (p : ℕ) → p < length g → lastEnds KBWG (drop p g) ≡ true
@@ -31,55 +30,46 @@ ends-from g c p h =
     split (lastEnds KBWG (drop p g)) (λ t. t) (λ t. let k = c .runs (p + i) (omega arith) (same ∙ t) in absurd (omega arith))
 
 module _ (g : Graph) where
-  abbrev pub size : ℕ → ℕ
-  size p = length (runOf g p)
-
-  -- where the run from p stands
-  abbrev pub place : ℕ → ℕ
-  place p = blockAt size 2 (runs g) p
-
   pub no-child : child g 0 ≡ 0
   unfolding child
   no-child = refl
 
-  pub child-place : (p : ℕ) → p ≢ 0 → child g p ≡ place p
+  pub child-place : (p : ℕ) → p ≢ 0 → child g p ≡ runPlace g p
   unfolding child
-  child-place p n = rw (ne-eqb p 0 n, child)
+  child-place p n = rw (ne-eqb p 0 n, childBy)
 
-  pub reached-size : length (reached g) ≡ total size (runs g)
-  reached-size = blocks-length size (runOf g) (λ q. refl) (runs g)
+  pub reached-size : length (reached g) ≡ total (runSize g) (runs g)
+  reached-size = blocks-length (runSize g) (runOf g) (λ q. refl) (runs g)
 
-  size-some : (p : ℕ) → p < length g → 0 < size p
+  size-some : (p : ℕ) → p < length g → 0 < runSize g p
   unfolding run
   size-some p h = rw (drop-cons g p 0 h) (omega arith)
 
-  pub start-place : place (startNode g 0) ≡ 2
+  pub start-place : runPlace g (startNode g 0) ≡ 2
   unfolding runs
   start-place =
       let r = first-met (arcsFrom g) 63 (startNode g 0) in
-      ap (λ l. blockAt size 2 l (startNode g 0)) (r .1) ∙ block-first size 2 (startNode g 0) (r .0)
+      ap (λ l. blockAt (runSize g) 2 l (startNode g 0)) (r .1) ∙ block-first (runSize g) 2 (startNode g 0) (r .0)
 
   module _ (f : Fit g) where
-    pub start-inside : startNode g 0 < length g
-    start-inside = let two = f .two in f .steps .arcs 0 (omega arith)
-
     pub runs-inside : (p : ℕ) → List·Memᴰ p (runs g) → p < length g
     unfolding runs
-    runs-inside = every-met (arcsFrom g) (λ p. p < length g) (λ p q h m. arcs-inside g (f .steps) p q m) 64 (startNode g 0) start-inside
+    runs-inside = every-met (arcsFrom g) (λ p. p < length g) (λ p q h m. arcs-inside g (f .steps) p q m) 64 (startNode g 0)
+        (start-inside f 0 (omega arith))
 
     pub runs-within : length (runs g) ≤ length (reached g)
     runs-within =
-        let a = blocks-most size (runs g) (λ q m. size-some q (runs-inside q m)) in
+        let a = blocks-most (runSize g) (runs g) (λ q m. size-some q (runs-inside q m)) in
         let b = reached-size in
         omega arith
 
     -- the run from p is in place before the nodes end
-    pub place-within : (p : ℕ) → List·Memᴰ p (runs g) → (2 ≤ place p) × (place p < 2 + length (reached g))
+    pub place-within : (p : ℕ) → List·Memᴰ p (runs g) → (2 ≤ runPlace g p) × (runPlace g p < 2 + length (reached g))
     place-within p m =
-        let a = block-within size (runs g) 2 p m in
+        let a = block-within (runSize g) (runs g) 2 p m in
         let b = size-some p (runs-inside p m) in
         let e = reached-size in
-        (block-from size (runs g) 2 p, omega arith)
+        (block-from (runSize g) (runs g) 2 p, omega arith)
 
     module _ (ended : deeper g 64 (startNode g 0) ≡ false) where
       pub start-in-runs : List·Memᴰ (startNode g 0) (runs g)

@@ -13,15 +13,15 @@ use Rattle.lxd_file.specs.Reading.{nodesRead, lxdWords, nodeCount, wordC
 use Rattle.lxd_file.specs.Row.{lxdRow}
 
 -- "each tile renamed to its label"; the label's byte is its code point
-abbrev pub renamed : List ℕ → Word → Word
-renamed labels = map (λ t. getD labels t 0)
+abbrev pub renamedToLabels : List ℕ → Word → Word
+renamedToLabels labels = map (λ t. getD labels t 0)
 
 -- the words that the file should spell
 abbrev pub wordsSpelled : Graph → List ℕ → List Word
-wordsSpelled g labels = map (renamed labels) (words KBWG g (startNode g 0))
+wordsSpelled g labels = map (renamedToLabels labels) (words KBWG g (startNode g 0))
 
 -- the file spells the words, and its header has the numbers of the nodes and words that are read
-pub record Spells (file : List ℕ) (ws : List Word) : Type 0 where
+pub record SpellsLxd (file : List ℕ) (ws : List Word) : Type 0 where
   pub read : lxdWords file ≡ ws
   pub nodes-counted : nodeCount file ≡ length (nodesRead file)
   pub words-counted : wordCount file ≡ length ws
@@ -30,4 +30,4 @@ pub record Spells (file : List ℕ) (ws : List Word) : Type 0 where
 abbrev pub LxdSpells : Type 0
 LxdSpells =
     (g : Graph) (labels title date : List ℕ) (lentWork lentFile : ℕ) → firstOf (lxdRow g labels title date lentWork lentFile) ≡ none
-    → Spells (lxdFile g labels title date) (wordsSpelled g labels)
+    → SpellsLxd (lxdFile g labels title date) (wordsSpelled g labels)

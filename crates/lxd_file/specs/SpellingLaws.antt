@@ -10,19 +10,19 @@ use Rattle.laws.specs.Members.{join-in}
 use Rattle.node.specs.Nodes.{KBWG, arc}
 use Rattle.graph.specs.Runs.{Graph, run, startNode}
 use Rattle.graph.specs.Words.{Word, inOrder, spelled, wordsWithin, words}
+use Rattle.graph.specs.ChecksLaws.{start-inside}
 use Rattle.export.specs.Starts.{runOf}
 use Rattle.export.specs.BlocksLaws.{block-at}
 use Rattle.export.specs.ChainLaws.{words-within}
-use Rattle.lxd_file.specs.File.{LXD, runs, child, lxdNode, lxdNodes}
+use Rattle.lxd_file.specs.File.{LXD, runs, child, lxdNode, lxdNodes, reached, runSize, runPlace}
 use Rattle.lxd_file.specs.Reading.{lxdWords}
-use Rattle.lxd_file.specs.Row.{reached}
 use Rattle.lxd_file.specs.RowLaws.{LxdAccepted, accepted}
-use Rattle.lxd_file.specs.Spelling.{wordsSpelled, renamed, LxdSpells}
+use Rattle.lxd_file.specs.Spelling.{wordsSpelled, renamedToLabels, LxdSpells}
 use Rattle.lxd_file.specs.CopiedLaws.{run-copied, Copied, words-copied}
 use Rattle.lxd_file.specs.FileLaws.{file-nodes, file-node-count, file-word-count}
-use Rattle.lxd_file.specs.RunsLaws.{size, place, no-child, child-place, start-place, start-inside, start-in-runs, ends-from}
+use Rattle.lxd_file.specs.RunsLaws.{no-child, child-place, start-place, start-in-runs, ends-from}
 use Rattle.lxd_file.specs.RunsLaws.{runs-inside, runs-within, runs-end, arc-in-runs, place-within}
-use Rattle.lxd_file.specs.NodesLaws.{words-or-none, nodes-none, nodes-some, node-fields, nodes-below, nodes-few}
+use Rattle.lxd_file.specs.NodesLaws.{words-or-none, nodes-none, nodes-some, node-fields, lxd-nodes-below, lxd-nodes-few}
 
 none-left : (ws : List Word) → length ws ≡ 0 → ws ≡ []
 none-left [] e = refl
@@ -36,21 +36,21 @@ module _ (g : Graph) (labels : List ℕ) (ok : LxdAccepted g labels) where
   copies = 0x8A800000 ∷ 0x8A800002 ∷ map (lxdNode g labels) (reached g)
 
   -- ---- a run of the graph stands in the file as its copy
-  copy-at : (p : ℕ) → List·Memᴰ p (runs g) → (rest : List ℕ) × (drop (place g p) copies ≡ map (lxdNode g labels) (runOf g p) ++ rest)
+  copy-at : (p : ℕ) → List·Memᴰ p (runs g) → (rest : List ℕ) × (drop (runPlace g p) copies ≡ map (lxdNode g labels) (runOf g p) ++ rest)
   copy-at p m =
-      let b = block-at (size g) (runOf g) (λ q. refl) (runs g) 2 p m in
-      let e : place g p ≡ suc (suc (b .0)) = let x = b .2 in omega arith in
+      let b = block-at (runSize g) (runOf g) (λ q. refl) (runs g) 2 p m in
+      let e : runPlace g p ≡ suc (suc (b .0)) = let x = b .2 in omega arith in
       let h = lxdNode g labels in
       (map h (b .1), rw e (drop-map h (b .0) (reached g) ∙ ap (map h) (b .3) ∙ map-append h (runOf g p) (b .1)))
 
-  run-at : (p : ℕ) → List·Memᴰ p (runs g) → run LXD (drop (place g p) copies) ≡ map (lxdNode g labels) (runOf g p)
+  run-at : (p : ℕ) → List·Memᴰ p (runs g) → run LXD (drop (runPlace g p) copies) ≡ map (lxdNode g labels) (runOf g p)
   run-at p m =
       let c = copy-at p m in
       ap (run LXD) (c .1)
       ∙ run-copied KBWG LXD (lxdNode g labels) (drop p g) (c .0) (ends-from g (ok .sound .steps) p (runs-inside g (ok .sound) p m))
       (λ v n. node-fields g labels ok v (join-in (runOf g) (runs g) p v m n) .end-is)
 
-  copied : Copied KBWG LXD g copies (runs g) (place g) label (lxdNode g labels)
+  copied : Copied KBWG LXD g copies (runs g) (runPlace g) label (lxdNode g labels)
   copied =
       record {
         runs = run-at;
@@ -72,26 +72,26 @@ module _ (g : Graph) (labels : List ℕ) (ok : LxdAccepted g labels) where
       let l = length-map (reached g) (lxdNode g labels) in
       let r = runs-within g (ok .sound) in
       ap (wordsWithin LXD n copies) (sym (start-place g))
-      ∙ words-copied KBWG LXD g copies (runs g) (place g) label (lxdNode g labels) copied n s (start-in-runs g (ok .sound) (ok .ended))
+      ∙ words-copied KBWG LXD g copies (runs g) (runPlace g) label (lxdNode g labels) copied n s (start-in-runs g (ok .sound) (ok .ended))
       ∙ ap (map (map label))
-      (words-within g (ok .sound .steps) n s (start-inside g (ok .sound)) (runs-end g (ok .sound) (ok .ended) n (omega arith)))
+      (words-within g (ok .sound .steps) n s (start-inside (ok .sound) 0 (omega arith)) (runs-end g (ok .sound) (ok .ended) n (omega arith)))
 
   nodes-spell : words LXD (lxdNodes g labels) 2 ≡ wordsSpelled g labels
   unfolding words wordsWithin inOrder spelled run
   nodes-spell =
       words-or-none g
-      (λ z. ap (λ l. words LXD l 2) (nodes-none g labels z) ∙ ap (map (renamed labels)) (sym (none-left (words KBWG g (startNode g 0)) z)))
+      (λ z. ap (λ l. words LXD l 2) (nodes-none g labels z) ∙ ap (map (renamedToLabels labels)) (sym (none-left (words KBWG g (startNode g 0)) z)))
       (λ n. ap (λ l. words LXD l 2) (nodes-some g labels n) ∙ copies-spell)
 
 pub lxd-spells : LxdSpells
 unfolding lxdWords
 lxd-spells g labels title date lentWork lentFile e =
     let ok = accepted g labels title date lentWork lentFile e in
-    let nodes = file-nodes g labels title date (nodes-below g labels ok) in
-    let few = nodes-few g labels ok in
+    let nodes = file-nodes g labels title date (lxd-nodes-below g labels ok) in
+    let few = lxd-nodes-few g labels ok in
     let most = ok .few in
     record {
       read = ap (λ l. words LXD l 2) nodes ∙ nodes-spell g labels ok;
       nodes-counted = file-node-count g labels title date (omega arith) ∙ sym (ap length nodes);
-      words-counted = file-word-count g labels title date (omega arith) ∙ sym (length-map (words KBWG g (startNode g 0)) (renamed labels));
+      words-counted = file-word-count g labels title date (omega arith) ∙ sym (length-map (words KBWG g (startNode g 0)) (renamedToLabels labels));
     }

@@ -1,5 +1,6 @@
-pub mod RankLaws
-pub mod Rows
-pub mod SizeLaws
-pub mod Tests
-pub mod Ties
+-- What the proofs of several functions use.
+mod RankLaws
+mod Rows
+mod SizeLaws
+mod TablesLaws
+mod Tests

@@ -18,8 +18,8 @@ module _ (labels l : List ℕ) (e : take (length labels - 1) l ≡ letters label
   pub letters-tiles : length labels ≤ 50 → All (λ t. t < 64) (take (length labels - 1) l)
   letters-tiles fifty = subst (All (λ t. t < 64)) (sym e) (letters-low labels fifty)
 
-  pub letters-labelled : length labels - 1 ≤ length l → (i : ℕ) → i < length labels - 1 → getD l i 0 < length labels
-  letters-labelled fits i h =
+  pub letter-entries-below : length labels - 1 ≤ length l → (i : ℕ) → i < length labels - 1 → getD l i 0 < length labels
+  letter-entries-below fits i h =
       all-taken (λ t. t < length labels) (length labels - 1) l i (subst (All (λ t. t < length labels)) (sym e) (letters-below labels)) h fits
 
   module _ (fifty : length labels ≤ 50) (ranks : List ℕ) (h : (t : ℕ) → t < 64 → getD ranks t 0 ≡ letterIn (take (length labels - 1) l) t) where

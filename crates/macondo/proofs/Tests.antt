@@ -60,5 +60,5 @@ module _ (lowest : ℕ) (g : Graph) (i : ℕ) where
     first-passes k next a =
         rw (drop-cons g i 0 h, add-one) (rw (le-leb lowest (tile KBWG (node g i)) k) (after-first next (node g i) (drop (suc i) g) a))
 
-  pub none-left : length g ≤ i → ascendsFrom lowest (drop i g) ≡ true
-  none-left h = rw (drop-of-length-le g h)
+  pub ascends-past : length g ≤ i → ascendsFrom lowest (drop i g) ≡ true
+  ascends-past h = rw (drop-of-length-le g h)

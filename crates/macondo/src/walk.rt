@@ -7,7 +7,7 @@ ghost use Rattle.graph.specs.Runs.{startNode};
 ghost use Rattle.macondo_file.specs.File.{marks};
 ghost use Rattle.macondo_file.specs.RowLaws.{MacondoChecked};
 ghost use Rattle.macondo.specs.Said.{formatOf, macondoWrittenAs, writtenPast};
-ghost use Rattle.macondo.specs.BlocksIn.{BlocksIn};
+ghost use Rattle.macondo.specs.BlocksHeld.{BlocksHeld};
 use crate::Macondo;
 use crate::MacondoFormat;
 use crate::checks::lacks_code_point;
@@ -53,7 +53,7 @@ fn write_numbered(
     file: &mut [u8],
 ) -> Macondo
     requires { ⌜ MacondoChecked (now nodes) (now labels) (now name) (length (now work)) ⌝ }
-    requires { ⌜ BlocksIn (now nodes) (now labels) (formatOf format) (now work) tally ⌝ }
+    requires { ⌜ BlocksHeld (now nodes) (now labels) (formatOf format) (now work) tally ⌝ }
     ensures { λ r. ⌜ macondoWrittenAs r (now (file .exit))
         ≡ writtenPast 2 (now (nodes .entry)) (now (labels .entry)) (now (name .entry)) (formatOf format) (now (file .entry)) ⌝ }
 {

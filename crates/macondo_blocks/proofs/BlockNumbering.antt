@@ -3,38 +3,36 @@
 use mathlib.Core.Path.{_≡_, refl, sym, ap, _∙_, subst}
 use mathlib.Core.Logic.{_≢_}
 use mathlib.Core.Bool.{true}
-use mathlib.Core.List.{List, [], _∷_, _++_, map, List·Memᴰ, List·Memᴰ·head}
+use mathlib.Core.List.{List, [], _∷_, _++_, map, List·Memᴰ}
 use Prim.Native.Nat.{ℕ, suc, _+_, _-_, _*_, _≤_, _<_, max}
 use native.Mathlib.Numerals.{add-one}
 use native.Mathlib.Omega.{arith}
-use lib.ListN.{length, getD, set, take, drop, replicate, length-replicate}
-use lib.Seq.{slice, slice-cons, slice-empty, drop-append-add, drop-drop, length-take-le}
+use lib.ListN.{length, getD, set, take, length-set}
+use lib.Seq.{slice, slice-cons, slice-empty, length-take-le}
 use borrow.Author.Tests.{lt-ltb, le-ltb}
-use Rattle.laws.specs.Members.{in-drop, map-in}
 use Rattle.node.specs.Nodes.{KBWG, arc}
 use Rattle.graph.specs.Runs.{Graph}
-use Rattle.graph.specs.Lent.{Kept, kept-then, kept-set}
-use Rattle.export.specs.Starts.{deeper}
-use Rattle.export.specs.ChainLaws.{arcsFrom}
+use Rattle.export.specs.Starts.{arcsFrom, deeper}
 use Rattle.export.specs.Blocks.{each, met}
 use Rattle.laws.specs.Cleared.{cleared, cleared-length, cleared-at}
-use Rattle.block_record.specs.Record.{orderIn, HoldsBlocks}
-use Rattle.block_record.specs.RecordLaws.{used-lt, met-old, met-new, push-holds, holds-past, fresh-of, stale-of, self, holds-at, holds-none}
+use Rattle.block_record.specs.Record.{blocksIn, orderIn, Pushed, HoldsBlocks}
+use Rattle.block_record.specs.RecordLaws.{holds-room, met-old, met-new, push-holds, holds-past, fresh-of, stale-of, holds-here, holds-at, holds-none}
 use Rattle.block_record.specs.Depths.{depthAt, Depth, Deepest, Depths, Below, NoneBut, NoneLeft}
 use Rattle.block_record.specs.DepthsLaws.{deep-by-arc, loop-deep, below-arc, deepest-none, deepest-next, deepest-all}
-use Rattle.block_record.specs.DepthsLaws.{depths-none, depths-kept, none-left, opened-depths, opened-but}
+use Rattle.block_record.specs.DepthsLaws.{depths-none, depths-kept, none-left-followed, opened-depths, opened-but}
 use Rattle.block_record.specs.declared.BlockTally.{BlockTally}
 use Rattle.macondo_file.specs.File.{arcsOf, childrenOf, sizeOf}
 use Rattle.macondo_file.specs.ArcLaws.{in-children, children-in}
 use Rattle.macondo_blocks.specs.declared.blocks.Reached.{Reached}
 use Rattle.macondo_blocks.specs.declared.blocks.BlockNumbering.{BlockNumbering}
 use Rattle.macondo_blocks.specs.declared.blocks.BlockNumbering.the-variants.{Done, TooDeep}
-use Rattle.macondo_blocks.specs.Blocks.{MacondoReady, BlocksRecorded, BlocksNumbered, BlocksReached, NumberingFrom, NumberingIs}
-use Rattle.macondo_blocks.proofs.ArcCounts.{size-few, nodes-few}
+use Rattle.macondo_file.specs.RowLaws.{MacondoReady}
+use Rattle.macondo_blocks.specs.Blocks.{BlocksRecorded, BlocksNumbered, BlocksReached, NumberingFrom, NumberingIs}
+use Rattle.macondo_blocks.proofs.ArcCounts.{size-few, tally-few}
 
-pub size-is : (g : Graph) (labels : List ℕ) (p count : ℕ) (arcs : List ℕ) → count ≤ length arcs → take count arcs ≡ arcsOf g labels p
+pub size-by-arcs : (g : Graph) (labels : List ℕ) (p count : ℕ) (arcs : List ℕ) → count ≤ length arcs → take count arcs ≡ arcsOf g labels p
     → count + 1 ≡ sizeOf g labels p
-size-is g labels p count arcs h e = let n = length-take-le count arcs h in let m = ap length e in omega arith
+size-by-arcs g labels p count arcs h e = let n = length-take-le count arcs h in let m = ap length e in omega arith
 
 -- a block put into the record, while its arcs are still to be walked
 pub record BlockOpened (g : Graph) (labels w : List ℕ) (t : BlockTally) (p : ℕ) (w′ : List ℕ) (t′ : BlockTally) : Type 0 where
@@ -62,7 +60,7 @@ module _ {g : Graph} {labels w : List ℕ} {t : BlockTally} (r : BlocksRecorded 
       known-reaches l = record {
         numbered = record {
           holds = holds-at (sym (met-old (childrenOf g labels) c seen p (stale-of (r .holds) p h old))) (r .holds);
-          past = record { size = refl; rest = refl };
+          size = refl;
         };
         depth = depth-known;
         within = l;
@@ -73,7 +71,7 @@ module _ {g : Graph} {labels w : List ℕ} {t : BlockTally} (r : BlocksRecorded 
   -- ---- a new block
   module _ (new : getD w p 0 ≡ 0) where
     few : t .blocks < length g
-    few = omega (arith, r .holds .many, used-lt (length g) w p h new)
+    few = holds-room (r .holds) p h new
 
     pub push-fits : (size : ℕ) → size ≤ 51
         → (length g ≤ 16777216) × (length g + length g ≤ length w) × (p < length g) × (t .blocks < length g)
@@ -81,27 +79,21 @@ module _ {g : Graph} {labels w : List ℕ} {t : BlockTally} (r : BlocksRecorded 
     push-fits size k =
         let m = r .ready .fit .most in
         let f = few in
-        let n = nodes-few (r .holds) (size-few g labels (r .ready)) in
+        let n = tally-few (r .holds) (size-few g labels (r .ready)) in
         (m, omega (arith, r .room), h, f, omega arith, omega arith)
 
-    pub opens : (w₁ w₂ : List ℕ) (t₁ : BlockTally) (size : ℕ) → size ≡ sizeOf g labels p
-        → (w₁ ≡ set (set w p (t .nodes + 1)) (length g + t .blocks) p) × (t₁ .blocks ≡ t .blocks + 1) × (t₁ .nodes ≡ t .nodes + size)
+    pub opens : (w₁ w₂ : List ℕ) (t₁ : BlockTally) (size : ℕ) → size ≡ sizeOf g labels p → Pushed (length g) w p t size w₁ t₁
         → w₂ ≡ set w₁ (depthAt (length g) p) 0 → BlockOpened g labels w t p w₂ t₁
     opens w₁ w₂ t₁ size e a b =
-        let f = few in
         let n = length g in
-        let one = set w p (t .nodes + 1) in
-        let two = set one (n + t .blocks) p in
-        let all : w₂ ≡ set two (depthAt n p) 0 = b ∙ ap (λ x. set x (depthAt n p) 0) (a .0) in
-        let holds = push-holds p (r .holds) h (omega (arith, r .room)) (fresh-of (r .holds) p h new) w₁ t₁ size e a in
-        subst (λ x. BlockOpened g labels w t p x t₁) (sym all) (record {
+        let holds = push-holds p (r .holds) h (omega (arith, r .room)) (fresh-of (r .holds) p h new) e a in
+        subst (λ x. BlockOpened g labels w t p x t₁) (sym (b ∙ ap (λ x. set x (depthAt n p) 0) (a .list))) (record {
           numbered = record {
-            holds = holds-past (depthAt n p) 0 (omega arith) (subst (λ x. HoldsBlocks n (sizeOf g labels) 0 x t₁ (seen ++ p ∷ [])) (a .0) holds);
-            past = kept-then (kept-set (3 * n) w p (t .nodes + 1) (omega arith))
-                (kept-then (kept-set (3 * n) one (n + t .blocks) p (omega arith)) (kept-set (3 * n) two (depthAt n p) 0 (omega arith)));
+            holds = holds-past (depthAt n p) 0 (omega arith) (subst (λ x. HoldsBlocks n (sizeOf g labels) 0 x t₁ (seen ++ p ∷ [])) (a .list) holds);
+            size = simp length-set refl;
           };
-          depths = opened-depths g w p (t .nodes + 1) (t .blocks) h f (r .room) (r .depths);
-          but = opened-but g w p (t .nodes + 1) (t .blocks) h f (r .room);
+          depths = opened-depths g w p t h few (r .room) (r .depths);
+          but = opened-but g w p t h few (r .room);
         })
 
 -- ---- the arcs of a block walked, with c runs left for it
@@ -114,7 +106,7 @@ metFrom g labels c arcs count seen i = each (λ s q. met (childrenOf g labels) (
 pub record ArcWalk (g : Graph) (labels : List ℕ) (c p : ℕ) (arcs : List ℕ) (count : ℕ) (w₀ : List ℕ) (t₀ : BlockTally)
     (w : List ℕ) (t : BlockTally) (runs i : ℕ) : Type 0 where
   pub within : i ≤ count
-  pub past : Kept (3 * length g) w₀ w
+  pub size : length w ≡ length w₀
   pub holds : HoldsBlocks (length g) (sizeOf g labels) 0 w t (orderIn (length g) w t)
   pub same : metFrom g labels c arcs count (orderIn (length g) w t) i ≡ metFrom g labels c arcs count (orderIn (length g) w₀ t₀) 0
   pub depths : Depths g w
@@ -122,12 +114,12 @@ pub record ArcWalk (g : Graph) (labels : List ℕ) (c p : ℕ) (arcs : List ℕ)
   pub deepest : Deepest g p runs (map (arc KBWG) (slice i count arcs))
   pub short : runs ≤ c - 1
 
-pub walk-start : {g : Graph} {labels w : List ℕ} {t : BlockTally} {p : ℕ} {w₀ : List ℕ} {t₀ : BlockTally} → BlockOpened g labels w t p w₀ t₀
+pub arc-walk-start : {g : Graph} {labels w : List ℕ} {t : BlockTally} {p : ℕ} {w₀ : List ℕ} {t₀ : BlockTally} → BlockOpened g labels w t p w₀ t₀
     → {arcs : List ℕ} {count : ℕ} → take count arcs ≡ arcsOf g labels p → {c : ℕ} → ArcWalk g labels c p arcs count w₀ t₀ w₀ t₀ 0 0
-walk-start {g} {labels} {p = p} o e = record {
+arc-walk-start {g} {labels} {p = p} o e = record {
   within = omega arith;
-  past = record { size = refl; rest = refl };
-  holds = self (o .numbered .holds);
+  size = refl;
+  holds = holds-here (o .numbered .holds);
   same = refl;
   depths = o .depths;
   left = λ q m f. f;
@@ -139,25 +131,18 @@ walk-start {g} {labels} {p = p} o e = record {
 module _ {g : Graph} {labels : List ℕ} {c p : ℕ} {arcs : List ℕ} {count : ℕ} {w₀ : List ℕ} {t₀ : BlockTally} {w : List ℕ} {t : BlockTally} {runs i : ℕ}
     (k : ArcWalk g labels c p arcs count w₀ t₀ w t runs i) where
   pub walk-recorded : MacondoReady g labels → 3 * length g ≤ length w₀ → BlocksRecorded g labels w t
-  walk-recorded ready room = record { ready = ready; room = omega (arith, k .past .size); holds = k .holds; depths = k .depths }
+  walk-recorded ready room = record { ready = ready; room = omega (arith, k .size); holds = k .holds; depths = k .depths }
 
   -- ---- the next arc
   module _ (q : ℕ) (h : i < count) (fits : count ≤ length arcs) (e : q ≡ arc KBWG (getD arcs i 0)) where
-    pub walk-arc : take count arcs ≡ arcsOf g labels p → List·Memᴰ q (arcsFrom g p)
-    walk-arc a =
-        let v = getD arcs i 0 in
-        let here : List·Memᴰ v (slice i count arcs) = rw (slice-cons i count arcs 0 h fits) (List·Memᴰ·head refl) in
-        let m = subst (List·Memᴰ v) a (in-drop v i (take count arcs) here) in
-        in-children g labels p q (subst (λ x. List·Memᴰ x (childrenOf g labels p)) (sym e) (map-in (arc KBWG) (arcsOf g labels p) v m))
-
     pub walk-next : (w′ : List ℕ) (r : Reached) (m : ℕ) → m ≡ max runs (r .runs) → BlocksReached g labels w t (c - 1) q w′ r
         → ArcWalk g labels c p arcs count w₀ t₀ w′ (r .tally) m (i + 1)
     walk-next w′ r m z n =
         let on : slice i count arcs ≡ getD arcs i 0 ∷ slice (i + 1) count arcs = rw (add-one i) (slice-cons i count arcs 0 h fits) in
         record {
           within = omega arith;
-          past = kept-then (k .past) (n .numbered .past);
-          holds = self (n .numbered .holds);
+          size = n .numbered .size ∙ k .size;
+          holds = holds-here (n .numbered .holds);
           same = ap (λ o. metFrom g labels c arcs count o (i + 1))
               (n .numbered .holds .order ∙ ap (met (childrenOf g labels) (c - 1) (orderIn (length g) w t)) e)
               ∙ ap (λ l. each (λ s q. met (childrenOf g labels) (c - 1) s q) (orderIn (length g) w t) (map (arc KBWG) l)) (sym on) ∙ k .same;
@@ -170,20 +155,16 @@ module _ {g : Graph} {labels : List ℕ} {c p : ℕ} {arcs : List ℕ} {count : 
         }
 
   -- ---- of the block itself
-  module _ {v : List ℕ} {u : BlockTally} (r : BlocksRecorded g labels v u) (h : p < length g) (new : getD v p 0 ≡ 0) (z : c ≢ 0)
-      (e : take count arcs ≡ arcsOf g labels p) (o : BlockOpened g labels v u p w₀ t₀) where
+  module _ {v : List ℕ} {u : BlockTally} (o : BlockOpened g labels v u p w₀ t₀) where
     still-but : NoneBut g p v w
     still-but q l n f = o .but q l n (k .left q l f)
 
     pub walk-below : Below g v p → (q : ℕ) → List·Memᴰ q (arcsFrom g p) → Below g w q
     walk-below b q m = below-arc g v w p q b still-but m
 
-    -- an arc that leads to a chain too long
-    pub walk-deep : (q : ℕ) → List·Memᴰ q (arcsFrom g p) → deeper g (c - 1) q ≡ true → deeper g c p ≡ true
-    walk-deep q m d = let s : c ≡ suc (c - 1) = omega arith in ap (λ x. deeper g x p) s ∙ deep-by-arc g (c - 1) p q m d
-
     -- all arcs walked, and its depth put in: what is met from the block
-    module _ (done : count ≤ i) where
+    module _ (r : BlocksRecorded g labels v u) (h : p < length g) (new : getD v p 0 ≡ 0) (z : c ≢ 0) (e : take count arcs ≡ arcsOf g labels p)
+        (done : count ≤ i) where
       none-to-come : slice i count arcs ≡ []
       none-to-come = let at-end : i ≡ count = omega (arith, k .within) in rw at-end (slice-empty count arcs)
 
@@ -201,52 +182,49 @@ module _ {g : Graph} {labels : List ℕ} {c p : ℕ} {arcs : List ℕ} {count : 
           → BlocksReached g labels v u c p w′ (record { tally = t; runs = runs + 1 })
       walk-done w′ a =
           let n = length g in
-          let room : 3 * n ≤ length w = omega (arith, r .room, k .past .size, o .numbered .past .size) in
+          let room : 3 * n ≤ length w = omega (arith, r .room, k .size, o .numbered .size) in
           let some : runs + 1 ≢ 0 = λ y. omega arith in
           subst (λ x. BlocksReached g labels v u c p x (record { tally = t; runs = runs + 1 })) (sym a) (record {
             numbered = record {
               holds = holds-past (depthAt n p) (runs + 1) (omega arith) (holds-at all-met (k .holds));
-              past = kept-then (o .numbered .past) (kept-then (k .past) (kept-set (3 * n) w (depthAt n p) (runs + 1) (omega arith)));
+              size = length-set w (depthAt n p) (runs + 1) ∙ k .size ∙ o .numbered .size;
             };
             depth = depth-found;
             within = let s = k .short in omega arith;
             depths = depths-kept g w p (runs + 1) h room (λ y. depth-found) (k .depths);
-            left = none-left g w p (runs + 1) h room v some still-but;
+            left = none-left-followed g w p (runs + 1) h room v some still-but;
           })
+
+-- an arc that leads to a chain too long
+pub walk-deep : (g : Graph) (c p : ℕ) → c ≢ 0 → (q : ℕ) → List·Memᴰ q (arcsFrom g p) → deeper g (c - 1) q ≡ true → deeper g c p ≡ true
+walk-deep g c p z q m d = let s : c ≡ suc (c - 1) = omega arith in ap (λ x. deeper g x p) s ∙ deep-by-arc g (c - 1) p q m d
 
 -- ---- from a cleared list on
 module _ (w w′ : List ℕ) {g : Graph} {labels : List ℕ} (ready : MacondoReady g labels) (room : 3 * length g ≤ length w) (e : w′ ≡ cleared (length g) w) where
   pub clear-at : (p : ℕ) → p < length g → getD w′ p 0 ≡ 0
   clear-at p h = ap (λ l. getD l p 0) e ∙ cleared-at (length g) w p h
 
-  clear-past : Kept (3 * length g) w w′
-  clear-past =
-      let n = length g in
-      let parts : 3 * n ≡ n + 2 * n = omega arith in
-      subst (Kept (3 * n) w) (sym e) (record {
-        size = cleared-length n w (omega arith);
-        rest = ap (λ k. drop k (cleared n w)) parts ∙ ap (λ k. drop (k + 2 * n) (cleared n w)) (sym (length-replicate n 0))
-            ∙ drop-append-add (replicate n 0) (drop n w) (2 * n) ∙ drop-drop (2 * n) n w ∙ ap (λ k. drop k w) (sym parts);
-      })
+  clear-length : length w′ ≡ length w
+  clear-length = ap length e ∙ cleared-length (length g) w (omega arith)
 
   pub clear-recorded : (t : BlockTally) → t .blocks ≡ 0 → t .nodes ≡ 0 → BlocksRecorded g labels w′ t
   clear-recorded t b n =
       record {
         ready = ready;
-        room = omega (arith, clear-past .size);
-        holds = self (holds-none (length g) (sizeOf g labels) 0 w′ t clear-at b n);
+        room = omega (arith, clear-length);
+        holds = holds-here (holds-none (length g) (sizeOf g labels) 0 w′ t clear-at b n);
         depths = depths-none g w′ clear-at .0;
       }
 
-  pub clear-below : (p : ℕ) → Below g w′ p
-  clear-below p = depths-none g w′ clear-at .1 p
+  pub cleared-below : (p : ℕ) → Below g w′ p
+  cleared-below p = depths-none g w′ clear-at .1 p
 
   pub clear-numbering : (t : BlockTally) → t .blocks ≡ 0 → (s : ℕ) (v : List ℕ) (r : BlockNumbering) → NumberingFrom g labels w′ t 64 s v r
       → NumberingIs g labels s w v r
   clear-numbering t z s v (Done r) n = (
     record {
-      holds = holds-at (ap (λ o. met (childrenOf g labels) 64 (take o (drop (length g) w′)) s) z) (n .numbered .holds);
-      past = kept-then clear-past (n .numbered .past);
+      holds = holds-at (ap (λ o. met (childrenOf g labels) 64 (blocksIn (length g) w′ o) s) z) (n .numbered .holds);
+      size = n .numbered .size ∙ clear-length;
     },
     n .depth,
     n .depth 64 ∙ le-ltb 64 (r .runs) (n .within),

@@ -1,33 +1,25 @@
--- The arcs of a run have what all nodes of the graph have: so each leads to a node.
-use mathlib.Core.Path.{_≡_, sym, subst}
-use mathlib.Core.List.{List, [], _∷_}
+-- A list that holds a run's arcs: what each entry leads to.
+use mathlib.Core.Path.{_≡_, subst}
+use mathlib.Core.List.{List, List·Memᴰ}
 use Prim.Native.Nat.{ℕ, _≤_, _<_}
-use lib.ListN.{length, getD, take, drop}
-use Rattle.laws.specs.Cases.{split}
-use Rattle.laws.specs.Lists.{All, kept}
-use Rattle.node.specs.Nodes.{KBWG, arc, isEnd}
-use Rattle.graph.specs.Runs.{Graph, run}
-use Rattle.export.specs.Starts.{runOf, hasArc}
+use lib.ListN.{length, getD, take}
+use lib.Seq.{getD-take, length-take-le}
+use Rattle.laws.specs.Members.{at-in}
+use Rattle.node.specs.Nodes.{KBWG, arc}
+use Rattle.graph.specs.Runs.{Graph}
+use Rattle.export.specs.Starts.{arcsFrom}
+use Rattle.export.specs.ChainLaws.{arc-from, arcs-inside}
+use Rattle.macondo_file.specs.ArcLaws.{in-arcs}
 use Rattle.macondo_file.specs.File.{arcsOf}
-use Rattle.macondo_blocks.specs.Blocks.{byTile, MacondoReady}
-use Rattle.macondo_blocks.specs.EntriesLaws.{all-at, all-taken, all-drop, all-kept, all-inserted}
+use Rattle.macondo_file.specs.RowLaws.{MacondoReady}
 
-all-run : (P : ℕ → Type 0) (l : Graph) → All P l → All P (run KBWG l)
-unfolding run
-all-run P [] a = tt
-all-run P (v ∷ l) a = split (isEnd KBWG v) (λ e. rw (e, run) (a .0, tt)) (λ e. rw (e, run) (a .0, all-run P l (a .1)))
+module _ (g : Graph) (labels : List ℕ) (p count : ℕ) (arcs : List ℕ) (i : ℕ)
+    (e : take count arcs ≡ arcsOf g labels p) (h : i < count) (fits : count ≤ length arcs) where
+  arc-held : List·Memᴰ (getD arcs i 0) (arcsOf g labels p)
+  arc-held = rw getD-take at (subst (List·Memᴰ (getD (take count arcs) i 0)) e (at-in (take count arcs) i 0 (rw length-take-le h)))
 
-pub all-arcs : (P : ℕ → Type 0) (g : Graph) (labels : List ℕ) (p : ℕ) → All P g → All P (arcsOf g labels p)
-unfolding arcsOf
-all-arcs P g labels p a =
-    all-inserted (byTile labels) P [] (kept hasArc (runOf g p)) tt (all-kept P hasArc (runOf g p) (all-run P (drop p g) (all-drop P p g a)))
+  pub child-held : List·Memᴰ (arc KBWG (getD arcs i 0)) (arcsFrom g p)
+  child-held = let a = in-arcs g labels p (getD arcs i 0) arc-held in arc-from g p (getD arcs i 0) (a .0) (a .1)
 
-module _ (g : Graph) (labels : List ℕ) (ready : MacondoReady g labels) where
-  arcs-inside : (p : ℕ) → All (λ v. arc KBWG v < length g) (arcsOf g labels p)
-  arcs-inside p = all-arcs (λ v. arc KBWG v < length g) g labels p (all-at (λ v. arc KBWG v < length g) g (ready .fit .steps .arcs))
-
-  -- where a list holds a run's arcs
-  pub child-inside : (p count : ℕ) (arcs : List ℕ) (i : ℕ) → take count arcs ≡ arcsOf g labels p → i < count → count ≤ length arcs
-      → arc KBWG (getD arcs i 0) < length g
-  child-inside p count arcs i e h fits =
-      all-taken (λ v. arc KBWG v < length g) count arcs i (subst (All (λ v. arc KBWG v < length g)) (sym e) (arcs-inside p)) h fits
+  pub child-inside : MacondoReady g labels → arc KBWG (getD arcs i 0) < length g
+  child-inside ready = arcs-inside g (ready .fit .steps) p (arc KBWG (getD arcs i 0)) child-held

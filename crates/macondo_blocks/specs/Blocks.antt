@@ -1,30 +1,25 @@
 -- What the Macondo writer computes before it writes, named for the contracts of this crate.
 use mathlib.Core.Path.{_≡_}
-use mathlib.Core.Bool.{Bool, true, false}
+use mathlib.Core.Bool.{true, false}
 use mathlib.Core.List.{List, [], _∷_, _++_}
 use Prim.Native.Nat.{ℕ, _*_, _≤_, _<_}
 use lib.ListN.{length, take}
 use lib.Seq.{slice}
 use Rattle.laws.specs.Lists.{All, kept}
 use Rattle.laws.specs.Sorting.{inserted, insertedAll}
-use Rattle.node.specs.Nodes.{KBWG, tile, arc}
-use Rattle.graph.specs.Runs.{Graph, ascends}
-use Rattle.graph.specs.ChecksLaws.{Fit}
-use Rattle.graph.specs.Lent.{Kept}
-use Rattle.export.specs.Starts.{hasArc, unlabelled, deeper}
+use Rattle.node.specs.Nodes.{KBWG, tile}
+use Rattle.graph.specs.Runs.{Graph}
+use Rattle.export.specs.Starts.{hasArc, deeper}
 use Rattle.export.specs.Blocks.{met}
 use Rattle.block_record.specs.Record.{orderIn, HoldsBlocks}
 use Rattle.block_record.specs.Depths.{Depth, Depths, NoneLeft}
 use Rattle.block_record.specs.declared.BlockTally.{BlockTally}
-use Rattle.macondo_file.specs.Alphabet.{precedes}
+use Rattle.macondo_file.specs.Alphabet.{byTile}
 use Rattle.macondo_file.specs.File.{childrenOf, sizeOf, blocksFrom}
+use Rattle.macondo_file.specs.RowLaws.{MacondoReady}
 use Rattle.macondo_blocks.specs.declared.blocks.Reached.{Reached}
 use Rattle.macondo_blocks.specs.declared.blocks.BlockNumbering.{BlockNumbering}
 use Rattle.macondo_blocks.specs.declared.blocks.BlockNumbering.the-variants.{Done, TooDeep}
-
--- the arc order, of nodes by their tiles; a tile as a node without arc and flags is its own tile
-abbrev pub byTile : List ℕ → ℕ → ℕ → Bool
-byTile labels v w = precedes labels (tile KBWG v) (tile KBWG w)
 
 -- every node's tile has a label
 abbrev pub AllLabelled : List ℕ → List ℕ → Type 0
@@ -44,13 +39,6 @@ pub record Slot (labels list : List ℕ) (count v r : ℕ) : Type 0 where
 abbrev pub withArc : List ℕ → List ℕ → ℕ → List ℕ
 withArc labels arcs v = insertedAll (byTile labels) arcs (kept hasArc (v ∷ []))
 
--- what the checks before the walk say of graph and labels
-pub record MacondoReady (g : Graph) (labels : List ℕ) : Type 0 where
-  pub fit : Fit g
-  pub up : ascends KBWG g ≡ true
-  pub labelled : unlabelled g labels ≡ false
-  pub few : length labels ≤ 50
-
 -- the work list has room for the record and the depths; it holds the blocks numbered so far, and how deep they are
 pub record BlocksRecorded (g : Graph) (labels : List ℕ) (w : List ℕ) (t : BlockTally) : Type 0 where
   pub ready : MacondoReady g labels
@@ -58,10 +46,10 @@ pub record BlocksRecorded (g : Graph) (labels : List ℕ) (w : List ℕ) (t : Bl
   pub holds : HoldsBlocks (length g) (sizeOf g labels) 0 w t (orderIn (length g) w t)
   pub depths : Depths g w
 
--- what numbering leaves: the record of the blocks in the list, and the numbers past the depths as before
+-- what numbering leaves: the record of the blocks in a list as long as before
 pub record BlocksNumbered (g : Graph) (labels : List ℕ) (w w′ : List ℕ) (t : BlockTally) (blocks : List ℕ) : Type 0 where
   pub holds : HoldsBlocks (length g) (sizeOf g labels) 0 w′ t blocks
-  pub past : Kept (3 * length g) w w′
+  pub size : length w′ ≡ length w
 
 -- the same of a block and what its arcs lead to, where a record stands and a chain of c runs is left: the runs in the longest chain from
 -- it, which are no more; the depths of all blocks that are not being followed; and that no other block is followed than before
@@ -72,6 +60,7 @@ pub record BlocksReached (g : Graph) (labels w : List ℕ) (t : BlockTally) (c p
   pub depths : Depths g w′
   pub left : NoneLeft g w w′
 
+-- what numbering from a block answers: where it ends, or that a chain from the block has more than c runs
 abbrev pub NumberingFrom : Graph → List ℕ → List ℕ → BlockTally → ℕ → ℕ → List ℕ → BlockNumbering → Type 0
 NumberingFrom g labels w t c p w′ (Done r) = BlocksReached g labels w t c p w′ r
 NumberingFrom g labels w t c p w′ TooDeep = deeper g c p ≡ true

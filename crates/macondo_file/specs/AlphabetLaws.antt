@@ -14,7 +14,7 @@ use Rattle.laws.specs.Firsts.{placeIn, place-le, place-lt, place-at}
 use Rattle.laws.specs.Members.{getD-map-in}
 use Rattle.laws.specs.Sorting.{insertedAll, in-sorted, sorted-in, sorted-length}
 use Rattle.graph.specs.Counting.{table}
-use Rattle.macondo_file.specs.Alphabet.{precedes, letters, letterIn, letterOf}
+use Rattle.macondo_file.specs.Alphabet.{precedes, tilesUp, letters, letterIn, letterOf}
 use Rattle.macondo_file.specs.File.{codePoints}
 use Rattle.graph.specs.TableLaws.{table-length, table-in, from-table}
 
@@ -26,7 +26,7 @@ letters-ranked = refl
 module _ (labels : List ℕ) where
   letters-length : length (letters labels) ≡ length labels - 1
   unfolding letters
-  letters-length = sorted-length (precedes labels) (table (length labels - 1) suc) ∙ table-length (length labels - 1) suc
+  letters-length = sorted-length (precedes labels) (tilesUp labels) ∙ table-length (length labels - 1) suc
 
   pub letter-most : length labels ≤ 50 → (t : ℕ) → letterOf labels t ≤ 50
   unfolding letterOf
@@ -39,12 +39,12 @@ module _ (labels : List ℕ) where
   unfolding letters
   letters-in zero z h = absurd (omega arith)
   letters-in (suc i) z h =
-      sorted-in (precedes labels) (table (length labels - 1) suc) (suc i) (table-in (length labels - 1) suc i (omega arith))
+      sorted-in (precedes labels) (tilesUp labels) (suc i) (table-in (length labels - 1) suc i (omega arith))
 
   pub in-letters : (t : ℕ) → List·Memᴰ t (letters labels) → (0 < t) × (t < length labels)
   unfolding letters
   in-letters t m =
-      let r = from-table (length labels - 1) suc t (in-sorted (precedes labels) (table (length labels - 1) suc) t m) in
+      let r = from-table (length labels - 1) suc t (in-sorted (precedes labels) (tilesUp labels) t m) in
       let h = r .1 in
       let e = r .2 in
       (omega arith, omega arith)

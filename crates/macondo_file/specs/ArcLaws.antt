@@ -15,24 +15,23 @@ use Rattle.laws.specs.Sorting.{in-sorted, sorted-in, sorted-length}
 use Rattle.node.specs.Nodes.{KBWG, tile, arc, isEnd}
 use Rattle.graph.specs.Runs.{Graph, run, ascends}
 use Rattle.graph.specs.WordsAscend.{ascends-head, ascends-tail, ascends-drop}
-use Rattle.export.specs.Starts.{runOf, hasArc}
+use Rattle.export.specs.Starts.{runOf, hasArc, arcsFrom}
 use Rattle.graph.specs.RunLaws.{run-last, run-next, in-graph}
-use Rattle.export.specs.ChainLaws.{arcsFrom, arc-from, from-arc}
-use Rattle.macondo_file.specs.Alphabet.{precedes, letterOf}
+use Rattle.export.specs.LabelLaws.{labelled-in}
+use Rattle.export.specs.ChainLaws.{arc-from, from-arc}
+use Rattle.macondo_file.specs.Alphabet.{byTile, letterAt}
 use Rattle.macondo_file.specs.AlphabetLaws.{letter-apart}
 use Rattle.macondo_file.specs.File.{arcsOf, childrenOf}
-use Rattle.macondo_file.specs.RowLaws.{MacondoChecked}
+use Rattle.macondo_file.specs.RowLaws.{MacondoReady}
 
 module _ (g : Graph) (labels : List ℕ) where
   pub in-arcs : (p v : ℕ) → List·Memᴰ v (arcsOf g labels p) → List·Memᴰ v (runOf g p) × (hasArc v ≡ true)
   unfolding arcsOf
-  in-arcs p v m =
-      in-kept hasArc (runOf g p) v (in-sorted (λ v w. precedes labels (tile KBWG v) (tile KBWG w)) (kept hasArc (runOf g p)) v m)
+  in-arcs p v m = in-kept hasArc (runOf g p) v (in-sorted (byTile labels) (kept hasArc (runOf g p)) v m)
 
   pub arcs-in : (p v : ℕ) → List·Memᴰ v (runOf g p) → hasArc v ≡ true → List·Memᴰ v (arcsOf g labels p)
   unfolding arcsOf
-  arcs-in p v m h =
-      sorted-in (λ v w. precedes labels (tile KBWG v) (tile KBWG w)) (kept hasArc (runOf g p)) v (kept-in hasArc (runOf g p) v m h)
+  arcs-in p v m h = sorted-in (byTile labels) (kept hasArc (runOf g p)) v (kept-in hasArc (runOf g p) v m h)
 
   -- the order changes nothing of where they lead
   pub in-children : (p q : ℕ) → List·Memᴰ q (childrenOf g labels p) → List·Memᴰ q (arcsFrom g p)
@@ -49,7 +48,7 @@ module _ (g : Graph) (labels : List ℕ) where
   arcs-length : (p : ℕ) → length (arcsOf g labels p) ≤ length (runOf g p)
   unfolding arcsOf
   arcs-length p =
-      let a = sorted-length (λ v w. precedes labels (tile KBWG v) (tile KBWG w)) (kept hasArc (runOf g p)) in
+      let a = sorted-length (byTile labels) (kept hasArc (runOf g p)) in
       let b = kept-length hasArc (runOf g p) in
       omega arith
 
@@ -104,27 +103,30 @@ run-tiles (v ∷ l) a =
       run-tiles l (ascends-drop KBWG 1 (v ∷ l) a),
     ))
 
-module _ {g : Graph} {labels name : List ℕ} {lentWork : ℕ} (c : MacondoChecked g labels name lentWork) where
+module _ {g : Graph} {labels : List ℕ} (c : MacondoReady g labels) where
+  run-labelled : (p v : ℕ) → List·Memᴰ v (runOf g p) → tile KBWG v < length labels
+  run-labelled p v m = labelled-in g labels (c .labelled) v (in-graph KBWG g p v m)
+
   run-once : (p : ℕ) → NoRepeats (map (tile KBWG) (runOf g p))
   run-once p = run-tiles (drop p g) (ascends-drop KBWG p g (c .ascending))
 
   pub arcs-once : (p : ℕ) → NoRepeats (arcsOf g labels p)
   unfolding arcsOf
   arcs-once p =
-      no-repeats-sorted (λ v w. precedes labels (tile KBWG v) (tile KBWG w)) (kept hasArc (runOf g p))
+      no-repeats-sorted (byTile labels) (kept hasArc (runOf g p))
       (no-repeats-kept hasArc (runOf g p) (map-no-repeats (tile KBWG) (runOf g p) (run-once p)))
 
   -- no two nodes of a run have one letter
   pub letters-apart : (p v w : ℕ) → List·Memᴰ v (runOf g p) → List·Memᴰ w (runOf g p)
-      → letterOf labels (tile KBWG v) ≡ letterOf labels (tile KBWG w) → v ≡ w
+      → letterAt labels v ≡ letterAt labels w → v ≡ w
   letters-apart p v w m n e =
       map-apart (tile KBWG) (runOf g p) (run-once p) v w m n
-      (letter-apart labels (c .fifty) (tile KBWG v) (tile KBWG w) (c .labelled v (in-graph KBWG g p v m)) (c .labelled w (in-graph KBWG g p w n)) e)
+      (letter-apart labels (c .fifty) (tile KBWG v) (tile KBWG w) (run-labelled p v m) (run-labelled p w n) e)
 
--- ---- how many arcs a block has
-pub arcs-few : (g : Graph) (labels : List ℕ) → ascends KBWG g ≡ true → ((v : ℕ) → List·Memᴰ v g → tile KBWG v < length labels)
-    → length labels ≤ 50 → (p : ℕ) → length (arcsOf g labels p) ≤ 50
-arcs-few g labels ascending labelled fifty p =
-    let a = arcs-length g labels p in
-    let b = run-most (length labels) (drop p g) (ascends-drop KBWG p g ascending) (λ v m. labelled v (in-graph KBWG g p v m)) in
-    omega arith
+  -- ---- how many arcs a block has
+  pub arcs-few : (p : ℕ) → length (arcsOf g labels p) ≤ 50
+  arcs-few p =
+      let a = arcs-length g labels p in
+      let b = run-most (length labels) (drop p g) (ascends-drop KBWG p g (c .ascending)) (run-labelled p) in
+      let d = c .fifty in
+      omega arith

@@ -4,23 +4,23 @@ use mathlib.Core.Path.{_≡_, refl, ap, _∙_}
 use mathlib.Core.Bool.{false}
 use mathlib.Core.Logic.{⊎-elim}
 use mathlib.Core.List.{List, [], _∷_, map, List·Memᴰ, List·Memᴰ·not-nil, List·Memᴰ·cases-cons}
-use Prim.Native.Nat.{ℕ, suc, _+_, _*_, _^_, _≤_, _<_}
+use Prim.Native.Nat.{ℕ, suc, _+_, _^_, _≤_, _<_}
 use native.Mathlib.Omega.{arith}
 use lib.ListN.{length, length-map}
 use Rattle.laws.specs.Firsts.{placeIn, place-lt, firsts-all, firsts-length, firsts-from}
 use Rattle.laws.specs.Members.{in-map, map-in, in-join}
 use Rattle.node.specs.Nodes.{KBWG, tile, arc}
 use Rattle.graph.specs.Runs.{Graph, startNode}
-use Rattle.export.specs.Starts.{deeper}
+use Rattle.graph.specs.ChecksLaws.{start-inside}
+use Rattle.export.specs.Starts.{arcsFrom, deeper}
 use Rattle.export.specs.Blocks.{blockAt, total}
 use Rattle.export.specs.BlocksLaws.{Low, every-met, few-met, first-met, start-met, children-met, blocks-length}
 use Rattle.export.specs.BlocksLaws.{block-first, block-within, block-upto, blocks-most}
-use Rattle.export.specs.ChainLaws.{arcsFrom, arcs-inside, shallow-low}
-use Rattle.macondo_file.specs.Alphabet.{letterOf}
+use Rattle.export.specs.ChainLaws.{arcs-inside, shallow-low}
 use Rattle.macondo_file.specs.AlphabetLaws.{letter-most}
 use Rattle.macondo_file.specs.File.{Format, dawg, gaddag, marks, arcsOf, childrenOf, sizeOf, setOf}
-use Rattle.macondo_file.specs.File.{blocks, letterSets, blockNumber, blockOf, macondoNodes}
-use Rattle.macondo_file.specs.RowLaws.{MacondoChecked}
+use Rattle.macondo_file.specs.File.{blocks, letterSets, blockNumber, headNode, arcNode, arcNodes, blockOf, macondoNodes}
+use Rattle.macondo_file.specs.RowLaws.{MacondoReady}
 use Rattle.macondo_file.specs.ArcLaws.{in-children, children-in, arcs-few}
 use Rattle.macondo_file.specs.SetLaws.{set-below}
 
@@ -29,19 +29,12 @@ root-below dawg = omega arith
 root-below gaddag = omega arith
 
 module _ (g : Graph) (labels : List ℕ) (f : Format) where
-  -- a node for an arc, and a block's head
-  abbrev pub arcNode : ℕ → ℕ
-  arcNode v = letterOf labels (tile KBWG v) * 2 ^ 24 + blockNumber g labels f (arc KBWG v)
-
-  abbrev pub headNode : ℕ → ℕ
-  headNode p = length (arcsOf g labels p) * 2 ^ 24 + placeIn (letterSets g labels f) (setOf g labels p)
-
-  pub block-is : (p : ℕ) → blockOf g labels f p ≡ headNode p ∷ map arcNode (arcsOf g labels p)
+  pub block-is : (p : ℕ) → blockOf g labels f p ≡ headNode g labels f p ∷ arcNodes g labels f p
   unfolding blockOf
   block-is p = refl
 
   pub block-length : (p : ℕ) → length (blockOf g labels f p) ≡ sizeOf g labels p
-  block-length p = ap length (block-is p) ∙ ap suc (length-map (arcsOf g labels p) arcNode)
+  block-length p = ap length (block-is p) ∙ ap suc (length-map (arcsOf g labels p) (arcNode g labels f))
 
   pub nodes-length : length (macondoNodes g labels f) ≡ total (sizeOf g labels) (blocks g labels f)
   unfolding macondoNodes
@@ -88,29 +81,29 @@ module _ (g : Graph) (labels : List ℕ) (f : Format) where
       let r = first-met (childrenOf g labels) 63 s in
       ap (λ l. blockAt (sizeOf g labels) 0 l s) (r .1) ∙ block-first (sizeOf g labels) 0 s (r .0)
 
-module _ {g : Graph} {labels name : List ℕ} {lentWork : ℕ} (c : MacondoChecked g labels name lentWork) (f : Format) where
-  pub start-inside : startNode g (marks f .root) < length g
-  start-inside = let a = root-below f in let b = c .sound .two in c .sound .steps .arcs (marks f .root) (omega arith)
+module _ {g : Graph} {labels : List ℕ} (c : MacondoReady g labels) (f : Format) where
+  pub format-start-inside : startNode g (marks f .root) < length g
+  format-start-inside = start-inside (c .fit) (marks f .root) (root-below f)
 
   child-inside : (p q : ℕ) → List·Memᴰ q (childrenOf g labels p) → q < length g
-  child-inside p q m = arcs-inside g (c .sound .steps) p q (in-children g labels p q m)
+  child-inside p q m = arcs-inside g (c .fit .steps) p q (in-children g labels p q m)
 
   -- every block is the number of a node, and there are at most as many
   pub block-inside : (p : ℕ) → List·Memᴰ p (blocks g labels f) → p < length g
   unfolding blocks
   block-inside =
-      every-met (childrenOf g labels) (λ p. p < length g) (λ p q h m. child-inside p q m) 64 (startNode g (marks f .root)) start-inside
+      every-met (childrenOf g labels) (λ p. p < length g) (λ p q h m. child-inside p q m) 64 (startNode g (marks f .root)) format-start-inside
 
-  pub blocks-few : length (blocks g labels f) ≤ length g
+  pub blocks-most-nodes : length (blocks g labels f) ≤ length g
   unfolding blocks
-  blocks-few = few-met (childrenOf g labels) (length g) (λ p q h m. child-inside p q m) 64 (startNode g (marks f .root)) start-inside
+  blocks-most-nodes = few-met (childrenOf g labels) (length g) (λ p q h m. child-inside p q m) 64 (startNode g (marks f .root)) format-start-inside
 
   pub set-number-below : (p : ℕ) → List·Memᴰ p (blocks g labels f) → placeIn (letterSets g labels f) (setOf g labels p) < 2 ^ 24
   set-number-below p m =
       let a = place-lt (letterSets g labels f) (setOf g labels p) (set-met g labels f p m) in
       let b = sets-few g labels f in
-      let d = blocks-few in
-      let e = c .sound .most in
+      let d = blocks-most-nodes in
+      let e = c .fit .most in
       omega arith
 
   pub sets-below : (v : ℕ) → List·Memᴰ v (letterSets g labels f) → v < 2 ^ 64
@@ -124,20 +117,20 @@ module _ {g : Graph} {labels name : List ℕ} {lentWork : ℕ} (c : MacondoCheck
   -- every node of the file fits in four bytes: a block's head, and a node for an arc
   head-below : (p : ℕ) → List·Memᴰ p (blocks g labels f) → headNode g labels f p < 2 ^ 32
   head-below p m =
-      let a = arcs-few g labels (c .ascending) (c .labelled) (c .fifty) p in
+      let a = arcs-few c p in
       let b = set-number-below p m in
       omega arith
 
   module _ (few : length (macondoNodes g labels f) ≤ 2 ^ 24) where
-    pub arc-below : (v : ℕ) → arcNode g labels f v < 2 ^ 32
+    arc-below : (v : ℕ) → arcNode g labels f v < 2 ^ 32
     arc-below v =
         let a = letter-most labels (c .fifty) (tile KBWG v) in
         let b = number-most g labels f (arc KBWG v) in
         omega arith
 
-    pub nodes-below : (v : ℕ) → List·Memᴰ v (macondoNodes g labels f) → v < 2 ^ 32
+    pub macondo-nodes-below : (v : ℕ) → List·Memᴰ v (macondoNodes g labels f) → v < 2 ^ 32
     unfolding macondoNodes
-    nodes-below v m =
+    macondo-nodes-below v m =
         let r = in-join (blockOf g labels f) (blocks g labels f) v m in
         ⊎-elim
         (λ i. rw i (head-below (r .0) (r .1)))

@@ -1,6 +1,6 @@
 -- What is read at a block's number: its set, and a node for each of its arcs. The idea: the number is the place of the block's head.
 use mathlib.Core.Path.{_≡_, sym, ap, _∙_}
-use mathlib.Core.List.{List, _∷_, _++_, map, List·Memᴰ}
+use mathlib.Core.List.{List, _∷_, _++_, List·Memᴰ}
 use Prim.Native.Nat.{ℕ, suc, _/_, _%_, _^_}
 use native.Mathlib.Nat.{zero-add, add-zero}
 use native.Mathlib.Numerals.{add-one}
@@ -10,9 +10,9 @@ use lib.Seq.{take-at, getD-drop, drop-drop}
 use Rattle.laws.specs.Firsts.{place-at}
 use Rattle.graph.specs.Runs.{Graph}
 use Rattle.export.specs.BlocksLaws.{block-at}
-use Rattle.macondo_file.specs.File.{Format, arcsOf, sizeOf, setOf, blocks, letterSets, blockNumber, blockOf, macondoNodes}
-use Rattle.macondo_file.specs.RowLaws.{MacondoChecked}
-use Rattle.macondo_file.specs.BlockLaws.{arcNode, headNode, block-is, block-length, set-met, set-number-below}
+use Rattle.macondo_file.specs.File.{Format, arcsOf, sizeOf, setOf, blocks, letterSets, blockNumber, headNode, arcNode, arcNodes, blockOf, macondoNodes}
+use Rattle.macondo_file.specs.RowLaws.{MacondoReady}
+use Rattle.macondo_file.specs.BlockLaws.{block-is, block-length, set-met, set-number-below}
 
 -- the entry at a place and the list after it, by the list from that place on
 drop-head : (l : List ℕ) (d x : ℕ) (r : List ℕ) → drop d l ≡ x ∷ r → (getD l d 0 ≡ x) × (drop (suc d) l ≡ r)
@@ -21,7 +21,7 @@ drop-head l d x r e = (
   ap (λ k. drop k l) (sym (add-one d)) ∙ sym (drop-drop 1 d l) ∙ ap (drop 1) e,
 )
 
-module _ {g : Graph} {labels name : List ℕ} {lentWork : ℕ} (c : MacondoChecked g labels name lentWork) (f : Format) where
+module _ {g : Graph} {labels : List ℕ} (c : MacondoReady g labels) (f : Format) where
   abbrev nodes : List ℕ
   nodes = macondoNodes g labels f
 
@@ -30,12 +30,12 @@ module _ {g : Graph} {labels name : List ℕ} {lentWork : ℕ} (c : MacondoCheck
 
   pub record BlockRead (p : ℕ) : Type 0 where
     pub set-read : getD (letterSets g labels f) (head p % 2 ^ 24) 0 ≡ setOf g labels p
-    pub arcs-read : take (head p / 2 ^ 24) (drop (suc (blockNumber g labels f p)) nodes) ≡ map (arcNode g labels f) (arcsOf g labels p)
+    pub arcs-read : take (head p / 2 ^ 24) (drop (suc (blockNumber g labels f p)) nodes) ≡ arcNodes g labels f p
 
   pub block-read : (p : ℕ) → List·Memᴰ p (blocks g labels f) → BlockRead p
   unfolding macondoNodes
   block-read p m =
-      let arcs = map (arcNode g labels f) (arcsOf g labels p) in
+      let arcs = arcNodes g labels f p in
       let count = length (arcsOf g labels p) in
       let r = block-at (sizeOf g labels) (blockOf g labels f) (block-length g labels f) (blocks g labels f) 0 p m in
       let at : blockNumber g labels f p ≡ r .0 = r .2 ∙ zero-add (r .0) in

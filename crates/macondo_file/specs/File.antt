@@ -13,7 +13,7 @@ use Rattle.node.specs.Nodes.{KBWG, tile, arc, accepts}
 use Rattle.graph.specs.Runs.{Graph, startNode}
 use Rattle.export.specs.Starts.{runOf, hasArc}
 use Rattle.export.specs.Blocks.{met, blockAt}
-use Rattle.macondo_file.specs.Alphabet.{precedes, letters, letterOf}
+use Rattle.macondo_file.specs.Alphabet.{letters, byTile, letterAt}
 
 pub data Format : Type 0 where
   dawg gaddag : Format
@@ -31,6 +31,10 @@ marks gaddag = record { magic = 0x63 ∷ 0x67 ∷ 0x64 ∷ 0x67 ∷ []; root = 1
 abbrev pub endsInLetter : ℕ → Bool
 endsInLetter v = accepts KBWG v && not (eqb (tile KBWG v) 0)
 
+-- "a set has bit r for the letter of rank r": the set of p's run, where `rank` gives the letter of a node
+abbrev pub setWith : (ℕ → ℕ) → Graph → ℕ → ℕ
+setWith rank g p = bitSet (map rank (kept endsInLetter (runOf g p)))
+
 -- "the code points stand in rank order"
 abbrev pub codePoints : List ℕ → List ℕ
 codePoints labels = map (λ t. getD labels t 0) (letters labels)
@@ -42,7 +46,7 @@ section width numbers = bigEndian 4 (length numbers) ++ bigEndians width numbers
 module _ (g : Graph) (labels : List ℕ) where
   -- "then its arcs by that order": the nodes of a run that have arcs
   unfoldable pub arcsOf : ℕ → List ℕ
-  arcsOf p = sorted (λ v w. precedes labels (tile KBWG v) (tile KBWG w)) (kept hasArc (runOf g p))
+  arcsOf p = sorted (byTile labels) (kept hasArc (runOf g p))
 
   -- the blocks that the arcs of p's block lead to
   abbrev pub childrenOf : ℕ → List ℕ
@@ -56,11 +60,12 @@ module _ (g : Graph) (labels : List ℕ) where
   abbrev pub blocksFrom : ℕ → List ℕ
   blocksFrom s = met childrenOf 64 [] s
 
-  -- "a set has bit r for the letter of rank r"
+  -- a block's set: that of its run, by the letters written
   unfoldable pub setOf : ℕ → ℕ
-  setOf p = bitSet (map (λ v. letterOf labels (tile KBWG v)) (kept endsInLetter (runOf g p)))
+  setOf p = setWith (letterAt labels) g p
 
   module _ (f : Format) where
+    -- "depth first, each before its children", from the start of the format
     unfoldable pub blocks : List ℕ
     blocks = blocksFrom (startNode g (marks f .root))
 
@@ -73,14 +78,25 @@ module _ (g : Graph) (labels : List ℕ) where
     blockNumber p = blockAt sizeOf 0 blocks p
 
     -- "Head: arc count × 2^24 + letter-set number; arc: letter × 2^24 + child block."
-    unfoldable pub blockOf : ℕ → List ℕ
-    blockOf p =
-        (length (arcsOf p) * 2 ^ 24 + placeIn letterSets (setOf p))
-        ∷ map (λ v. letterOf labels (tile KBWG v) * 2 ^ 24 + blockNumber (arc KBWG v)) (arcsOf p)
+    abbrev pub headNode : ℕ → ℕ
+    headNode p = length (arcsOf p) * 2 ^ 24 + placeIn letterSets (setOf p)
 
+    abbrev pub arcNode : ℕ → ℕ
+    arcNode v = letterAt labels v * 2 ^ 24 + blockNumber (arc KBWG v)
+
+    abbrev pub arcNodes : ℕ → List ℕ
+    arcNodes p = map arcNode (arcsOf p)
+
+    -- "A block is one head, then its arcs by that order."
+    unfoldable pub blockOf : ℕ → List ℕ
+    blockOf p = headNode p ∷ arcNodes p
+
+    -- the blocks one after the other, as they are numbered
     unfoldable pub macondoNodes : List ℕ
     macondoNodes = joinAll (map blockOf blocks)
 
+    -- "`cdwg` or `cgdg`; name length (1 byte), name; letter count (4), code points (4 each); letter-set count (4), sets (8 each); node count
+    -- (4), nodes (4 each)."
     unfoldable pub macondoFile : List ℕ → List ℕ
     macondoFile name =
         marks f .magic ++ (length name ∷ name) ++ (section 4 (codePoints labels) ++ (section 8 letterSets ++ section 4 macondoNodes))

@@ -31,27 +31,27 @@ countAt bytes = fromBig 0 (take 4 bytes)
 abbrev pub numbersAt : ℕ → List ℕ → List ℕ
 numbersAt width bytes = bigNumbers width (countAt bytes) (drop 4 bytes)
 
-abbrev pub after : ℕ → List ℕ → List ℕ
-after width bytes = drop (4 + width * countAt bytes) bytes
+abbrev pub afterSection : ℕ → List ℕ → List ℕ
+afterSection width bytes = drop (4 + width * countAt bytes) bytes
 
 -- where the sections begin: magic, name length, name; code points; sets; nodes
-abbrev pub lettersIn : List ℕ → List ℕ
-lettersIn file = drop (5 + getD file 4 0) file
+abbrev pub letterSection : List ℕ → List ℕ
+letterSection file = drop (5 + getD file 4 0) file
 
-abbrev pub setsRead : List ℕ → List ℕ
-setsRead file = after 4 (lettersIn file)
+abbrev pub setSection : List ℕ → List ℕ
+setSection file = afterSection 4 (letterSection file)
 
-abbrev pub nodesIn : List ℕ → List ℕ
-nodesIn file = after 8 (setsRead file)
+abbrev pub nodeSection : List ℕ → List ℕ
+nodeSection file = afterSection 8 (setSection file)
 
 -- "block 0's words": no path follows as many arcs as there are nodes
 unfoldable pub macondoWords : List ℕ → List Word
-macondoWords file = blockWords (numbersAt 8 (setsRead file)) (numbersAt 4 (nodesIn file)) (countAt (nodesIn file)) 0
+macondoWords file = blockWords (numbersAt 8 (setSection file)) (numbersAt 4 (nodeSection file)) (countAt (nodeSection file)) 0
 
 -- the code point that the file has for a letter; the 50 of tile 0 has none there, and is read as 5E, where tile 0 stands "in the arc
 -- order"
 abbrev pub codePointIn : List ℕ → ℕ → ℕ
-codePointIn file r = getD (numbersAt 4 (lettersIn file)) r 0x5E
+codePointIn file r = getD (numbersAt 4 (letterSection file)) r 0x5E
 
 -- the words of the file in code points
 abbrev pub wordsInCodePoints : List ℕ → List Word

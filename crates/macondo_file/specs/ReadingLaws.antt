@@ -18,40 +18,37 @@ use Rattle.endian.specs.BigLaws.{big-length, bigs-length, big-back, numbers-bac
 use Rattle.graph.specs.Runs.{Graph}
 use Rattle.macondo_file.specs.Alphabet.{codePoint, letters, letterOf}
 use Rattle.macondo_file.specs.AlphabetLaws.{in-letters, code-point-at, code-points-length}
-use Rattle.macondo_file.specs.File.{Format, dawg, gaddag, marks, letterSets, macondoNodes, codePoints, macondoFile}
-use Rattle.macondo_file.specs.Reading.{blockWords, countAt, numbersAt, after, lettersIn, setsRead, nodesIn, macondoWords, codePointIn}
+use Rattle.macondo_file.specs.File.{Format, dawg, gaddag, marks, letterSets, macondoNodes, codePoints, section, macondoFile}
+use Rattle.macondo_file.specs.Reading.{blockWords, countAt, numbersAt, afterSection, letterSection, setSection, nodeSection, macondoWords, codePointIn}
 use Rattle.macondo_file.specs.Row.{noCodePoint}
-use Rattle.macondo_file.specs.RowLaws.{MacondoChecked}
-use Rattle.macondo_file.specs.BlockLaws.{sets-few, blocks-few, sets-below, nodes-below}
+use Rattle.macondo_file.specs.RowLaws.{MacondoReady}
+use Rattle.macondo_file.specs.BlockLaws.{sets-few, blocks-most-nodes, sets-below, macondo-nodes-below}
 
 -- ---- one section: its count, then its numbers
-abbrev written : ℕ → List ℕ → List ℕ
-written width numbers = bigEndian 4 (length numbers) ++ bigEndians width numbers
-
-section-length : (width : ℕ) (l : List ℕ) → length (written width l) ≡ 4 + width * length l
+pub section-length : (width : ℕ) (l : List ℕ) → length (section width l) ≡ 4 + width * length l
 section-length width l =
     let a = big-length 4 (length l) in
     let b = bigs-length width l in
     length-append (bigEndian 4 (length l)) (bigEndians width l) ∙ omega arith
 
 module _ (width : ℕ) (l rest : List ℕ) (small : length l < 256 ^ 4) where
-  count-first : written width l ++ rest ≡ bigEndian 4 (length l) ++ (bigEndians width l ++ rest)
+  count-first : section width l ++ rest ≡ bigEndian 4 (length l) ++ (bigEndians width l ++ rest)
   count-first = append-assoc (bigEndian 4 (length l)) (bigEndians width l) rest
 
-  section-count : countAt (written width l ++ rest) ≡ length l
+  section-count : countAt (section width l ++ rest) ≡ length l
   section-count =
       ap countAt count-first
       ∙ ap (fromBig 0) (take-at (bigEndian 4 (length l)) (bigEndians width l ++ rest) 4 (big-length 4 (length l)))
       ∙ big-back 4 (length l) small
 
-  section-after : after width (written width l ++ rest) ≡ rest
+  section-after : afterSection width (section width l ++ rest) ≡ rest
   section-after =
-      ap (λ n. drop (4 + width * n) (written width l ++ rest)) section-count
-      ∙ drop-at (written width l) rest (4 + width * length l) (section-length width l)
+      ap (λ n. drop (4 + width * n) (section width l ++ rest)) section-count
+      ∙ drop-at (section width l) rest (4 + width * length l) (section-length width l)
 
-  section-numbers : ((v : ℕ) → List·Memᴰ v l → v < 256 ^ width) → numbersAt width (written width l ++ rest) ≡ l
+  section-numbers : ((v : ℕ) → List·Memᴰ v l → v < 256 ^ width) → numbersAt width (section width l ++ rest) ≡ l
   section-numbers h =
-      ap (λ n. bigNumbers width n (drop 4 (written width l ++ rest))) section-count
+      ap (λ n. bigNumbers width n (drop 4 (section width l ++ rest))) section-count
       ∙ ap (λ b. bigNumbers width (length l) (drop 4 b)) count-first
       ∙ ap (bigNumbers width (length l)) (drop-at (bigEndian 4 (length l)) (bigEndians width l ++ rest) 4 (big-length 4 (length l)))
       ∙ numbers-back width l rest h
@@ -63,13 +60,13 @@ magic-length gaddag = refl
 
 module _ (g : Graph) (labels : List ℕ) (f : Format) (name : List ℕ) where
   abbrev nodePart : List ℕ
-  nodePart = written 4 (macondoNodes g labels f)
+  nodePart = section 4 (macondoNodes g labels f)
 
   abbrev setPart : List ℕ
-  setPart = written 8 (letterSets g labels f) ++ nodePart
+  setPart = section 8 (letterSets g labels f) ++ nodePart
 
   abbrev letterPart : List ℕ
-  letterPart = written 4 (codePoints labels) ++ setPart
+  letterPart = section 4 (codePoints labels) ++ setPart
 
   abbrev front : List ℕ
   front = marks f .magic ++ (length name ∷ name)
@@ -90,8 +87,8 @@ module _ (g : Graph) (labels : List ℕ) (f : Format) (name : List ℕ) where
       let d = section-length 8 (letterSets g labels f) in
       let e = section-length 4 (macondoNodes g labels f) in
       let h = length-append front letterPart in
-      let i = length-append (written 4 (codePoints labels)) setPart in
-      let j = length-append (written 8 (letterSets g labels f)) nodePart in
+      let i = length-append (section 4 (codePoints labels)) setPart in
+      let j = length-append (section 8 (letterSets g labels f)) nodePart in
       ap length file-is ∙ omega arith
 
   name-read : getD (macondoFile g labels f name) 4 0 ≡ length name
@@ -99,68 +96,68 @@ module _ (g : Graph) (labels : List ℕ) (f : Format) (name : List ℕ) where
       ap (λ b. getD b 4 0) (file-is ∙ append-assoc (marks f .magic) (length name ∷ name) letterPart)
       ∙ getD-at (marks f .magic) (length name) (name ++ letterPart) 0 4 (magic-length f)
 
-  letters-read : lettersIn (macondoFile g labels f name) ≡ letterPart
+  letters-read : letterSection (macondoFile g labels f name) ≡ letterPart
   letters-read =
       ap₂ (λ n b. drop (5 + n) b) name-read file-is
       ∙ drop-at front letterPart (5 + length name) front-length
 
-module _ {g : Graph} {labels name : List ℕ} {lentWork : ℕ} (c : MacondoChecked g labels name lentWork) (f : Format)
-    (few : length (macondoNodes g labels f) ≤ 2 ^ 24) where
+module _ {g : Graph} {labels : List ℕ} (c : MacondoReady g labels) (f : Format) (name : List ℕ) where
   abbrev file : List ℕ
   file = macondoFile g labels f name
 
   letters-counted : length (codePoints labels) < 256 ^ 4
   letters-counted = let a = code-points-length labels in let b = c .fifty in omega arith
 
-  letter-count-back : countAt (lettersIn file) ≡ length (codePoints labels)
+  letter-count-back : countAt (letterSection file) ≡ length (codePoints labels)
   letter-count-back = ap countAt (letters-read g labels f name) ∙ section-count 4 (codePoints labels) (setPart g labels f name) letters-counted
 
-  sets-read : setsRead file ≡ setPart g labels f name
-  sets-read = ap (after 4) (letters-read g labels f name) ∙ section-after 4 (codePoints labels) (setPart g labels f name) letters-counted
+  sets-read : setSection file ≡ setPart g labels f name
+  sets-read = ap (afterSection 4) (letters-read g labels f name) ∙ section-after 4 (codePoints labels) (setPart g labels f name) letters-counted
 
   sets-counted : length (letterSets g labels f) < 256 ^ 4
   sets-counted =
       let a = sets-few g labels f in
-      let b = blocks-few c f in
-      let d = c .sound .most in
+      let b = blocks-most-nodes c f in
+      let d = c .fit .most in
       omega arith
 
-  nodes-read : nodesIn file ≡ nodePart g labels f name ++ []
+  nodes-read : nodeSection file ≡ nodePart g labels f name ++ []
   nodes-read =
-      ap (after 8) sets-read
+      ap (afterSection 8) sets-read
       ∙ section-after 8 (letterSets g labels f) (nodePart g labels f name) sets-counted
       ∙ sym (append-nil (nodePart g labels f name))
 
-  sets-back : numbersAt 8 (setsRead file) ≡ letterSets g labels f
+  sets-back : numbersAt 8 (setSection file) ≡ letterSets g labels f
   sets-back = ap (numbersAt 8) sets-read ∙ section-numbers 8 (letterSets g labels f) (nodePart g labels f name) sets-counted (sets-below c f)
 
-  set-count-back : countAt (setsRead file) ≡ length (letterSets g labels f)
+  set-count-back : countAt (setSection file) ≡ length (letterSets g labels f)
   set-count-back = ap countAt sets-read ∙ section-count 8 (letterSets g labels f) (nodePart g labels f name) sets-counted
 
-  nodes-back : numbersAt 4 (nodesIn file) ≡ macondoNodes g labels f
-  nodes-back = ap (numbersAt 4) nodes-read ∙ section-numbers 4 (macondoNodes g labels f) [] (omega arith) (nodes-below c f few)
+  -- ---- as many letters as there are tiles from 1 up
+  pub letter-count-read : countAt (letterSection file) ≡ length labels - 1
+  letter-count-read = letter-count-back ∙ code-points-length labels
 
-  count-back : countAt (nodesIn file) ≡ length (macondoNodes g labels f)
-  count-back = ap countAt nodes-read ∙ section-count 4 (macondoNodes g labels f) [] (omega arith)
+  module _ (few : length (macondoNodes g labels f) ≤ 2 ^ 24) where
+    nodes-back : numbersAt 4 (nodeSection file) ≡ macondoNodes g labels f
+    nodes-back = ap (numbersAt 4) nodes-read ∙ section-numbers 4 (macondoNodes g labels f) [] (omega arith) (macondo-nodes-below c f few)
 
-  -- the reader walks the sets and nodes that were written
-  pub file-read : macondoWords file ≡ blockWords (letterSets g labels f) (macondoNodes g labels f) (length (macondoNodes g labels f)) 0
-  unfolding macondoWords
-  file-read i = blockWords (sets-back i) (nodes-back i) (count-back i) 0
+    count-back : countAt (nodeSection file) ≡ length (macondoNodes g labels f)
+    count-back = ap countAt nodes-read ∙ section-count 4 (macondoNodes g labels f) [] (omega arith)
 
-  -- ---- the header
-  pub letters-told : countAt (lettersIn file) ≡ length labels - 1
-  letters-told = letter-count-back ∙ code-points-length labels
+    -- the reader walks the sets and nodes that were written
+    pub file-read : macondoWords file ≡ blockWords (letterSets g labels f) (macondoNodes g labels f) (length (macondoNodes g labels f)) 0
+    unfolding macondoWords
+    file-read i = blockWords (sets-back i) (nodes-back i) (count-back i) 0
 
-  pub bytes-told : length file
-      ≡ 5 + getD file 4 0 + (4 + 4 * countAt (lettersIn file)) + (4 + 8 * countAt (setsRead file)) + (4 + 4 * countAt (nodesIn file))
-  bytes-told =
-      let a = file-length g labels f name in
-      let b = name-read g labels f name in
-      let d = letters-told in
-      let e = set-count-back in
-      let h = count-back in
-      omega arith
+    pub length-read : length file
+        ≡ 5 + getD file 4 0 + (4 + 4 * countAt (letterSection file)) + (4 + 8 * countAt (setSection file)) + (4 + 4 * countAt (nodeSection file))
+    length-read =
+        let a = file-length g labels f name in
+        let b = name-read g labels f name in
+        let d = letter-count-read in
+        let e = set-count-back in
+        let h = count-back in
+        omega arith
 
   -- ---- the code points
   module _ (ok : someOf noCodePoint (drop 1 labels) ≡ false) where
@@ -175,7 +172,7 @@ module _ {g : Graph} {labels name : List ℕ} {lentWork : ℕ} (c : MacondoCheck
         let most = leb-false 0x110000 label (or-false-right (leb 0xD800 label && leb label 0xDFFF) (leb 0x110000 label) no) in
         omega arith
 
-    letters-back : numbersAt 4 (lettersIn file) ≡ codePoints labels
+    letters-back : numbersAt 4 (letterSection file) ≡ codePoints labels
     letters-back =
         ap (numbersAt 4) (letters-read g labels f name)
         ∙ section-numbers 4 (codePoints labels) (setPart g labels f name) letters-counted

@@ -18,7 +18,7 @@ use Rattle.node.specs.Nodes.{KBWG, tile}
 use Rattle.graph.specs.Runs.{Graph}
 use Rattle.graph.specs.Words.{Word}
 use Rattle.export.specs.Starts.{runOf}
-use Rattle.macondo_file.specs.Alphabet.{letterOf}
+use Rattle.macondo_file.specs.Alphabet.{letterAt}
 use Rattle.macondo_file.specs.AlphabetLaws.{letter-most}
 use Rattle.macondo_file.specs.File.{endsInLetter, setOf}
 use Rattle.macondo_file.specs.Reading.{setWords}
@@ -27,29 +27,27 @@ module _ (g : Graph) (labels : List ℕ) where
   abbrev enders : ℕ → List ℕ
   enders p = kept (endsInLetter) (runOf g p)
 
-  abbrev letterAt : ℕ → ℕ
-  letterAt v = letterOf labels (tile KBWG v)
-
   pub in-set : (p r : ℕ) → hasBit (setOf g labels p) r ≡ true
-      → (v : ℕ) × List·Memᴰ v (runOf g p) × (endsInLetter v ≡ true) × (r ≡ letterOf labels (tile KBWG v))
+      → (v : ℕ) × List·Memᴰ v (runOf g p) × (endsInLetter v ≡ true) × (r ≡ letterAt labels v)
   unfolding setOf
   in-set p r e =
-      let m = in-map letterAt (enders p) r (member-mem r (map letterAt (enders p)) (sym (bit-set-bit (map letterAt (enders p)) r) ∙ e)) in
+      let rs = map (letterAt labels) (enders p) in
+      let m = in-map (letterAt labels) (enders p) r (member-mem r rs (sym (bit-set-bit rs r) ∙ e)) in
       let k = in-kept (endsInLetter) (runOf g p) (m .0) (m .1) in
       (m .0, k .0, k .1, m .2)
 
   pub set-in : (p v : ℕ) → List·Memᴰ v (runOf g p) → endsInLetter v ≡ true
-      → hasBit (setOf g labels p) (letterOf labels (tile KBWG v)) ≡ true
+      → hasBit (setOf g labels p) (letterAt labels v) ≡ true
   unfolding setOf
   set-in p v m e =
-      bit-set-bit (map letterAt (enders p)) (letterAt v)
-      ∙ mem-member (letterAt v) (map letterAt (enders p)) (map-in letterAt (enders p) v (kept-in (endsInLetter) (runOf g p) v m e))
+      bit-set-bit (map (letterAt labels) (enders p)) (letterAt labels v)
+      ∙ mem-member (letterAt labels v) (map (letterAt labels) (enders p)) (map-in (letterAt labels) (enders p) v (kept-in (endsInLetter) (runOf g p) v m e))
 
   pub set-below : length labels ≤ 50 → (p : ℕ) → setOf g labels p < 2 ^ 64
   unfolding setOf
   set-below fifty p =
-      bit-set-below 64 (map letterAt (enders p))
-      (λ t m. let r = in-map letterAt (enders p) t m in let h = letter-most labels fifty (tile KBWG (r .0)) in let e = r .2 in omega arith)
+      bit-set-below 64 (map (letterAt labels) (enders p))
+      (λ t m. let r = in-map (letterAt labels) (enders p) t m in let h = letter-most labels fifty (tile KBWG (r .0)) in let e = r .2 in omega arith)
 
 -- ---- the letters read from a set
 pub in-set-words : (n set : ℕ) (w : Word) → List·Memᴰ w (setWords n set) → (r : ℕ) × (r < n) × (hasBit set r ≡ true) × (w ≡ r ∷ [])

@@ -16,26 +16,30 @@ use Rattle.graph.specs.Runs.{Graph, startNode}
 use Rattle.graph.specs.Words.{Word, words}
 use Rattle.macondo_file.specs.Alphabet.{codePoint, letterOf}
 use Rattle.macondo_file.specs.File.{Format, marks, macondoFile}
-use Rattle.macondo_file.specs.Reading.{countAt, lettersIn, setsRead, nodesIn, macondoWords, codePointIn, wordsInCodePoints}
+use Rattle.macondo_file.specs.Reading.{countAt, letterSection, setSection, nodeSection, macondoWords, codePointIn, wordsInCodePoints}
 use Rattle.macondo_file.specs.Row.{macondoRow}
 
+-- "those ending in tile 0"
 abbrev pub endsInZero : Word → Bool
 endsInZero [] = false
 endsInZero (t ∷ []) = eqb t 0
 endsInZero (t ∷ u ∷ us) = endsInZero (u ∷ us)
 
+abbrev pub wordEndsInLetter : Word → Bool
+wordEndsInLetter w = not (endsInZero w)
+
 -- "Renamed, a tile is the letter written for it here."
-abbrev pub renamed : List ℕ → Word → Word
-renamed labels = map (letterOf labels)
+abbrev pub renamedToLetters : List ℕ → Word → Word
+renamedToLetters labels = map (letterOf labels)
 
 -- the words that the file should spell: those of the start node, less those ending in tile 0
 abbrev pub endingInLetters : Graph → Format → List Word
-endingInLetters g f = kept (λ w. not (endsInZero w)) (words KBWG g (startNode g (marks f .root)))
+endingInLetters g f = kept wordEndsInLetter (words KBWG g (startNode g (marks f .root)))
 
 -- the file spells the words of tiles with these labels
-pub record Spells (file labels : List ℕ) (ws : List Word) : Type 0 where
+pub record SpellsMacondo (file labels : List ℕ) (ws : List Word) : Type 0 where
   -- what is read are the words, renamed, and no others (the arc order moves words, so this is by members)
-  pub read : (w : Word) → List·Memᴰ w (macondoWords file) ↔ List·Memᴰ w (map (renamed labels) ws)
+  pub read : (w : Word) → List·Memᴰ w (macondoWords file) ↔ List·Memᴰ w (map (renamedToLetters labels) ws)
   -- none is read twice
   pub no-repeats : NoRepeats (macondoWords file)
   pub as-many : length (macondoWords file) ≡ length ws
@@ -44,12 +48,12 @@ pub record Spells (file labels : List ℕ) (ws : List Word) : Type 0 where
   -- so the words are read in code points too
   pub shown : (w : Word) → List·Memᴰ w (wordsInCodePoints file) ↔ List·Memᴰ w (map (map (codePoint labels)) ws)
   -- a code point for each tile from 1 up; and name and sections, as long as their counts say, fill the file to its last byte
-  pub letters-told : countAt (lettersIn file) ≡ length labels - 1
-  pub bytes-told : length file
-      ≡ 5 + getD file 4 0 + (4 + 4 * countAt (lettersIn file)) + (4 + 8 * countAt (setsRead file)) + (4 + 4 * countAt (nodesIn file))
+  pub letter-count-read : countAt (letterSection file) ≡ length labels - 1
+  pub length-read : length file
+      ≡ 5 + getD file 4 0 + (4 + 4 * countAt (letterSection file)) + (4 + 8 * countAt (setSection file)) + (4 + 4 * countAt (nodeSection file))
 
 -- every file that the writer accepts
 abbrev pub MacondoSpells : Type 0
 MacondoSpells =
     (g : Graph) (labels name : List ℕ) (f : Format) (lentWork lentFile : ℕ) → firstOf (macondoRow g labels name f lentWork lentFile) ≡ none
-    → Spells (macondoFile g labels f name) labels (endingInLetters g f)
+    → SpellsMacondo (macondoFile g labels f name) labels (endingInLetters g f)

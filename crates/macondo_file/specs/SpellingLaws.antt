@@ -16,53 +16,55 @@ use Rattle.macondo_file.specs.Alphabet.{codePoint}
 use Rattle.macondo_file.specs.File.{Format, marks, macondoNodes, macondoFile}
 use Rattle.macondo_file.specs.Reading.{macondoWords, codePointIn, wordsInCodePoints}
 use Rattle.macondo_file.specs.Row.{noCodePoint}
-use Rattle.macondo_file.specs.RowLaws.{MacondoChecked, accepted-checks, accepted-walk}
-use Rattle.macondo_file.specs.ReadingLaws.{letters-told, bytes-told, labels-read, tile-read}
+use Rattle.macondo_file.specs.RowLaws.{MacondoReady, accepted-checks, accepted-walk}
+use Rattle.macondo_file.specs.ReadingLaws.{letter-count-read, length-read, labels-read, tile-read}
 use Rattle.macondo_file.specs.WordLaws.{words-read}
 use Rattle.macondo_file.specs.OnceLaws.{words-once, spelled-labelled, renamed-once}
-use Rattle.macondo_file.specs.Spelling.{renamed, endingInLetters, MacondoSpells}
+use Rattle.macondo_file.specs.Spelling.{renamedToLetters, endingInLetters, MacondoSpells}
 
-module _ {g : Graph} {labels name : List ℕ} {lentWork : ℕ} (c : MacondoChecked g labels name lentWork) (f : Format)
-    (few : length (macondoNodes g labels f) ≤ 2 ^ 24) (shallow : deeper g 64 (startNode g (marks f .root)) ≡ false)
-    (ok : someOf noCodePoint (drop 1 labels) ≡ false) where
+module _ {g : Graph} {labels : List ℕ} (c : MacondoReady g labels) (f : Format) (name : List ℕ) where
   abbrev file : List ℕ
   file = macondoFile g labels f name
 
-  word-shown : (u : Word) → All (λ t. t < length labels) u → map (codePointIn file) (renamed labels u) ≡ map (codePoint labels) u
-  word-shown [] a = refl
-  word-shown (t ∷ u) a = ap₂ _∷_ (tile-read c f few ok t (a .0)) (word-shown u (a .1))
+  word-shown : someOf noCodePoint (drop 1 labels) ≡ false → (u : Word) → All (λ t. t < length labels) u
+      → map (codePointIn file) (renamedToLetters labels u) ≡ map (codePoint labels) u
+  word-shown ok [] a = refl
+  word-shown ok (t ∷ u) a = ap₂ _∷_ (tile-read c f name ok t (a .0)) (word-shown ok u (a .1))
 
-  words-shown : (w : Word) → List·Memᴰ w (wordsInCodePoints file) ↔ List·Memᴰ w (map (map (codePoint labels)) (endingInLetters g f))
-  words-shown w =
-      let ws = endingInLetters g f in (
-        (λ m.
-            let x = in-map (map (codePointIn file)) (macondoWords file) w m in
-            let u = in-map (renamed labels) ws (x .0) (words-read c f few shallow (x .0) .0 (x .1)) in
-            let e = x .2 ∙ ap (map (codePointIn file)) (u .2) ∙ word-shown (u .0) (spelled-labelled c f (u .0) (u .1)) in
-            Memᴰ·cast e (map-in (map (codePoint labels)) ws (u .0) (u .1))),
-        (λ m.
-            let u = in-map (map (codePoint labels)) ws w m in
-            let e = u .2 ∙ sym (word-shown (u .0) (spelled-labelled c f (u .0) (u .1))) in
-            let x = words-read c f few shallow (renamed labels (u .0)) .1 (map-in (renamed labels) ws (u .0) (u .1)) in
-            Memᴰ·cast e (map-in (map (codePointIn file)) (macondoWords file) (renamed labels (u .0)) x)),
-      )
+  module _ (few : length (macondoNodes g labels f) ≤ 2 ^ 24) (shallow : deeper g 64 (startNode g (marks f .root)) ≡ false) where
+    words-shown : someOf noCodePoint (drop 1 labels) ≡ false → (w : Word)
+        → List·Memᴰ w (wordsInCodePoints file) ↔ List·Memᴰ w (map (map (codePoint labels)) (endingInLetters g f))
+    words-shown ok w =
+        let ws = endingInLetters g f in (
+          (λ m.
+              let x = in-map (map (codePointIn file)) (macondoWords file) w m in
+              let u = in-map (renamedToLetters labels) ws (x .0) (words-read c f few shallow name (x .0) .0 (x .1)) in
+              let e = x .2 ∙ ap (map (codePointIn file)) (u .2) ∙ word-shown ok (u .0) (spelled-labelled c f (u .0) (u .1)) in
+              Memᴰ·cast e (map-in (map (codePoint labels)) ws (u .0) (u .1))),
+          (λ m.
+              let u = in-map (map (codePoint labels)) ws w m in
+              let e = u .2 ∙ sym (word-shown ok (u .0) (spelled-labelled c f (u .0) (u .1))) in
+              let x = words-read c f few shallow name (renamedToLetters labels (u .0)) .1 (map-in (renamedToLetters labels) ws (u .0) (u .1)) in
+              Memᴰ·cast e (map-in (map (codePointIn file)) (macondoWords file) (renamedToLetters labels (u .0)) x)),
+        )
 
-  as-many : length (macondoWords file) ≡ length (endingInLetters g f)
-  as-many =
-      let ws = endingInLetters g f in
-      same-length (macondoWords file) (map (renamed labels) ws) (words-once c f few shallow) (renamed-once c f) (words-read c f few shallow)
-      ∙ length-map ws (renamed labels)
+    as-many : length (macondoWords file) ≡ length (endingInLetters g f)
+    as-many =
+        let ws = endingInLetters g f in
+        same-length (macondoWords file) (map (renamedToLetters labels) ws) (words-once c f few shallow name) (renamed-once c f)
+        (words-read c f few shallow name)
+        ∙ length-map ws (renamedToLetters labels)
 
 pub macondo-spells : MacondoSpells
 macondo-spells g labels name f lentWork lentFile e =
-    let c = accepted-checks g labels name f lentWork lentFile e in
+    let c = accepted-checks g labels name f lentWork lentFile e .ready in
     let a = accepted-walk g labels name f lentWork lentFile e in
     record {
-      read = words-read c f (a .few) (a .shallow);
-      no-repeats = words-once c f (a .few) (a .shallow);
-      as-many = as-many c f (a .few) (a .shallow) (a .code-points);
-      labels-read = labels-read c f (a .few) (a .code-points);
-      shown = words-shown c f (a .few) (a .shallow) (a .code-points);
-      letters-told = letters-told c f (a .few);
-      bytes-told = bytes-told c f (a .few);
+      read = words-read c f (a .few) (a .shallow) name;
+      no-repeats = words-once c f (a .few) (a .shallow) name;
+      as-many = as-many c f name (a .few) (a .shallow);
+      labels-read = labels-read c f name (a .code-points);
+      shown = words-shown c f name (a .few) (a .shallow) (a .code-points);
+      letter-count-read = letter-count-read c f name;
+      length-read = length-read c f name (a .few);
     }

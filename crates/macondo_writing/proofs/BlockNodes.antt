@@ -92,8 +92,8 @@ module _ (g : Graph) (labels ranks w : List ℕ) (blocks : ℕ) where
             let d = length-take-le count arcs fits in
             omega arith
 
-        pub blocks-room : at + 4 * length (blockNodesFrom g labels ranks w 0 blocks) ≤ length before → p + (4 + 4 * count) ≤ length now
-        blocks-room room =
+        pub block-fits : at + 4 * length (blockNodesFrom g labels ranks w 0 blocks) ≤ length before → p + (4 + 4 * count) ≤ length now
+        block-fits room =
             let a = bigs-length 4 (blockNodesFrom g labels ranks w 0 blocks) in
             let b = size in
             let r = put-room h (bigEndians 4 (nodesOf j (take count arcs))) (bigEndians 4 (left (j + 1))) piece (omega arith) in

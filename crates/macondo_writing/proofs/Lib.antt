@@ -1,2 +1,3 @@
-pub mod BlockNodes
-pub mod SectionLaws
+-- What the proofs of several functions use.
+mod BlockNodes
+mod SectionLaws

@@ -2,17 +2,19 @@
 -- where it goes, gives the whole written at once.
 use mathlib.Core.Path.{_≡_, refl, ap, sym, _∙_}
 use mathlib.Core.List.{List, [], _∷_, _++_, map, append-nil}
-use Prim.Native.Nat.{ℕ, zero, suc, _+_, _-_, _*_, _≤_, _<_}
+use Prim.Native.Nat.{ℕ, suc, _+_, _-_, _*_, _≤_, _<_}
 use native.Mathlib.Numerals.{add-one}
 use native.Mathlib.Omega.{arith}
 use lib.ListN.{length, getD, set, take, drop, length-map, length-append, drop-of-length-le}
 use lib.Seq.{sets, drop-cons, getD-take, length-take-le}
+use Rattle.laws.specs.Members.{getD-map-in}
 use Rattle.laws.specs.ListWrites.{sets-append}
 use Rattle.endian.specs.Bytes.{bigEndian, bigEndians}
 use Rattle.endian.specs.BigLaws.{big-length, bigs-length}
 use Rattle.endian.specs.Putting.{Putting, put-start, put-room, put-next, put-done}
 use Rattle.graph.specs.TableLaws.{table-length}
 use Rattle.macondo_file.specs.File.{section}
+use Rattle.macondo_file.specs.ReadingLaws.{section-length}
 use Rattle.letter_sets.specs.SetNumbers.{setAt, setsIn}
 use Rattle.macondo_writing.specs.declared.tables.SectionCounts.{SectionCounts}
 use Rattle.macondo_writing.specs.FileTables.{blockNodesFrom, fileIn}
@@ -65,30 +67,18 @@ opening-stored before magic text i j =
     j ∙ ap (λ l. sets l 4 (length text ∷ text)) i ∙ sym (sets-append before 0 (bigEndian 4 magic) (length text ∷ text))
 
 -- ---- what f makes of the first `count` entries
-map-at : (f : ℕ → ℕ) (l : List ℕ) (i : ℕ) → i < length l → getD (map f l) i 0 ≡ f (getD l i 0)
-map-at f [] i h = absurd (omega arith)
-map-at f (x ∷ l) zero h = refl
-map-at f (x ∷ l) (suc i) h = map-at f l i (omega arith)
-
 module _ (f : ℕ → ℕ) (l : List ℕ) (count : ℕ) (room : count ≤ length l) where
   pub made-length : length (map f (take count l)) ≡ count
   made-length = length-map (take count l) f ∙ length-take-le count l room
 
   pub made-at : (i : ℕ) → i < count → getD (map f (take count l)) i 0 ≡ f (getD l i 0)
-  made-at i h = map-at f (take count l) i (rw (length-take-le count l room) h) ∙ ap f (getD-take count l i 0 h)
+  made-at i h = getD-map-in f (take count l) i 0 0 (rw (length-take-le count l room) h) ∙ ap f (getD-take count l i 0 h)
 
 -- ---- how long they are
 opening-length : (magic : ℕ) (name : List ℕ) → length (bigEndian 4 magic ++ (length name ∷ name)) ≡ 5 + length name
 opening-length magic name =
     let a = big-length 4 magic in
     let b = length-append (bigEndian 4 magic) (length name ∷ name) in
-    omega arith
-
-section-length : (width : ℕ) (l : List ℕ) → length (section width l) ≡ 4 + width * length l
-section-length width l =
-    let a = big-length 4 (length l) in
-    let b = bigs-length width l in
-    let c = length-append (bigEndian 4 (length l)) (bigEndians width l) in
     omega arith
 
 -- ---- the file, section after section

@@ -1,5 +1,5 @@
 -- The file's parts as the writer reads them from its tables: a list of ranks by tile, and the work list, which holds for each node the
--- place of its block and 1, from n on each block's run, from 2n on each block's set number.
+-- place of its block plus 1, from n on each block's run, from 2n on each block's set number, and from 3n on the sets.
 use mathlib.Core.Path.{_≡_}
 use mathlib.Core.List.{List, [], _∷_, _++_, map}
 use Prim.Native.Nat.{ℕ, zero, suc, _+_, _-_, _*_, _≤_, _<_}
@@ -8,7 +8,7 @@ use Rattle.node.specs.Nodes.{KBWG, tile, arc}
 use Rattle.endian.specs.Bytes.{bigEndian}
 use Rattle.graph.specs.Runs.{Graph}
 use Rattle.macondo_file.specs.File.{section, arcsOf}
-use Rattle.macondo_blocks.specs.Blocks.{MacondoReady}
+use Rattle.macondo_file.specs.RowLaws.{MacondoReady}
 use Rattle.letter_sets.specs.Letters.{Small}
 use Rattle.letter_sets.specs.SetNumbers.{setsIn}
 use Rattle.macondo_writing.specs.declared.tables.SectionCounts.{SectionCounts}

@@ -6,6 +6,7 @@ ghost use lib.Seq.{sets};
 ghost use Rattle.node.specs.Nodes.{KBWG, arc, tile};
 ghost use Rattle.endian.specs.Bytes.{bigEndians};
 ghost use Rattle.macondo_file.specs.File.{section};
+ghost use Rattle.letter_sets.specs.Letters.{Small};
 ghost use Rattle.macondo_writing.specs.FileTables.{arcIn, blockIn, blockNodesFrom, TablesFilled};
 use crate::tables::SectionCounts;
 use block_record::Place;
@@ -38,7 +39,7 @@ fn write_block(
     at: usize,
 )
     requires { ⌜ (count ≤ 50) × (count ≤ length (now arcs)) × (set ≤ 16777216) × (at + 4 + 4 * count ≤ length (now file))
-        × ((t : ℕ) → getD (now ranks) t 0 ≤ 50) ⌝ }
+        × Small (now ranks) ⌝ }
     requires { ⌜ ((i : ℕ) → i < count → (arc KBWG (getD (now arcs) i 0) < length (now work))
         × (getD (now work) (arc KBWG (getD (now arcs) i 0)) 0 ≤ 16777216)) ⌝ }
     ensures { λ _. ⌜ now (file .exit) ≡ sets (now (file .entry)) at

@@ -1,7 +1,7 @@
 -- What the survey knows of a run. The idea: it is right where it is right for the run that the first node's arc leads to and for the
 -- rest of the run; and a chain from a node of a run is one from every node before it in the run.
 use mathlib.Core.Path.{_≡_, refl, sym, ap₂, _∙_}
-use mathlib.Core.Bool.{Bool, true, false, _&&_, _||_, not}
+use mathlib.Core.Bool.{Bool, true, false, _&&_, _||_, not, or-true, or-assoc}
 use mathlib.Core.List.{List}
 use Prim.Native.Nat.{ℕ, zero, suc, _+_, _≤_, _<_, min, max}
 use native.Mathlib.Omega.{arith}
@@ -9,7 +9,7 @@ use lib.Dec.{ltb}
 use borrow.Author.Tests.{ltb-false, lt-ltb, le-ltb}
 use lib.ListN.{length, length-append}
 use Rattle.laws.specs.Cases.{split}
-use Rattle.laws.specs.Tests.{ltb-max, ltb-suc, or-assoc, or-later}
+use Rattle.laws.specs.Tests.{ltb-max, ltb-suc}
 use Rattle.base.specs.Numbers.{most}
 use Rattle.node.specs.Nodes.{KBWG, arc, isEnd}
 use Rattle.graph.specs.Runs.{Graph, node}
@@ -18,6 +18,7 @@ use Rattle.graph.specs.CountLaws.{length-spelled}
 use Rattle.export.specs.Starts.{runOf, hasArc, deeper}
 use Rattle.export.specs.RunOfLaws.{run-ends, run-goes-on, some-run}
 use Rattle.survey.specs.ByArc.{whereThere, counted-by-arc}
+use Rattle.survey.specs.RunCounted.{counted-none}
 use Rattle.survey.specs.Survey.{byteless, bytelessWithin, SurveyIs, noRun, FindingsOf, nodeJoined, ifShallow, SurveyAnswers}
 use Rattle.survey.specs.declared.Findings.{Findings}
 use Rattle.survey.specs.declared.Surveyed.{Surveyed}
@@ -36,26 +37,26 @@ module _ (g : Graph) (i : ℕ) (h : i < length g) where
 module _ (g : Graph) (labels : List ℕ) where
   -- ---- what is known of a run
   pub right-no-run : (q : ℕ) → FindingsOf g labels false q noRun
-  right-no-run q = record { runs = λ k. sym (le-ltb k 0 (omega arith)); words = λ k h. refl; byteless = λ k h. refl }
+  right-no-run q = record { counted = counted-none g q; byteless = λ k h. refl }
 
   pub right-join : (i : ℕ) (child rest : Findings) → i < length g → FindingsOf g labels (hasArc (node g i)) (arc KBWG (node g i)) child
       → FindingsOf g labels (not (isEnd KBWG (node g i))) (i + 1) rest → FindingsOf g labels true i (nodeJoined labels (node g i) child rest)
   unfolding deeper wordsWithin bytelessWithin
-  right-join i child rest h a b = record { runs = runs-right; words = words-right; byteless = byteless-right }
+  right-join i child rest h a b = record { counted = record { depth = runs-right; words-are = words-right }; byteless = byteless-right }
     where
       runs-right : (k : ℕ) → deeper g k i ≡ ltb k (max (child .runs + 1) (rest .runs))
       runs-right zero = sym (lt-ltb 0 (max (child .runs + 1) (rest .runs)) (omega arith))
       runs-right (suc k) =
           some-run g i h (λ v. hasArc v && deeper g k (arc KBWG v))
-          ∙ ap₂ _||_ (a .runs k ∙ ltb-suc k (child .runs)) (b .runs (suc k))
+          ∙ ap₂ _||_ (a .counted .depth k ∙ ltb-suc k (child .runs)) (b .counted .depth (suc k))
           ∙ ltb-max (suc k) (child .runs + 1) (rest .runs)
 
       words-right : (k : ℕ) → max (child .runs + 1) (rest .runs) ≤ k
           → nodeJoined labels (node g i) child rest .words ≡ min (length (wordsWithin KBWG k g i)) most
       words-right zero l = absurd (omega arith)
       words-right (suc k) l =
-          let x = a .words k (omega arith) in
-          let y = b .words (suc k) (omega arith) in
+          let x = a .counted .words-are k (omega arith) in
+          let y = b .counted .words-are (suc k) (omega arith) in
           let z = length-run g i h (spelled KBWG (λ q. wordsWithin KBWG k g q)) in
           let s = length-spelled KBWG (λ q. wordsWithin KBWG k g q) (node g i) in
           let c = counted-by-arc (λ q. length (wordsWithin KBWG k g q)) (node g i) in
@@ -74,15 +75,15 @@ module _ (g : Graph) (labels : List ℕ) where
       → SurveyAnswers g labels there q left (ifShallow s left)
   answers-if-shallow there q left s a =
       split (ltb left (s .runs))
-      (λ t. rw (t, SurveyAnswers) (a .runs left ∙ t))
+      (λ t. rw (t, SurveyAnswers) (a .counted .depth left ∙ t))
       (λ t. rw (t, SurveyAnswers) (a, ltb-false left (s .runs) t))
 
   pub answers-survey : (k p : ℕ) (r : Surveyed) → SurveyAnswers g labels true p k r → SurveyIs g labels k p r
   answers-survey k p (Shallow s) a =
       record {
-        deep = a .0 .runs k ∙ le-ltb k (s .runs) (a .1);
-        runs = a .0 .runs;
-        words = a .0 .words k (a .1);
+        deep = a .0 .counted .depth k ∙ le-ltb k (s .runs) (a .1);
+        runs = a .0 .counted .depth;
+        words = a .0 .counted .words-are k (a .1);
         byteless = a .0 .byteless k (a .1);
       }
   answers-survey k p TooDeep a = a
@@ -107,7 +108,7 @@ module _ (g : Graph) where
   deep-before k i h e d =
       some-run g i h (λ v. hasArc v && deeper g k (arc KBWG v))
       ∙ ap₂ (λ x y. hasArc (node g i) && deeper g k (arc KBWG (node g i)) || (not x && y)) e d
-      ∙ or-later (hasArc (node g i) && deeper g k (arc KBWG (node g i))) true refl
+      ∙ or-true (hasArc (node g i) && deeper g k (arc KBWG (node g i)))
 
   pub deep-back : (k d p i : ℕ) → i ≡ p + d → i < length g → ((j : ℕ) → p ≤ j → j < i → isEnd KBWG (node g j) ≡ false)
       → deeper g (suc k) i ≡ true → deeper g (suc k) p ≡ true

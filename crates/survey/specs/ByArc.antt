@@ -9,6 +9,7 @@ use Rattle.node.specs.Nodes.{KBWG, arc}
 use Rattle.graph.specs.CountLaws.{byArc, arc-words-none, arc-words}
 use Rattle.export.specs.Starts.{hasArc}
 
+-- n where there is a run, else 0
 abbrev pub whereThere : Bool → ℕ → ℕ
 whereThere true n = n
 whereThere false n = 0

@@ -1,3 +1,4 @@
 pub mod ByArc
+pub mod RunCounted
 pub mod Survey
 pub mod ReachLaws

@@ -17,10 +17,10 @@ use Rattle.node.specs.Nodes.{KBWG, arc}
 use Rattle.graph.specs.Runs.{Graph}
 use Rattle.graph.specs.Words.{count}
 use Rattle.graph.specs.ChecksLaws.{Closed}
-use Rattle.export.specs.Starts.{runOf, hasArc, deeper}
+use Rattle.export.specs.Starts.{runOf, hasArc, arcsFrom, deeper}
 use Rattle.export.specs.Blocks.{met}
 use Rattle.export.specs.BlocksLaws.{every-met, start-met, children-met}
-use Rattle.export.specs.ChainLaws.{arcsFrom, arc-from, from-arc, shallow-arc, shallow-low, words-within}
+use Rattle.export.specs.ChainLaws.{arc-from, from-arc, shallow-arc, shallow-low, words-within}
 use Rattle.survey.specs.Survey.{byteless, bytelessWithin, Surveys}
 use Rattle.survey.specs.declared.Findings.{Findings}
 

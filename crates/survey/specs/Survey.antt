@@ -1,7 +1,7 @@
 -- What the LXD writer's survey of a graph finds: what decides the checks 22, 23 and 13 of document 01, by the definitions that the row
 -- uses, and the tables in which it is kept.
 use mathlib.Core.Path.{_≡_}
-use mathlib.Core.Bool.{Bool, true, false, _&&_, _||_, not}
+use mathlib.Core.Bool.{Bool, true, false, _&&_, _||_}
 use mathlib.Core.List.{List}
 use Prim.Native.Nat.{ℕ, zero, suc, _+_, _*_, _≤_, _<_, min, max}
 use lib.Dec.{eqb, ltb}
@@ -14,7 +14,7 @@ use Rattle.graph.specs.Words.{wordsWithin}
 use Rattle.graph.specs.ChecksLaws.{Fit}
 use Rattle.export.specs.Starts.{runOf, hasArc, unlabelled, deeper}
 use Rattle.latin1.specs.Latin1.{noByte}
-use Rattle.survey.specs.ByArc.{whereThere}
+use Rattle.survey.specs.RunCounted.{RunCounted}
 use Rattle.survey.specs.declared.Findings.{Findings}
 use Rattle.survey.specs.declared.Surveyed.{Surveyed}
 use Rattle.survey.specs.declared.Surveyed.the-variants.{Shallow, TooDeep}
@@ -36,6 +36,7 @@ pub record Surveys (g : Graph) (labels : List ℕ) (k p : ℕ) (s : Findings) : 
   pub words : s .words ≡ min (length (wordsWithin KBWG k g p)) most
   pub byteless : s .byteless ≡ bytelessWithin g labels k p
 
+-- what the survey answers of p: its findings, or that a chain from p has more than k runs
 abbrev pub SurveyIs : Graph → List ℕ → ℕ → ℕ → Surveyed → Type 0
 SurveyIs g labels k p (Shallow s) = Surveys g labels k p s
 SurveyIs g labels k p TooDeep = deeper g k p ≡ true
@@ -45,10 +46,9 @@ SurveyIs g labels k p TooDeep = deeper g k p ≡ true
 abbrev pub noRun : Findings
 noRun = record { runs = 0; words = 0; byteless = false }
 
--- s is right for the run from q, if there is one, and for no run if not
+-- s is right for the run from q where `there`, else it is that of no run
 pub record FindingsOf (g : Graph) (labels : List ℕ) (there : Bool) (q : ℕ) (s : Findings) : Type 0 where
-  pub runs : (k : ℕ) → there && deeper g k q ≡ ltb k (s .runs)
-  pub words : (k : ℕ) → s .runs ≤ k → s .words ≡ min (whereThere there (length (wordsWithin KBWG k g q))) most
+  pub counted : RunCounted g there q (s .runs) (s .words)
   pub byteless : (k : ℕ) → s .runs ≤ k → s .byteless ≡ there && bytelessWithin g labels k q
 
 -- a run by its first node, the run that this node's arc leads to, and the rest
@@ -64,6 +64,7 @@ nodeJoined labels v child rest =
 abbrev pub ifShallow : Findings → ℕ → Surveyed
 ifShallow s left = elim (ltb left (s .runs)) [ true ↦ TooDeep | false ↦ Shallow s ]
 
+-- what is answered of q, if there is a run, with so many runs left in the chain
 abbrev pub SurveyAnswers : Graph → List ℕ → Bool → ℕ → ℕ → Surveyed → Type 0
 SurveyAnswers g labels there q left (Shallow s) = FindingsOf g labels there q s × (s .runs ≤ left)
 SurveyAnswers g labels there q left TooDeep = there && deeper g left q ≡ true

@@ -1,4 +1,5 @@
 -- `push_block` meets its contract: two entries are set, and the sums fit.
+use mathlib.Core.Path.{refl}
 use lib.ListN.{length-set}
 use native.Mathlib.Omega.{arith}
 use borrow.Author.Needs.{needs}
@@ -39,7 +40,7 @@ same-length : tie.Need-same-length
 same-length c = search needs
 
 returns : tie.Need-returns
-returns c = search needs
+returns c = record { list = refl; blocks = refl; nodes = refl }
 
 pub push-block-spec : {M : Type 1} → statement M
 push-block-spec =

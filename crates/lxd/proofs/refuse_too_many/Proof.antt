@@ -8,8 +8,9 @@ use Rattle.laws.specs.Lists.{someOf}
 use Rattle.graph.specs.ChecksLaws.{Fit}
 use Rattle.survey.specs.Survey.{byteless}
 use Rattle.survey.specs.declared.Surveyed.{Surveyed}
-use Rattle.lxd_file.specs.Row.{reached, lxdWalkRow}
-use Rattle.lxd.proofs.RowLaws.{stops-at}
+use Rattle.lxd_file.specs.File.{reached}
+use Rattle.lxd_file.specs.Row.{lxdWalkRow}
+use Rattle.answers.specs.RowLaws.{stops-at}
 use Rattle.lxd.proofs.WalkLaws.{StartSurveyed, StartFindings, many-words}
 use borrow.Author.Needs.{needs}
 use Rattle.lxd.proofs.refuse_too_many.Statement.{statement}
@@ -72,7 +73,7 @@ returns-2 : tie.Need-returns-2
 returns-2 c =
     let k = c .before .before .before in
     let s = from k in
-    let many = many-words (g s) (labels s) (sound s) _ (finds k) ∙ eq-eqb _ _ (c .if1 .taken) in
+    let many = many-words (g s) (labels s) _ (finds k) (sound s) ∙ eq-eqb _ _ (c .if1 .taken) in
     λ title date lent. stops-at 2 (lxdWalkRow (g s) (labels s) title date lent) (finds k .deep, (bytes s, many))
 
 same-length-3 : tie.Need-same-length-3
@@ -82,7 +83,7 @@ returns-3 : tie.Need-returns-3
 returns-3 c =
     let k = c .before .before .before in
     let s = from k in
-    let few = many-words (g s) (labels s) (sound s) _ (finds k) ∙ ne-eqb _ _ (c .if1 .left) in
+    let few = many-words (g s) (labels s) _ (finds k) (sound s) ∙ ne-eqb _ _ (c .if1 .left) in
     let over = lt-ltb _ _ (s .pre .1 .1 .1 .1) in
     λ title date lent. stops-at 3 (lxdWalkRow (g s) (labels s) title date lent) (finds k .deep, (bytes s, (few, over)))
 

@@ -4,7 +4,7 @@ use mathlib.Core.Path.{sym, subst}
 use Prim.Native.Nat.{ℕ, _<_}
 use lib.ListN.{length}
 use Rattle.survey.specs.Survey.{SurveyIs}
-use Rattle.lxd_file.specs.RunsLaws.{start-inside}
+use Rattle.graph.specs.ChecksLaws.{start-inside}
 use borrow.Author.Needs.{needs}
 use Rattle.lxd.proofs.survey_start.Statement.{statement}
 use Rattle.lxd.proofs.survey_start.Tie as tie
@@ -19,7 +19,7 @@ survey-requires : tie.Need-survey-requires
 survey-requires c κs =
     let s = asked c in
     let g = s .args .nodes .now in
-    let inside = subst (λ (p : ℕ). p < length g) (sym (c .start-node .ensures)) (start-inside g (s .pre .0)) in
+    let inside = subst (λ (p : ℕ). p < length g) (sym (c .start-node .ensures)) (start-inside (s .pre .0) 0 (omega arith)) in
     (s .pre .0, (s .pre .1 .0, (omega (arith, s .pre .1 .1), inside)))
 
 same-length : tie.Need-same-length

@@ -8,11 +8,11 @@ use native.Mathlib.Nat.{le-of-eq}
 use lib.ListN.{length, take}
 use lib.Seq.{length-take-le}
 use Rattle.answers.specs.Answers.{Row, firstOf}
-use Rattle.graph.specs.Lent.{work-untouched, work-walked}
+use Rattle.graph.specs.Lent.{work-untouched, work-walked, kept-part}
 use Rattle.lxd_file.specs.Row.{lxdChecks}
 use Rattle.lxd.specs.Said.{checkedRefusal}
 use Rattle.lxd.specs.declared.checks.LxdChecked.{LxdChecked}
-use Rattle.lxd.proofs.CallLaws.{call-refuses, call-walks, passed-graph, passed-labels, passed-work, part-kept}
+use Rattle.lxd.proofs.CallLaws.{call-refuses, call-walks, passed-graph, passed-labels, passed-work}
 use borrow.Author.Needs.{needs}
 use Rattle.lxd.proofs.to_lxd.Statement.{statement}
 use Rattle.lxd.proofs.to_lxd.Tie as tie
@@ -107,7 +107,7 @@ returns-2 c =
     let part = w .write-checked in
     let same = part .kept .1 .1 .1 .1 .0 ∙ part-length k in (
       call-walks (g (s k)) (labels (s k)) (title (s k)) (date (s k)) (length (work (s k))) (s k .args .file .now) (passed k) (part .ensures),
-      work-walked (passed k) (part-kept (8 * length (g (s k))) (work (s k)) (part .last .1 .1 .1 .1 .0) (room k) same),
+      work-walked (passed k) (kept-part (8 * length (g (s k))) (work (s k)) (part .last .1 .1 .1 .1 .0) (room k) same),
     )
 
 pub to-lxd-spec : {M : Type 1} → statement M

@@ -10,9 +10,9 @@ use Rattle.laws.specs.Lists.{someOf}
 use Rattle.graph.specs.ChecksLaws.{Fit}
 use Rattle.survey.specs.Survey.{byteless}
 use Rattle.survey.specs.declared.Surveyed.{Surveyed}
-use Rattle.lxd_file.specs.Row.{reached}
+use Rattle.lxd_file.specs.File.{reached}
 use Rattle.lxd.specs.Said.{afterChecks}
-use Rattle.lxd.proofs.RowLaws.{StopsAt, answerAt}
+use Rattle.answers.specs.RowLaws.{StopsAt, answerAt}
 use Rattle.lxd.proofs.WalkLaws.{StartSurveyed, StartFindings, all-have-bytes, byteless-label, walkOf, walk-refuses}
 use borrow.Author.Needs.{needs}
 use Rattle.lxd.proofs.write_checked.Statement.{statement}
@@ -92,7 +92,7 @@ returns-2 : tie.Need-returns-2
 returns-2 c =
     let k = c .before .before in
     let s = from k in
-    refuses s 1 (finds k .deep, byteless-label (g s) (labels s) (sound s) _ (finds k) ∙ c .if2 .taken)
+    refuses s 1 (finds k .deep, byteless-label (g s) (labels s) _ (finds k) ∙ c .if2 .taken)
 
 -- where the two ways meet
 module _ (c : tie.Joined1) where
@@ -104,7 +104,7 @@ module _ (c : tie.Joined1) where
       ⊎-elim
       (λ w.
       let f = subst (StartSurveyed (g s) (labels s)) (w .6 .given .1) (w .2 .ensures) in
-      byteless-label (g s) (labels s) (sound s) _ f ∙ w .8 .left)
+      byteless-label (g s) (labels s) _ f ∙ w .8 .left)
       (λ w. all-have-bytes (g s) (labels s) (sym (c .before .lacks-byte .ensures) ∙ w .0 .left))
       (c .if1 .came)
 

@@ -10,25 +10,23 @@ use borrow.Author.Tests.{eq-eqb}
 use Rattle.laws.specs.Cleared.{cleared-at}
 use Rattle.laws.specs.Lists.{someOf}
 use Rattle.graph.specs.Runs.{startNode}
-use Rattle.graph.specs.ChecksLaws.{Fit}
+use Rattle.graph.specs.ChecksLaws.{Fit, start-inside}
 use Rattle.export.specs.Blocks.{met}
-use Rattle.export.specs.ChainLaws.{arcsFrom}
 use Rattle.block_record.specs.DepthsLaws.{depths-none}
-use Rattle.export.specs.Written.{written}
+use Rattle.export.specs.WrittenLaws.{refused-by}
 use Rattle.survey.specs.Survey.{byteless}
-use Rattle.lxd_file.specs.File.{lxdFile}
-use Rattle.lxd_file.specs.Row.{reached}
-use Rattle.lxd_file.specs.RunsLaws.{start-inside}
+use Rattle.lxd_file.specs.File.{lxdFile, reached}
 use Rattle.lxd_blocks.specs.RunsNumbered.{RunsNumbered, NumberedAs}
 use Rattle.lxd_blocks.specs.NumberedLaws.{none-recorded}
 use Rattle.lxd_blocks.specs.declared.numbering.RunNumbering.{RunNumbering}
 use Rattle.lxd_blocks.specs.declared.numbering.RunNumbering.the-variants.{Done, TooDeep, TooMany}
 use Rattle.lxd.specs.Said.{afterChecks}
-use Rattle.lxd.proofs.RowLaws.{StopsAt, answerAt}
-use Rattle.lxd.proofs.WalkLaws.{byteless-label, many-words, found, surveys-too, many-nodes, plan, walkOf, walk-refuses}
+use Rattle.answers.specs.RowLaws.{StopsAt, answerAt}
+use Rattle.lxd.proofs.WalkLaws.{many-words, surveys-too, many-nodes, numbered-plan, walkOf, walk-refuses}
 use borrow.Author.Needs.{needs}
 use Rattle.lxd.proofs.write_numbered.Statement.{statement}
 use Rattle.lxd.proofs.write_numbered.Tie as tie
+use Rattle.export.specs.Starts.{arcsFrom}
 
 -- the call: its lists, what is known of them, and the walk's refusal by its first check that holds
 module _ (s : tie.Start) where
@@ -82,7 +80,7 @@ number-run-requires c κs =
     let e = c .before .before .before .before in
     let s = asked e in
     let p = c .start-node .result in
-    let inside = subst (λ (p : ℕ). p < length (g s)) (sym (c .start-node .ensures)) (start-inside (g s) (sound s)) in (
+    let inside = subst (λ (p : ℕ). p < length (g s)) (sym (c .start-node .ensures)) (start-inside (sound s) 0 (omega arith)) in (
       none-recorded (g s) (sound s) (omega (arith, room s, e .clear .kept .0)) (emptied e) refl refl,
       (inside, (emptied e p inside, depths-none (g s) (e .clear .last .0) (emptied e) .1 p)),
     )
@@ -117,7 +115,7 @@ refuse-too-many-requires c κs =
     let told = c .before in
     let n = told .before .before .before .before in
     let s = from n in
-    let many = many-nodes (g s) (labels s) (answers n TooMany (told .enum-told2 .given .1)) in
+    let many = many-nodes (g s) (answers n TooMany (told .enum-told2 .given .1)) in
     (sound s, (s .pre .1 .0, (omega (arith, room s, as-long n), (bytes s, many))))
 
 enum-known-numbered : tie.Need-enum-known-numbered
@@ -142,17 +140,16 @@ returns : tie.Need-returns
 returns c =
     let k = c .before .before .before in
     let f = surveys-too (g (s k)) (labels (s k)) (numbered k) in
-    let many = many-words (g (s k)) (labels (s k)) (sound (s k)) _ f ∙ eq-eqb _ _ (c .if1 .taken) in
+    let many = many-words (g (s k)) (labels (s k)) _ f (sound (s k)) ∙ eq-eqb _ _ (c .if1 .taken) in
     refuses (s k) 2 (f .deep, (bytes (s k), many))
 
 write-file-requires : tie.Need-write-file-requires
 write-file-requires c κs =
     let e = c .before .before in
     let k = e .before .before .before in
-    let f = surveys-too (g (s k)) (labels (s k)) (numbered k) in
-    let all = sym (byteless-label (g (s k)) (labels (s k)) (sound (s k)) _ f) ∙ bytes (s k) in
-    let passed = found (g (s k)) (labels (s k)) (sound (s k)) _ f (s k .pre .1 .0) all (e .if1 .left) in
-    plan (g (s k)) (labels (s k)) _ passed (omega (arith, room (s k), sound (s k) .two, as-long (walked k))) (numbered k .held)
+    let from = s k in
+    numbered-plan (g from) (labels from) (sound from) (from .pre .1 .0) (bytes from) (numbered k) (e .if1 .left)
+    (omega (arith, room from, sound from .two, as-long (walked k)))
 
 same-length-2 : tie.Need-same-length-2
 same-length-2 c = search needs
@@ -168,7 +165,8 @@ returns-3 c =
     let r = c .before .before in
     let told = r .before .before in
     let s = from (told .before .before .before .before) in
-    ap (λ o. written o (lxdFile (g s) (labels s) (title s) (date s)) (lent s)) (sym (r .refuse-too-many .ensures (title s) (date s) (length (lent s))))
+    refused-by (walkOf (g s) (labels s) (title s) (date s) (lent s)) (lxdFile (g s) (labels s) (title s) (date s)) (lent s)
+    (r .refuse-too-many .ensures (title s) (date s) (length (lent s)))
 
 same-length-4 : tie.Need-same-length-4
 same-length-4 c = search needs

@@ -12,7 +12,7 @@ use lib.Seq.{length-take-le}
 use Rattle.answers.specs.Answers.{Row, firstOf}
 use Rattle.answers.specs.RowLaws.{row-refuses, row-passes, row-ends, rows-refuse, rows-pass}
 use Rattle.graph.specs.Checks.{graphRow, graphRefusal}
-use Rattle.graph.specs.Lent.{Kept, WorkKept, work-untouched, work-walked}
+use Rattle.graph.specs.Lent.{Kept, WorkKept, work-untouched, work-walked, kept-part}
 use Rattle.graph.specs.declared.GraphCheck.{GraphCheck}
 use Rattle.macondo_file.specs.File.{Format}
 use Rattle.macondo_file.specs.Row.{macondoChecks, toMacondo}
@@ -20,7 +20,7 @@ use Rattle.macondo_file.specs.RowLaws.{checked}
 use Rattle.macondo.specs.declared.Macondo.{Macondo}
 use Rattle.macondo.specs.declared.Macondo.the-variants as M
 use Rattle.macondo.specs.Said.{formatOf, saidMacondo, macondoWrittenAs}
-use Rattle.macondo.proofs.Rows.{refused-before, passed-before, with-part, kept-past}
+use Rattle.macondo.proofs.Rows.{refused-before, passed-before, with-part}
 use borrow.Author.Needs.{needs}
 use Rattle.macondo.proofs.to_macondo.Statement.{statement}
 use Rattle.macondo.proofs.to_macondo.Tie as tie
@@ -210,7 +210,7 @@ module _ (c : tie.After-write-checked) where
   part = c .write-checked .last .1 .1 .1 .1 .0
 
   part-kept : Kept size lent (part ++ drop size lent)
-  part-kept = kept-past size lent part (c .write-checked .kept .1 .1 .1 .1 .0 ∙ part-length past) (past .if6 .left)
+  part-kept = kept-part size lent part (past .if6 .left) (c .write-checked .kept .1 .1 .1 .1 .0 ∙ part-length past)
 
 returns-10 : tie.Need-returns-10
 returns-10 c =

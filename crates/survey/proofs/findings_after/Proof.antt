@@ -1,4 +1,4 @@
--- `after` meets its contract: a node that is no end has a node after it, whose entry is read.
+-- `findings_after` meets its contract: a node that is no end has a node after it, whose entry is read.
 use native.Mathlib.Omega.{arith}
 use mathlib.Core.Path.{sym, _∙_}
 use Rattle.survey.proofs.SurveyTables.{after-end, after-on}

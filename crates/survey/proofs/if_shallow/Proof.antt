@@ -1,4 +1,4 @@
--- `within` meets its contract, by its one test.
+-- `if_shallow` meets its contract, by its one test.
 use native.Mathlib.Omega.{arith}
 use Rattle.survey.proofs.SurveyTables.{if-too-deep, if-no-deeper}
 use Rattle.survey.proofs.if_shallow.Statement.{statement}

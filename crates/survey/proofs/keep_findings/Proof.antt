@@ -1,4 +1,4 @@
--- `keep` meets its contract: three numbers are set, one in each table.
+-- `keep_findings` meets its contract: three numbers are set, one in each table.
 use native.Mathlib.Omega.{arith}
 use mathlib.Core.Path.{ap}
 use Prim.Native.Nat.{ℕ, _+_, _*_}

@@ -7,7 +7,7 @@ use Rattle.answers.specs.Answers.{Answer, firstOf}
 use Rattle.answers.specs.RowLaws.{rows-refuse}
 use Rattle.graph.specs.Checks.{graphRow, graphRefusal}
 use Rattle.graph.specs.declared.GraphCheck.{GraphCheck}
-use Rattle.lxd.proofs.RowLaws.{row, listsRow}
+use Rattle.lxd.proofs.ListsRow.{row, listsRow}
 use borrow.Author.Needs.{needs}
 use Rattle.lxd.proofs.checks.check.Statement.{statement}
 use Rattle.lxd.proofs.checks.check.Tie as tie

@@ -13,7 +13,8 @@ use Rattle.answers.specs.Answers.{firstOf}
 use Rattle.graph.specs.ChecksLaws.{fit}
 use Rattle.export.specs.Starts.{unlabelled}
 use Rattle.latin1.specs.Latin1.{noByte}
-use Rattle.lxd.proofs.RowLaws.{row, listsRow, StopsAt, answerAt, lists-refuse, lists-pass}
+use Rattle.answers.specs.RowLaws.{StopsAt, answerAt}
+use Rattle.lxd.proofs.ListsRow.{row, listsRow, lists-refuse, lists-pass}
 use borrow.Author.Needs.{needs}
 use Rattle.lxd.proofs.checks.check_lists.Statement.{statement}
 use Rattle.lxd.proofs.checks.check_lists.Tie as tie

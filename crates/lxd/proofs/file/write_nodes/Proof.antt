@@ -7,7 +7,7 @@ use Prim.Native.Nat.{ℕ, _+_, _*_, _≤_}
 use lib.ListN.{length}
 use Rattle.lxd_file.specs.File.{lxdNodes}
 use Rattle.lxd.specs.Planned.{Planned}
-use Rattle.lxd.proofs.PlannedLaws.{ready, blocks-room, order-inside, order-room, two-nodes, three-nodes, none-written, some-written}
+use Rattle.lxd.proofs.PlannedLaws.{lxd-ready, order-fits, order-inside, order-room, two-nodes, three-nodes, none-written, some-written}
 use borrow.Author.Needs.{needs}
 use Rattle.lxd.proofs.file.write_nodes.Statement.{statement}
 use Rattle.lxd.proofs.file.write_nodes.Tie as tie
@@ -87,7 +87,7 @@ write-runs-requires c κs =
     let k = e .before .before .before in
     let p = planned (s k) in
     let after = order-room p (e .if1 .left) in
-    (ready p, (blocks-room p, (order-inside p, omega (arith, room (s k), as-long k))))
+    (lxd-ready p, (order-fits p, (order-inside p, omega (arith, room (s k), as-long k))))
 
 same-length-2 : tie.Need-same-length-2
 same-length-2 c = search needs

@@ -4,6 +4,22 @@ use borrow.Author.Needs.{needs}
 use Rattle.lxd.proofs.header.write_header.Statement.{statement}
 use Rattle.lxd.proofs.header.write_header.Tie as tie
 
+-- from each field back to the one before it
+abbrev date-written : tie.After-write-le-u323 → tie.After-write-text2
+date-written c = c .before .before .before .before
+
+abbrev title-written : tie.After-write-text2 → tie.After-write-text
+title-written c = c .before .before .before .before
+
+abbrev count-written : tie.After-write-text → tie.After-write-le-u322
+count-written c = c .before .before .before .before
+
+abbrev length-written : tie.After-write-le-u322 → tie.After-write-le-u32
+length-written c = c .before .before .before .before
+
+abbrev asked : tie.After-write-le-u32 → tie.Start
+asked c = c .before .before .before .before .before
+
 write-le-u32-requires : tie.Need-write-le-u32-requires
 write-le-u32-requires c κs = search needs
 
@@ -25,11 +41,11 @@ same-length c = search needs
 returns : tie.Need-returns
 returns c =
     let words = c .before .before in
-    let date = words .before .before .before .before in
-    let title = date .before .before .before .before in
-    let nodes = title .before .before .before .before in
-    let first = nodes .before .before .before .before in
-    let a = first .before .before .before .before .before .args in
+    let date = date-written words in
+    let title = title-written date in
+    let nodes = count-written title in
+    let first = length-written nodes in
+    let a = asked first .args in
     header-written (a .file .now) (a .nodes) (a .title .now) (a .date .now) (a .words) (first .write-le-u32 .ensures)
     (nodes .write-le-u322 .ensures) (title .write-text .ensures) (date .write-text2 .ensures) (words .write-le-u323 .ensures)
 

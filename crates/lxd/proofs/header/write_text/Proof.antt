@@ -1,15 +1,15 @@
 -- `write_text` meets its contract: the bytes left to write, written after those before, are the whole field.
 use borrow.Author.Needs.{needs}
 use native.Mathlib.Omega.{arith}
-use mathlib.Core.Path.{_≡_, refl, sym, ap, _∙_}
-use Prim.Native.Nat.{ℕ, _+_, _-_, _≤_}
+use mathlib.Core.Path.{_≡_, refl, sym, _∙_}
+use Prim.Native.Nat.{_+_, _-_, _≤_}
 use native.Mathlib.Nat.{add-zero}
-use lib.ListN.{length, drop, set, length-set}
+use lib.ListN.{length, drop, length-set}
 use lib.Seq.{sets}
-use Rattle.laws.specs.ListWrites.{sets-next, sets-done}
+use Rattle.laws.specs.ListWrites.{sets-done}
 use Rattle.lxd_file.specs.File.{field}
 use Rattle.lxd_file.specs.FileLaws.{length-field}
-use Rattle.lxd.proofs.HeaderLaws.{field-at}
+use Rattle.lxd.proofs.HeaderLaws.{text-next}
 use Rattle.lxd.proofs.header.write_text.Statement.{statement}
 use Rattle.lxd.proofs.header.write_text.Tie as tie
 
@@ -39,15 +39,12 @@ loop-less : tie.Need-loop-less Inv-loop μ-loop
 loop-less c = search needs
 
 loop-again : tie.Need-loop-again Inv-loop μ-loop
-loop-again c = let a = c .before .before .before .before .before .args in
-    let w = c .before .before .loop in
-    let text = a .text .now in
-    let size = length-field (a .size) text in
-    let byte = c .text-byte .ensures ∙ sym (field-at (a .size) text (w .i) (c .before .loop-test .taken)) in (
+loop-again c =
+    let a = c .before .before .before .before .before .args in
+    let w = c .before .before .loop in (
       omega arith,
       simp length-set (w .inv .1),
-      ap (λ (b : ℕ). sets (set (w .file) (a .from + w .i) b) (a .from + (w .i + 1)) (drop (w .i + 1) (field (a .size) text))) byte
-          ∙ sym (sets-next (w .file) (field (a .size) text) (a .from) (w .i) (omega arith)) ∙ w .inv .2,
+      text-next (w .file) _ (a .from) (a .size) (a .text .now) (w .i) _ (c .before .loop-test .taken) (c .text-byte .ensures) (w .inv .2),
     )
 
 same-length : tie.Need-same-length Inv-loop μ-loop

@@ -53,8 +53,8 @@ module _ (c : tie.After-child-place) where
   child-is : c .child-place .result ≡ childIn (asked read .args .work .now) (arc KBWG (asked read .args .node))
   child-is = c .child-place .ensures ∙ ap (childIn (asked read .args .work .now)) (c .before .arc-index .ensures)
 
-pack-requires : tie.Need-pack-requires
-pack-requires c κs = subst (λ (k : ℕ). k < 2 ^ 22) (sym (child-is c)) (asked (read c) .pre .1 .1)
+pack-lxd-requires : tie.Need-pack-lxd-requires
+pack-lxd-requires c κs = subst (λ (k : ℕ). k < 2 ^ 22) (sym (child-is c)) (asked (read c) .pre .1 .1)
 
 returns : tie.Need-returns
 returns c =
@@ -62,7 +62,7 @@ returns c =
     let a = asked (read k) .args in
     let accepts = k .before .before .before .accepts .ensures in
     let end = k .before .before .is-end .ensures in
-    c .pack .ensures ∙ node-packed (a .labels .now) (a .work .now) (a .node) (letter-is (read k)) accepts end (child-is k)
+    c .pack-lxd .ensures ∙ node-packed (a .labels .now) (a .work .now) (a .node) (letter-is (read k)) accepts end (child-is k)
 
 pub file-node-spec : {M : Type 1} → statement M
 file-node-spec =
@@ -77,5 +77,5 @@ file-node-spec =
     is-end-requires
     arc-index-requires
     child-place-requires
-    pack-requires
+    pack-lxd-requires
     returns)

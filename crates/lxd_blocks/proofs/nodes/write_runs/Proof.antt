@@ -78,7 +78,7 @@ module _ (c : tie.In-loop Inv-loop μ-loop) where
   fits =
       let w = turn .loop in
       let some = left-some (g from) (labels from) (work from) (blocks from) (w .i) (w .p) inside in
-      omega (arith, w .inv .size, w .inv .fits more, asked from .pre .1 .1 .1)
+      omega (arith, w .inv .size, w .inv .rest more .place, asked from .pre .1 .1 .1)
 
 mul-node : tie.Need-mul-node Inv-loop μ-loop
 mul-node c = let most = ready (from c) .fit .most in omega (arith, inside c)
@@ -156,7 +156,7 @@ loop-again c =
     let f = from (here w) in
     let last = sym (c .before .is-end .ensures) ∙ c .if1 .taken in
     writing-over (g f) (labels f) (work f) (blocks f) (room f) (asked f .pre .1 .1 .0) (turn (here w) .loop .inv) (more (here w))
-    (w .write-le-u32 .kept .0) (wrote w) _ last refl
+    (wrote w) _ last refl
 
 add-p : tie.Need-add-p Inv-loop μ-loop
 add-p c = let k = here (written (c .before)) in omega (arith, inside k, ready (from k) .fit .most)
@@ -171,7 +171,7 @@ loop-again-2 c =
     let f = from k in
     let on = sym (c .before .is-end .ensures) ∙ c .if1 .left in
     writing-on (g f) (labels f) (work f) (blocks f) (room f) (asked f .pre .1 .1 .0) (turn k .loop .inv) (more k)
-    (w .write-le-u32 .kept .0) (wrote w) on (ready f .fit .steps .runs (turn k .loop .p) (inside k) on)
+    (wrote w) on (ready f .fit .steps .runs (turn k .loop .p) (inside k) on)
 
 same-length : tie.Need-same-length Inv-loop μ-loop
 same-length c = c .before .loop .inv .size

@@ -12,21 +12,21 @@ use borrow.Fn.Kinds.{In}
 use borrow.Fn.PlainCycle.{Measures, is, falls, and}
 use Rattle.node.specs.Nodes.{KBWG, arc}
 use Rattle.graph.specs.Runs.{node}
-use Rattle.export.specs.Starts.{runOf, hasArc, deeper}
+use Rattle.export.specs.Starts.{runOf, hasArc, arcsFrom, deeper}
 use Rattle.export.specs.Blocks.{met, total}
-use Rattle.block_record.specs.Record.{orderIn, metBy}
+use Rattle.block_record.specs.Record.{orderIn, blockPushed}
 use Rattle.block_record.specs.RecordLaws.{place-none, place-some}
-use Rattle.export.specs.ChainLaws.{arcsFrom, deep-at-once}
-use Rattle.lxd_file.specs.RunsLaws.{size}
+use Rattle.export.specs.ChainLaws.{deep-at-once}
+use Rattle.lxd_file.specs.File.{runSize}
 use Rattle.block_record.specs.declared.BlockTally.{BlockTally}
 use Rattle.block_record.specs.Depths.{depthAt, Below, NoneBut}
-use Rattle.lxd_blocks.specs.RunsNumbered.{RunsHeld, Known, RunsRecorded, RunsNumbered, NumberedAs}
+use Rattle.lxd_blocks.specs.RunsNumbered.{RunsHeld, Known, RunsRecorded, RunsNumbered, NumberedAs, metBy}
 use Rattle.lxd_blocks.proofs.HeldLaws.{held-here, held-past}
 use Rattle.lxd_blocks.specs.declared.numbering.Walked.{Walked}
 use Rattle.lxd_blocks.specs.declared.numbering.RunNumbering.{RunNumbering}
 use Rattle.lxd_blocks.specs.declared.numbering.RunNumbering.the-variants.{Done, TooDeep, TooMany}
 use Rattle.lxd_blocks.proofs.KnownLaws.{begun-known, begun-followed}
-use Rattle.lxd_blocks.proofs.NumberingLaws.{walk, blocks-left, no-arc, known-run, arc-run, run-met, run-over, run-pushed}
+use Rattle.lxd_blocks.proofs.NumberingLaws.{walk, blocks-left, arc-none-numbered, known-run, arc-run, run-met, run-over, run-pushed}
 use Rattle.lxd_blocks.proofs.NumberingLaws.{Along, along-starts, along-below, along-deep, along-over, along-goes, along-ends}
 use Rattle.lxd_blocks.proofs.numbering.number_arc.Reads as number-arc
 use Rattle.lxd_blocks.proofs.numbering.number_arc.Kinds as number-arc-kinds
@@ -105,7 +105,7 @@ module _ (t : ℕ) where
   arc-returns : arc-lts.Need-returns arc-calls arc-at number-arc.Post
   arc-returns c =
       let a = c .before in
-      no-arc (graph a) (asked a .pre .1 .0) (left a) (asked a .args .node) (sym (child-arc a) ∙ c .if1 .taken)
+      arc-none-numbered (graph a) (asked a .pre .1 .0) (left a) (asked a .args .node) (sym (child-arc a) ∙ c .if1 .taken)
 
   place-of-requires : arc-lts.Need-place-of-requires arc-calls arc-at number-arc.Post
   place-of-requires c κs =
@@ -289,9 +289,8 @@ module _ (t : ℕ) where
     abbrev tally : BlockTally
     tally = push .push-block .result
 
-    put : begun
-        ≡ set (set (set (lent from) p (from .args .t .nodes + 1)) (length (g from) + from .args .t .blocks) p) (depthAt (length (g from)) p) 0
-    put = c .keep-depth .ensures ∙ ap (λ (w : List ℕ). set w (depthAt (length (g from)) p) 0) (push .push-block .ensures .0)
+    put : begun ≡ set (blockPushed (length (g from)) (lent from) p (from .args .t)) (depthAt (length (g from)) p) 0
+    put = c .keep-depth .ensures ∙ ap (λ (w : List ℕ). set w (depthAt (length (g from)) p) 0) (push .push-block .ensures .list)
 
     few : from .args .t .blocks < length (g from)
     few = blocks-left (g from) (held from) p (inside from) (new from)
@@ -305,10 +304,10 @@ module _ (t : ℕ) where
 
     known : Known (g from) begun
     known =
-        subst (Known (g from)) (sym put) (begun-known (g from) (lent from) p (inside from) (room from) _ _ few (from .pre .1 .0 .known))
+        subst (Known (g from)) (sym put) (begun-known (g from) (lent from) p (inside from) (room from) (from .args .t) few (from .pre .1 .0 .known))
 
     followed : NoneBut (g from) p (lent from) begun
-    followed = subst (NoneBut (g from) p (lent from)) (sym put) (begun-followed (g from) (lent from) p (inside from) (room from) _ _ few)
+    followed = subst (NoneBut (g from) p (lent from)) (sym put) (begun-followed (g from) (lent from) p (inside from) (room from) (from .args .t) few)
 
     same-room : length begun ≡ length (lent from)
     same-room = c .keep-depth .kept .1 .0 ∙ push .push-block .kept .1 .0
@@ -410,7 +409,7 @@ module _ (t : ℕ) where
   run-returns-4 c =
       let a = c .before .before .before .before in
       let t = turn a in
-      subst (λ (x : List ℕ). 2 ^ 22 < 2 + total (size (g (s t))) x) (whole (first t))
+      subst (λ (x : List ℕ). 2 ^ 22 < 2 + total (runSize (g (s t))) x) (whole (first t))
       (along-over (g (s t)) (t .loop .inv .1) (answers a TooMany (c .enum-told2 .given .1)))
 
   pass-node-requires : run-lts.Need-pass-node-requires run-calls run-at number-run.Post Inv-loop μ-loop

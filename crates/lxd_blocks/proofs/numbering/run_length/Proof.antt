@@ -4,13 +4,13 @@ use native.Mathlib.Omega.{arith}
 use mathlib.Core.Path.{_≡_, sym, _∙_}
 use Prim.Native.Nat.{_+_, _-_, _≤_, _<_}
 use lib.ListN.{length}
-use Rattle.lxd_file.specs.RunsLaws.{size}
+use Rattle.lxd_file.specs.File.{runSize}
 use Rattle.lxd_blocks.proofs.RunLaws.{size-last, size-more}
 use Rattle.lxd_blocks.proofs.numbering.run_length.Statement.{statement}
 use Rattle.lxd_blocks.proofs.numbering.run_length.Tie as tie
 
 abbrev Inv-loop : tie.InvT-loop
-Inv-loop nodes p at₀ passed₀ at passed = (p ≤ at) × (at < length nodes) × (passed ≡ at - p + 1) × (passed + size nodes at ≡ 1 + size nodes p)
+Inv-loop nodes p at₀ passed₀ at passed = (p ≤ at) × (at < length nodes) × (passed ≡ at - p + 1) × (passed + runSize nodes at ≡ 1 + runSize nodes p)
 
 abbrev μ-loop : tie.MeasureT-loop
 μ-loop nodes p at₀ passed₀ at passed = length nodes - at

@@ -8,7 +8,7 @@ use Prim.Native.Nat.{ℕ, _-_, _<_}
 use lib.ListN.{length, drop}
 use Rattle.node.specs.Nodes.{KBWG}
 use Rattle.graph.specs.Runs.{ascends}
-use Rattle.macondo.proofs.Tests.{ascendsFrom, from-any, first-falls, first-passes, none-left}
+use Rattle.macondo.proofs.Tests.{ascendsFrom, from-any, first-falls, first-passes, ascends-past}
 use Rattle.macondo.proofs.checks.descends.Statement.{statement}
 use Rattle.macondo.proofs.checks.descends.Tie as tie
 
@@ -67,7 +67,7 @@ loop-again c =
 returns-2 : tie.Need-returns-2 Inv-loop μ-loop
 returns-2 c =
     let i = c .before .loop in
-    let none = none-left (i .lowest) (c .before .before .before .args .nodes .now) (i .i) (omega (arith, c .loop-test .left)) in
+    let none = ascends-past (i .lowest) (c .before .before .before .args .nodes .now) (i .i) (omega (arith, c .loop-test .left)) in
     sym (ap not (sym (i .inv) ∙ none))
 
 pub descends-spec : {M : Type 1} → statement M

@@ -9,17 +9,17 @@ use Rattle.answers.specs.Answers.{Row, firstOf}
 use Rattle.answers.specs.RowLaws.{row-refuses, row-passes}
 use Rattle.graph.specs.Runs.{startNode}
 use Rattle.export.specs.Written.{written}
+use Rattle.export.specs.WrittenLaws.{refused-by}
 use Rattle.macondo_file.specs.File.{Format, marks, macondoFile}
 use Rattle.macondo_file.specs.Row.{macondoWalkRow}
 use Rattle.macondo_file.specs.RowLaws.{MacondoChecked}
-use Rattle.macondo_file.specs.BlockLaws.{start-inside}
+use Rattle.macondo_file.specs.BlockLaws.{format-start-inside}
 use Rattle.macondo_blocks.specs.Blocks.{NumberingIs}
 use Rattle.macondo_blocks.specs.declared.blocks.BlockNumbering.{BlockNumbering}
 use Rattle.macondo.specs.declared.Macondo.{Macondo}
 use Rattle.macondo.specs.declared.Macondo.the-variants as M
 use Rattle.macondo.specs.Said.{formatOf, saidMacondo, macondoWrittenAs}
-use Rattle.macondo.specs.BlocksIn.{BlocksIn}
-use Rattle.macondo.proofs.Rows.{refused-by, ready}
+use Rattle.macondo.specs.BlocksHeld.{BlocksHeld}
 use borrow.Author.Needs.{needs}
 use Rattle.macondo.proofs.walk.write_checked.Statement.{statement}
 use Rattle.macondo.proofs.walk.write_checked.Tie as tie
@@ -45,7 +45,7 @@ module _ (s : tie.Start) where
   whole = macondoFile g labels f (s .args .name .now)
 
   refused : (r : Macondo) → firstOf row ≡ some (saidMacondo r) → macondoWrittenAs r (s .args .file .now) ≡ written (firstOf row) whole (s .args .file .now)
-  refused = refused-by row whole (s .args .file .now)
+  refused r = refused-by row whole (s .args .file .now)
 
 abbrev begun : tie.After-start-of → tie.Start
 begun c = c .before .before .before .before .before .before
@@ -70,7 +70,7 @@ module _ (c : tie.After-known-told) where
   abbrev numbered : tie.After-number-blocks
   numbered = c .before .before .before .before .before
 
-  recorded : BlocksIn (g (asked numbered)) (labels (asked numbered)) (f (asked numbered)) (work numbered) (c .before .found .given .0 .0 .tally)
+  recorded : BlocksHeld (g (asked numbered)) (labels (asked numbered)) (f (asked numbered)) (work numbered) (c .before .found .given .0 .0 .tally)
   recorded = let a = answered numbered (c .before .found .given .1) in record { holds = a .0 .holds; shallow = a .2 }
 
 -- the first check, then, passes
@@ -92,8 +92,8 @@ start-of-requires c κs = search needs
 number-blocks-requires : tie.Need-number-blocks-requires
 number-blocks-requires c κs =
     let s = begun (c .before) in
-    let inside = subst (_< length (g s)) (sym (c .before .start-of .ensures)) (start-inside (s .pre) (f s)) in
-    (ready (s .pre), (inside, omega (arith, s .pre .work)))
+    let inside = subst (_< length (g s)) (sym (c .before .start-of .ensures)) (format-start-inside (s .pre .ready) (f s)) in
+    (s .pre .ready, (inside, omega (arith, s .pre .work)))
 
 enum-known-found : tie.Need-enum-known-found
 enum-known-found c = search needs

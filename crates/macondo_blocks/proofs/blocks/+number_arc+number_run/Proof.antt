@@ -10,15 +10,16 @@ use lib.ListN.{length, getD, take}
 use borrow.Author.Needs.{needs}
 use borrow.Fn.Kinds.{In}
 use borrow.Fn.PlainCycle.{Measures, is, falls, and}
-use Rattle.export.specs.Starts.{deeper}
-use Rattle.export.specs.ChainLaws.{arcsFrom, arcs-inside, deep-at-once}
+use Rattle.export.specs.Starts.{arcsFrom, deeper}
+use Rattle.export.specs.ChainLaws.{arcs-inside, deep-at-once}
 use Rattle.block_record.specs.RecordLaws.{place-none, place-some}
 use Rattle.block_record.specs.Depths.{Below}
 use Rattle.macondo_file.specs.File.{arcsOf}
 use Rattle.macondo_blocks.specs.declared.blocks.BlockNumbering.{BlockNumbering}
+use Rattle.macondo_blocks.specs.ArcsLaws.{child-held}
 use Rattle.macondo_blocks.specs.Blocks.{BlocksRecorded, BlocksReached, NumberingFrom}
-use Rattle.macondo_blocks.proofs.BlockNumbering.{size-is, followed-deep, known-deep, known-reaches, push-fits, BlockOpened, opens}
-use Rattle.macondo_blocks.proofs.BlockNumbering.{ArcWalk, walk-start, walk-recorded, walk-arc, walk-next, walk-below, walk-deep, walk-done}
+use Rattle.macondo_blocks.proofs.BlockNumbering.{size-by-arcs, followed-deep, known-deep, known-reaches, push-fits, BlockOpened, opens}
+use Rattle.macondo_blocks.proofs.BlockNumbering.{ArcWalk, arc-walk-start, walk-recorded, walk-next, walk-below, walk-deep, walk-done}
 use Rattle.macondo_blocks.proofs.blocks.number_arc.Reads as number-arc
 use Rattle.macondo_blocks.proofs.blocks.number_arc.Kinds as number-arc-kinds
 use Rattle.macondo_blocks.proofs.blocks.+number_arc+number_run.Lts-number_arc as arc-lts
@@ -232,7 +233,7 @@ module _ (t : ℕ) where
     opened : BlockOpened (g begun) (labels begun) (lent begun) (begun .args .t) (p begun) work (pushed .push-block .result)
     opened =
         opens (recorded begun) (p begun) (inside begun) (new begun) (pushed .push-block .last .1 .0) work (pushed .push-block .result) (count found + 1)
-        (size-is (g begun) (labels begun) (p begun) (count found) (arcs found) (arcs-fit found) (in-order found)) (pushed .push-block .ensures)
+        (size-by-arcs (g begun) (labels begun) (p begun) (count found) (arcs found) (arcs-fit found) (in-order found)) (pushed .push-block .ensures)
         (c .keep-depth .ensures)
 
     as-long : length work ≡ length (lent begun)
@@ -250,13 +251,13 @@ module _ (t : ℕ) where
     s = start known
 
     still-long : length (c .loop .work) ≡ length (lent s)
-    still-long = c .loop .inv .past .size ∙ as-long followed
+    still-long = c .loop .inv .size ∙ as-long followed
 
     next-below : (q : ℕ) → List·Memᴰ q (arcsFrom (g s) (p s)) → Below (g s) (c .loop .work) q
-    next-below = walk-below (c .loop .inv) (recorded s) (inside s) (new s) (chain known) (in-order known) (opened followed) (below s)
+    next-below = walk-below (c .loop .inv) (opened followed) (below s)
 
     deep-by : (q : ℕ) → List·Memᴰ q (arcsFrom (g s) (p s)) → deeper (g s) (left s - 1) q ≡ true → deeper (g s) (left s) (p s) ≡ true
-    deep-by = walk-deep (c .loop .inv) (recorded s) (inside s) (new s) (chain known) (in-order known) (opened followed)
+    deep-by = walk-deep (g s) (left s) (p s) (chain known)
 
   -- a turn of the loop: the arc is one of the block's
   module _ (c : run-lts.After-arc-index run-calls run-at number-run.Post Inv-loop μ-loop) where
@@ -268,7 +269,9 @@ module _ (t : ℕ) where
 
     turn-arc : List·Memᴰ child (arcsFrom (g (s here)) (p (s here)))
     turn-arc =
-        walk-arc (here .loop .inv) child (c .before .loop-test .taken) (arcs-fit (known here)) (c .arc-index .ensures) (in-order (known here))
+        let a = known here in
+        subst (λ (q : ℕ). List·Memᴰ q (arcsFrom (g (s here)) (p (s here)))) (sym (c .arc-index .ensures))
+        (child-held (g (s here)) (labels (s here)) (p (s here)) (count a) (arcs a) (here .loop .i) (in-order a) (c .before .loop-test .taken) (arcs-fit a))
 
   -- what numbering from it came to
   module _ (c : run-lts.After-number-arc run-calls run-at number-run.Post Inv-loop μ-loop) where
@@ -323,7 +326,7 @@ module _ (t : ℕ) where
       (inside s, omega (arith, recorded s .room, b .push-block .kept .1 .0))
 
   run-loop-holds : run-lts.Need-loop-holds run-calls run-at number-run.Post Inv-loop μ-loop
-  run-loop-holds c = walk-start (opened (c .before .before)) (in-order (found (c .before .before)))
+  run-loop-holds c = arc-walk-start (opened (c .before .before)) (in-order (found (c .before .before)))
 
   run-mul-t28 : run-lts.Need-mul-t28 run-calls run-at number-run.Post Inv-loop μ-loop
   run-mul-t28 c = omega (arith, c .loop-test .taken, few-arcs (known (c .before)))
@@ -401,7 +404,7 @@ module _ (t : ℕ) where
   run-returns-3 c =
       let k = c .before .before in
       let l = closed k in
-      walk-done (l .loop .inv) (recorded (s l)) (inside (s l)) (new (s l)) (chain (known l)) (in-order (known l)) (opened (followed l))
+      walk-done (l .loop .inv) (opened (followed l)) (recorded (s l)) (inside (s l)) (new (s l)) (chain (known l)) (in-order (known l))
       (k .before .before .loop-test .left) (k .keep-depth2 .last .1 .0) (k .keep-depth2 .ensures)
 
 pub +number-arc+number-run-spec : {M : Type 1} → statement M

@@ -7,7 +7,7 @@ use Rattle.block_record.specs.Depths.{Below}
 use Rattle.block_record.specs.declared.BlockTally.{BlockTally}
 use Rattle.macondo_blocks.specs.declared.blocks.BlockNumbering.{BlockNumbering}
 use Rattle.macondo_blocks.specs.Blocks.{BlocksRecorded, NumberingFrom, NumberingIs}
-use Rattle.macondo_blocks.proofs.BlockNumbering.{clear-at, clear-recorded, clear-below, clear-numbering}
+use Rattle.macondo_blocks.proofs.BlockNumbering.{clear-at, clear-recorded, cleared-below, clear-numbering}
 use borrow.Author.Needs.{needs}
 use Rattle.macondo_blocks.proofs.blocks.number_blocks.Statement.{statement}
 use Rattle.macondo_blocks.proofs.blocks.number_blocks.Tie as tie
@@ -37,7 +37,7 @@ module _ (c : tie.After-clear) where
   nothing-recorded = clear-recorded work cleared (asked .pre .0) (asked .pre .1 .1) (c .clear .ensures) none refl refl
 
   none-followed : Below g cleared (asked .args .s)
-  none-followed = clear-below work cleared (asked .pre .0) (asked .pre .1 .1) (c .clear .ensures) (asked .args .s)
+  none-followed = cleared-below work cleared (asked .pre .0) (asked .pre .1 .1) (c .clear .ensures) (asked .args .s)
 
   start-new : getD cleared (asked .args .s) 0 ≡ 0
   start-new = clear-at work cleared (asked .pre .0) (asked .pre .1 .1) (c .clear .ensures) (asked .args .s) (asked .pre .1 .0)

@@ -11,7 +11,7 @@ use Rattle.endian.specs.Bytes.{bigEndians}
 use Rattle.macondo_blocks.specs.ArcsLaws.{child-inside}
 use Rattle.macondo_writing.specs.FileTables.{blockIn, blockNodesFrom, TablesFilled}
 use Rattle.macondo_writing.proofs.SectionLaws.{section-stored}
-use Rattle.macondo_writing.proofs.BlockNodes.{BlocksFrom, blocks-start, blocks-room, blocks-next, blocks-done}
+use Rattle.macondo_writing.proofs.BlockNodes.{BlocksFrom, blocks-start, block-fits, blocks-next, blocks-done}
 use Rattle.macondo_writing.proofs.nodes.write_nodes.Statement.{statement}
 use Rattle.macondo_writing.proofs.nodes.write_nodes.Tie as tie
 
@@ -103,13 +103,13 @@ module _ (c : tie.After-arcs-of Inv-loop μ-loop) where
   arcs-fit : count ≤ length arcs
   arcs-fit = omega (arith, c .arcs-of .ensures .0, arcs-kept)
 
-  block-fits : here in-loop .loop .w + (4 + 4 * count) ≤ length (here in-loop .loop .file)
-  block-fits =
-      blocks-room (g begun) (labels begun) (ranks begun) (work begun) (many begun) (counted (opened in-loop)) (first begun) (j in-loop)
+  fits-here : here in-loop .loop .w + (4 + 4 * count) ≤ length (here in-loop .loop .file)
+  fits-here =
+      block-fits (g begun) (labels begun) (ranks begun) (work begun) (many begun) (counted (opened in-loop)) (first begun) (j in-loop)
       (here in-loop .loop .inv .1) (in-loop .loop-test .taken) count arcs arcs-fit (c .arcs-of .ensures .1) (room (opened in-loop))
 
   child : (k : ℕ) → k < count → arc KBWG (getD arcs k 0) < length (g begun)
-  child k h = child-inside (g begun) (labels begun) (tables begun .ready) (run in-loop) count arcs k (c .arcs-of .ensures .1) h arcs-fit
+  child k h = child-inside (g begun) (labels begun) (run in-loop) count arcs k (c .arcs-of .ensures .1) h arcs-fit (tables begun .ready)
 
   next : {after : List ℕ}
       → after ≡ sets (here in-loop .loop .file) (here in-loop .loop .w)
@@ -178,7 +178,7 @@ write-block-requires : tie.Need-write-block-requires Inv-loop μ-loop
 write-block-requires c κs =
     let a = c .before .before .before .before in
     let f = tables (begun a) in (
-      (a .arcs-of .ensures .0, arcs-fit a, f .numbers (j (in-loop a)) (in-loop a .loop-test .taken), omega (arith, block-fits a), f .small),
+      (a .arcs-of .ensures .0, arcs-fit a, f .numbers (j (in-loop a)) (in-loop a .loop-test .taken), omega (arith, fits-here a), f .small),
       λ k h. (omega (arith, f .room, child a k h), f .place-fits _ (child a k h)),
     )
 
@@ -189,7 +189,7 @@ add-w-2 : tie.Need-add-w-2 Inv-loop μ-loop
 add-w-2 c = omega (arith, found (c .before .before) .arcs-of .ensures .0)
 
 add-w-3 : tie.Need-add-w-3 Inv-loop μ-loop
-add-w-3 c = omega (arith, block-fits (found (c .before .before)))
+add-w-3 c = omega (arith, fits-here (found (c .before .before)))
 
 add-j : tie.Need-add-j Inv-loop μ-loop
 add-j c = search needs

@@ -1,7 +1,7 @@
 -- The tables that the walk fills hold what the definitions of the file say. The idea: a block's entry in the record of blocks is its
--- number and 1, and the blocks and their sets stand in the order of the definition; so what is read block after block is the file's.
+-- number plus 1, and the blocks and their sets stand in the order of the definition; so what is read block after block is the file's.
 use mathlib.Core.Path.{_≡_, refl, sym, ap, ap₂, _∙_, subst}
-use mathlib.Core.List.{List, [], _∷_, _++_, map, List·Memᴰ, List·Memᴰ·head, List·Memᴰ·tail}
+use mathlib.Core.List.{List, [], _∷_, _++_, map, List·Memᴰ}
 use Prim.Native.Nat.{ℕ, suc, _+_, _-_, _*_, _≤_, _<_}
 use native.Mathlib.Omega.{arith}
 use native.Mathlib.Nat.{add-zero, zero-add}
@@ -16,26 +16,23 @@ use Rattle.endian.specs.Bytes.{bigEndian}
 use Rattle.graph.specs.Runs.{Graph}
 use Rattle.export.specs.BlocksLaws.{block-within}
 use Rattle.graph.specs.RunLaws.{in-graph}
+use Rattle.export.specs.LabelLaws.{labelled-in}
 use Rattle.export.specs.ChainLaws.{arc-from, arcs-inside}
-use Rattle.block_record.specs.Record.{HoldsBlocks}
-use Rattle.block_record.specs.RecordLaws.{used-le}
+use Rattle.block_record.specs.Record.{blocksIn}
+use Rattle.block_record.specs.RecordLaws.{holds-most}
 use Rattle.block_record.specs.declared.BlockTally.{BlockTally}
 use Rattle.macondo_file.specs.Alphabet.{letters}
-use Rattle.macondo_file.specs.File.{section, Format, marks, arcsOf, sizeOf, setOf, blocks, letterSets, blockNumber, blockOf, macondoNodes, macondoFile}
+use Rattle.macondo_file.specs.File.{section, Format, marks, arcsOf, sizeOf, setOf, blocks, letterSets, blockNumber}
+use Rattle.macondo_file.specs.File.{headNode, arcNode, blockOf, macondoNodes, macondoFile}
 use Rattle.macondo_file.specs.ReadingLaws.{file-length}
-use Rattle.macondo_file.specs.RowLaws.{MacondoChecked}
+use Rattle.macondo_file.specs.RowLaws.{MacondoReady}
 use Rattle.macondo_file.specs.ArcLaws.{in-arcs}
-use Rattle.macondo_file.specs.BlockLaws.{arcNode, headNode, block-is, nodes-length, sets-few, block-inside, set-number-below, child-block}
+use Rattle.macondo_file.specs.BlockLaws.{block-is, nodes-length, sets-few, block-inside, set-number-below, child-block}
 use Rattle.letter_sets.specs.Letters.{Ranks, Small}
 use Rattle.letter_sets.specs.SetNumbers.{setsIn, SetsNumbered}
 use Rattle.macondo_writing.specs.declared.tables.SectionCounts.{SectionCounts}
 use Rattle.macondo_writing.specs.FileTables.{arcIn, blockIn, blockNodesFrom, fileIn, TablesFilled}
-use Rattle.macondo.specs.BlocksIn.{BlocksIn}
-use Rattle.macondo.proofs.Rows.{ready}
-
-join-same : (f h : ℕ → List ℕ) (l : List ℕ) → ((x : ℕ) → List·Memᴰ x l → f x ≡ h x) → joinAll (map f l) ≡ joinAll (map h l)
-join-same f h [] e = refl
-join-same f h (x ∷ l) e = ap₂ _++_ (e x (List·Memᴰ·head refl)) (join-same f h l (λ y m. e y (List·Memᴰ·tail m)))
+use Rattle.macondo.specs.BlocksHeld.{BlocksHeld}
 
 -- ---- the nodes read block after block, where the work list holds the blocks of a list from block j on
 nodes-over : (g : Graph) (labels ranks w : List ℕ) (number : ℕ → ℕ) (l : List ℕ) (j : ℕ)
@@ -54,29 +51,26 @@ nodes-over g labels ranks w number (p ∷ l) j h =
     rw e (h (suc k) (omega arith))))
 
 -- ---- what the walk leaves in the work list: first the record of blocks
-pub blocks-few : {n : ℕ} {size : ℕ → ℕ} {w : List ℕ} {t : BlockTally} {o : List ℕ} → HoldsBlocks n size 0 w t o → t .blocks ≤ n
-blocks-few {n} {w = w} h = omega (arith, h .many, used-le n w)
-
-pub nodes-count : {g : Graph} {labels : List ℕ} {f : Format} {w : List ℕ} {t : BlockTally} → BlocksIn g labels f w t
+pub nodes-count : {g : Graph} {labels : List ℕ} {f : Format} {w : List ℕ} {t : BlockTally} → BlocksHeld g labels f w t
     → t .nodes ≡ length (macondoNodes g labels f)
 unfolding blocks
 nodes-count {g} {labels} {f} b = let a = b .holds .sum in let n = nodes-length g labels f in omega arith
 
 -- then, over all but that, the numbers of their sets
-pub record FileTables (g : Graph) (labels : List ℕ) (f : Format) (w : List ℕ) (c : SectionCounts) : Type 0 where
+pub record TablesRecorded (g : Graph) (labels : List ℕ) (f : Format) (w : List ℕ) (c : SectionCounts) : Type 0 where
   pub recorded : List ℕ
   pub room : 2 * length g ≤ length recorded
-  pub first : BlocksIn g labels f recorded (record { blocks = c .blocks; nodes = c .nodes })
+  pub first : BlocksHeld g labels f recorded (record { blocks = c .blocks; nodes = c .nodes })
   pub numbered : SetsNumbered (setOf g labels) (length g) (c .blocks) recorded w (c .sets)
 
-module _ {g : Graph} {labels name : List ℕ} {lentWork : ℕ} (c : MacondoChecked g labels name lentWork) (f : Format)
-    {w : List ℕ} {k : SectionCounts} (t : FileTables g labels f w k) where
-  order : take (k .blocks) (drop (length g) (t .recorded)) ≡ blocks g labels f
+module _ {g : Graph} {labels : List ℕ} (c : MacondoReady g labels) (f : Format)
+    {w : List ℕ} {k : SectionCounts} (t : TablesRecorded g labels f w k) where
+  order : blocksIn (length g) (t .recorded) (k .blocks) ≡ blocks g labels f
   unfolding blocks
   order = t .first .holds .order
 
   blocks-within : k .blocks ≤ length g
-  blocks-within = blocks-few (t .first .holds)
+  blocks-within = holds-most (t .first .holds)
 
   many : length (blocks g labels f) ≡ k .blocks
   many =
@@ -108,8 +102,8 @@ module _ {g : Graph} {labels name : List ℕ} {lentWork : ℕ} (c : MacondoCheck
         sym (getD-drop (length g) (t .recorded) j 0) ∙ sym (getD-take (k .blocks) (drop (length g) (t .recorded)) j 0 h)
         ∙ ap (λ l. getD l j 0) order
 
-    block-at : getD w (length g + j) 0 ≡ getD (blocks g labels f) j 0
-    block-at = let b = blocks-within in t .numbered .kept (length g + j) (omega arith) ∙ block-here
+    run-of-block : getD w (length g + j) 0 ≡ getD (blocks g labels f) j 0
+    run-of-block = let b = blocks-within in t .numbered .kept (length g + j) (omega arith) ∙ block-here
 
     block-met : List·Memᴰ (getD (blocks g labels f) j 0) (blocks g labels f)
     block-met = let m = many in at-in (blocks g labels f) j 0 (omega arith)
@@ -121,7 +115,7 @@ module _ {g : Graph} {labels name : List ℕ} {lentWork : ℕ} (c : MacondoCheck
         ∙ ap₂ (λ l p. placeIn (firsts [] (map (setOf g labels) l)) (setOf g labels p)) order block-here
 
     run-below : getD w (length g + j) 0 < length g
-    run-below = subst (_< length g) (sym block-at) (block-inside c f (getD (blocks g labels f) j 0) block-met)
+    run-below = subst (_< length g) (sym run-of-block) (block-inside c f (getD (blocks g labels f) j 0) block-met)
 
     number-below : getD w (2 * length g + j) 0 ≤ 16777216
     number-below =
@@ -144,9 +138,9 @@ module _ {g : Graph} {labels name : List ℕ} {lentWork : ℕ} (c : MacondoCheck
       (λ m. let n = t .first .holds .new q h m in omega arith)
 
   -- ---- the file's length
-  pub size-is : (text : List ℕ)
+  pub file-size-is : (text : List ℕ)
       → 17 + length text + 4 * (length labels - 1) + 8 * k .sets + 4 * k .nodes ≡ length (macondoFile g labels f text)
-  size-is text =
+  file-size-is text =
       let a = sets-count in
       let b = nodes-count (t .first) in
       let d = file-length g labels f text in
@@ -164,11 +158,11 @@ module _ {g : Graph} {labels name : List ℕ} {lentWork : ℕ} (c : MacondoCheck
         let a = in-arcs g labels p v n in
         let child = arc-from g p v (a .0) (a .1) in
         let q = arc KBWG v in
-        let inside : q < length g = arcs-inside g (c .sound .steps) p q child in
+        let inside : q < length g = arcs-inside g (c .fit .steps) p q child in
         let o = number-of q inside (child-block c f (t .first .shallow) p q m child) in
         let kept = t .numbered .kept q (omega arith) in
         let place : getD w q 0 - 1 ≡ blockNumber g labels f q = omega arith in
-        ap₂ (λ l b. l * 16777216 + b) (ranked (tile KBWG v) (c .labelled v (in-graph KBWG g p v (a .0)))) place
+        ap₂ (λ l b. l * 16777216 + b) (ranked (tile KBWG v) (labelled-in g labels (c .labelled) v (in-graph KBWG g p v (a .0)))) place
 
     block-same : (p : ℕ) → List·Memᴰ p (blocks g labels f)
         → blockIn ranks w (placeIn (letterSets g labels f) (setOf g labels p)) (arcsOf g labels p) ≡ blockOf g labels f p
@@ -182,15 +176,15 @@ module _ {g : Graph} {labels name : List ℕ} {lentWork : ℕ} (c : MacondoCheck
     nodes-are =
         ap (blockNodesFrom g labels ranks w 0) (sym many)
         ∙ nodes-over g labels ranks w (λ p. placeIn (letterSets g labels f) (setOf g labels p)) (blocks g labels f) 0
-        (λ i h. let b : i < k .blocks = subst (i <_) many h in rw zero-add (block-at i b, number-at i b))
-        ∙ join-same (λ p. blockIn ranks w (placeIn (letterSets g labels f) (setOf g labels p)) (arcsOf g labels p)) (blockOf g labels f)
-        (blocks g labels f) block-same
+        (λ i h. let b : i < k .blocks = subst (i <_) many h in rw zero-add (run-of-block i b, number-at i b))
+        ∙ ap joinAll (map-same (λ p. blockIn ranks w (placeIn (letterSets g labels f) (setOf g labels p)) (arcsOf g labels p)) (blockOf g labels f)
+        (blocks g labels f) block-same)
 
     -- ---- so the tables are what a file needs, and the file is that of the definition
-    pub filled : Small ranks → 5 * length g ≤ length w → k .nodes ≤ 16777216 → TablesFilled g labels ranks w k
-    filled small room few =
+    pub tables-filled : Small ranks → 5 * length g ≤ length w → k .nodes ≤ 16777216 → TablesFilled g labels ranks w k
+    tables-filled small room few =
         record {
-          ready = ready c;
+          ready = c;
           small = small;
           room = room;
           few-blocks = blocks-within;
@@ -201,9 +195,9 @@ module _ {g : Graph} {labels name : List ℕ} {lentWork : ℕ} (c : MacondoCheck
           nodes = nodes-count (t .first) ∙ ap length (sym nodes-are);
         }
 
-    pub file-is : (magic : ℕ) → bigEndian 4 magic ≡ marks f .magic → (text letters′ : List ℕ) → take (length labels - 1) letters′ ≡ letters labels
+    pub tables-file-is : (magic : ℕ) → bigEndian 4 magic ≡ marks f .magic → (text letters′ : List ℕ) → take (length labels - 1) letters′ ≡ letters labels
         → fileIn magic text g labels letters′ ranks w k ≡ macondoFile g labels f text
     unfolding fileIn macondoFile
-    file-is magic m text letters′ e =
+    tables-file-is magic m text letters′ e =
         ap₂ (λ b r. b ++ (length text ∷ text) ++ r) m
         (ap₂ (λ l r. section 4 (map (λ t. getD labels t 0) l) ++ r) e (ap₂ (λ s n. section 8 s ++ section 4 n) sets-are nodes-are))
