@@ -23,7 +23,7 @@ use Rattle.lookup.specs.Steps.{Try, on, _>>=_, answer, lentPart}
 use Rattle.lookup.specs.StepsLaws.{lent-on}
 use Rattle.numbers.specs.Walkable.{Walkable}
 use Rattle.numbers.specs.LentLaws.{walkable}
-use Rattle.graph.specs.TableLaws.{table-length}
+use Rattle.laws.specs.Tables.{table-length}
 use Rattle.letters.specs.AlphaSets.{completes, crossFrom, acceptsAlpha, crossSet}
 use Rattle.letters.specs.TallyLaws.{tally-fits}
 use Rattle.alphagrams.specs.Alphagrams.{alphagram, ReadBelow, AlphagramLexicon, oneMore, Accepted, AlphaMeans}

@@ -9,6 +9,12 @@ pub data Answer : Type 0 where
   nothing : Answer
   refused : ℕ → List ℕ → Answer
 
+-- an answer as one number: that of its refusal, or 0
+abbrev pub refusalIn : Answer → ℕ
+refusalIn (gives vs) = 0
+refusalIn nothing = 0
+refusalIn (refused n vs) = n
+
 -- A refusal by itself: its number and the values that it carries.
 pub record Refusal : Type 0 where
   pub number : ℕ

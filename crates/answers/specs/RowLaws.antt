@@ -87,13 +87,15 @@ row-refusal (c ∷ cs) {a} e =
     (λ t. let i : some (asAnswer (c .1)) ≡ some a = sym (row-refuses (c .0) (c .1) cs t) ∙ e in (c .1, cc))
     (λ t. row-refusal cs (sym (row-passes (c .0) (c .1) cs t) ∙ e))
 
-pub row-never-gives : (cs : Row) {vs : List ℕ} {C : Type 0} → firstOf cs ≡ some (gives vs) → C
-row-never-gives cs e = absurd (gives-refused (row-refusal cs e .1))
-  where
-    isRefused : Answer → Bool
-    isRefused (gives vs) = false
-    isRefused nothing = false
-    isRefused (refused n vs) = true
+isRefused : Answer → Bool
+isRefused (gives vs) = false
+isRefused nothing = false
+isRefused (refused n vs) = true
 
-    gives-refused : {vs us : List ℕ} {n : ℕ} → gives vs ≡ refused n us → ⊥
-    gives-refused e = false≢true (ap isRefused e)
+-- a given answer is no refusal
+pub gives≢refused : {C : Type 0} {vs us : List ℕ} {n : ℕ} → gives vs ≡ refused n us → C
+unfolding isRefused
+gives≢refused e = absurd (false≢true (ap isRefused e))
+
+pub row-never-gives : (cs : Row) {vs : List ℕ} {C : Type 0} → firstOf cs ≡ some (gives vs) → C
+row-never-gives cs e = gives≢refused (row-refusal cs e .1)

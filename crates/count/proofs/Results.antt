@@ -14,8 +14,8 @@ use Rattle.graph.specs.Runs.{Graph}
 use Rattle.graph.specs.Words.{count}
 use Rattle.graph.specs.LoopLaws.{reach-inside}
 use Rattle.laws.specs.Cleared.{cleared}
-use Rattle.graph.specs.TableLaws.{begins-with-table}
-use Rattle.graph.specs.Counting.{table, Loopless, countRow, IsCounted, unfit, loop, many, all}
+use Rattle.laws.specs.Tables.{begins-with-table, table}
+use Rattle.graph.specs.Counting.{Loopless, countRow, IsCounted, unfit, loop, many, all}
 use Rattle.graph.specs.Lent.{WorkKept, work-untouched}
 use Rattle.count.specs.CountWalk.{mark, isMet, isDone, CountWalk, AllDone, LoopFound, ReachesIs}
 use Rattle.count.proofs.Lists.{cleared-of-kept}

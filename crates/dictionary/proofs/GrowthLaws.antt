@@ -12,7 +12,7 @@ use lib.ListN.{length, getD, set, length-set}
 use lib.Seq.{getD-set-same, getD-set-other}
 use Rattle.laws.specs.Cases.{split}
 use Rattle.laws.specs.Firsts.{placeIn, firsts}
-use Rattle.graph.specs.TableLaws.{table-length}
+use Rattle.laws.specs.Tables.{table-length}
 use Rattle.dictionary.specs.KeyNumbered.{KeyNumbered}
 use Rattle.dictionary.specs.Keys.{keyAt, keysIn}
 use Rattle.dictionary.specs.Tree.{linkPlace, link, here, PathTo, Tree, Gap, stored}

@@ -10,8 +10,7 @@ use Rattle.laws.specs.Cases.{split}
 use Rattle.laws.specs.Firsts.{placeIn, firsts}
 use Rattle.laws.specs.Lists.{member}
 use Rattle.laws.specs.Members.{member-mem, mem-member}
-use Rattle.graph.specs.Counting.{table}
-use Rattle.graph.specs.TableLaws.{table-in, from-table}
+use Rattle.laws.specs.Tables.{table, table-in, from-table}
 
 pub table-same : (k : ℕ) (f h : ℕ → ℕ) → ((i : ℕ) → i < k → f i ≡ h i) → table k f ≡ table k h
 unfolding table

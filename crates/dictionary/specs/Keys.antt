@@ -2,7 +2,7 @@
 use mathlib.Core.List.{List}
 use Prim.Native.Nat.{ℕ, _+_, _*_}
 use lib.ListN.{getD}
-use Rattle.graph.specs.Counting.{table}
+use Rattle.laws.specs.Tables.{table}
 
 -- key i by its halves
 abbrev pub keyAt : ℕ → List ℕ → ℕ → ℕ

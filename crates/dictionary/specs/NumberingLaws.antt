@@ -6,7 +6,7 @@ use Prim.Native.Nat.{ℕ, _+_, _*_, _≤_}
 use native.Mathlib.Omega.{arith}
 use lib.ListN.{length}
 use Rattle.laws.specs.Firsts.{placeIn, firsts, firsts-all, firsts-length, firsts-step, place-stays}
-use Rattle.graph.specs.TableLaws.{table-length}
+use Rattle.laws.specs.Tables.{table-length}
 use Rattle.dictionary.specs.KeyNumbered.{KeyNumbered}
 use Rattle.dictionary.specs.Keys.{keyAt, keysIn}
 use Rattle.dictionary.specs.Tree.{Tree}

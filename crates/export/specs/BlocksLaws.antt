@@ -13,8 +13,8 @@ use borrow.Author.Tests.{eqb-true, eqb-false, eq-eqb}
 use lib.ListN.{length, drop, length-append}
 use lib.Seq.{drop-append-add}
 use Rattle.laws.specs.Cases.{split}
-use Rattle.laws.specs.Lists.{kept, member, joinAll}
-use Rattle.laws.specs.Members.{member-mem, mem-member, kept-length, kept-less}
+use Rattle.laws.specs.Lists.{filtered, member, joinAll}
+use Rattle.laws.specs.Members.{member-mem, mem-member, filtered-length, filtered-less}
 use Rattle.laws.specs.Without.{below, length-below, in-below}
 use Rattle.export.specs.Blocks.{each, met, blockAt, total}
 
@@ -63,20 +63,20 @@ module _ (children : ℕ → List ℕ) where
   -- as many blocks as there are nodes, or fewer
   module _ (n : ℕ) (stays : (p q : ℕ) → p < n → List·Memᴰ q (children p) → q < n) where
     abbrev seenBelow : List ℕ → List ℕ
-    seenBelow seen = kept (λ x. member x seen) (below n)
+    seenBelow seen = filtered (λ x. member x seen) (below n)
 
     one-more : (seen : List ℕ) (p : ℕ) → length seen ≤ length (seenBelow seen) → p < n → member p seen ≡ false
         → length (seen ++ p ∷ []) ≤ length (seenBelow (seen ++ p ∷ []))
     one-more seen p h i e =
         let new = mem-member p (seen ++ p ∷ []) (Memᴰ·append-right seen (List·Memᴰ·head refl)) in
-        let a = kept-less (λ x. member x seen) (λ x. member x (seen ++ p ∷ [])) (still-member seen p) (below n) p (in-below n p i) e new in
+        let a = filtered-less (λ x. member x seen) (λ x. member x (seen ++ p ∷ [])) (still-member seen p) (below n) p (in-below n p i) e new in
         let b = length-append seen (p ∷ []) in
         omega arith
 
     pub few-met : (k p : ℕ) → p < n → length (met children k [] p) ≤ n
     few-met k p i =
         let a = met-holds children (λ q. q < n) stays (λ l. length l ≤ length (seenBelow l)) one-more k [] p zero-le i in
-        let b = kept-length (λ x. member x (met children k [] p)) (below n) in
+        let b = filtered-length (λ x. member x (met children k [] p)) (below n) in
         let c = length-below n in
         omega arith
 

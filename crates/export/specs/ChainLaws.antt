@@ -10,8 +10,8 @@ use native.Mathlib.Omega.{arith}
 use borrow.Author.Tests.{not-true, ne-eqb}
 use lib.ListN.{length}
 use Rattle.laws.specs.Cases.{split, and-left, and-right}
-use Rattle.laws.specs.Lists.{kept}
-use Rattle.laws.specs.Members.{in-map, map-in, in-kept, kept-in, some-of, none-of, kept-length, kept-le, kept-less}
+use Rattle.laws.specs.Lists.{filtered}
+use Rattle.laws.specs.Members.{in-map, map-in, in-filtered, filtered-in, some-of, none-of, filtered-length, filtered-le, filtered-less}
 use Rattle.laws.specs.Without.{below, length-below, in-below}
 use Rattle.node.specs.Nodes.{KBWG, arc}
 use Rattle.graph.specs.Runs.{Graph, node, run}
@@ -37,12 +37,12 @@ node-of (x ∷ g) v m =
 
 module _ (g : Graph) where
   pub arc-from : (p v : ℕ) → List·Memᴰ v (runOf g p) → hasArc v ≡ true → List·Memᴰ (arc KBWG v) (arcsFrom g p)
-  arc-from p v m h = map-in (arc KBWG) (kept hasArc (runOf g p)) v (kept-in hasArc (runOf g p) v m h)
+  arc-from p v m h = map-in (arc KBWG) (filtered hasArc (runOf g p)) v (filtered-in hasArc (runOf g p) v m h)
 
   pub from-arc : (p q : ℕ) → List·Memᴰ q (arcsFrom g p) → (v : ℕ) × List·Memᴰ v (runOf g p) × (hasArc v ≡ true) × (q ≡ arc KBWG v)
   from-arc p q m =
-      let r = in-map (arc KBWG) (kept hasArc (runOf g p)) q m in
-      let k = in-kept hasArc (runOf g p) (r .0) (r .1) in
+      let r = in-map (arc KBWG) (filtered hasArc (runOf g p)) q m in
+      let k = in-filtered hasArc (runOf g p) (r .0) (r .1) in
       (r .0, k .0, k .1, r .2)
 
   pub arcs-inside : Closed g → (p q : ℕ) → List·Memᴰ q (arcsFrom g p) → q < length g
@@ -98,7 +98,7 @@ module _ (g : Graph) where
   module _ (xs : List ℕ) (closed : (p q : ℕ) → List·Memᴰ p xs → List·Memᴰ q (arcsFrom g p) → List·Memᴰ q xs) where
     -- those from which no chain has over k runs
     abbrev shallow : ℕ → List ℕ
-    shallow k = kept (λ x. not (deeper g k x)) xs
+    shallow k = filtered (λ x. not (deeper g k x)) xs
 
     still-shallow : (k x : ℕ) → not (deeper g k x) ≡ true → not (deeper g (suc k) x) ≡ true
     still-shallow k x e = ap not (shallow-more k x (not-true (deeper g k x) e))
@@ -110,13 +110,13 @@ module _ (g : Graph) where
         let h : ℕ → Bool = λ x. not (deeper g (suc k) x) in
         split (deeper g k p)
         (λ t. shallow-within (suc (length (shallow k))) (length (shallow (suc k))) p
-        (kept-less f h (still-shallow k) xs p m (ap not t) (ap not e))
+        (filtered-less f h (still-shallow k) xs p m (ap not t) (ap not e))
         (shallow-over (length (shallow k)) p (λ q n. shallow-count k q (closed p q m n) (shallow-arc k p q e n))))
-        (λ t. shallow-within (length (shallow k)) (length (shallow (suc k))) p (kept-le f h (still-shallow k) xs) (shallow-count k p m t))
+        (λ t. shallow-within (length (shallow k)) (length (shallow (suc k))) p (filtered-le f h (still-shallow k) xs) (shallow-count k p m t))
 
     pub shallow-closed : (k p : ℕ) → List·Memᴰ p xs → deeper g k p ≡ false → deeper g (length xs) p ≡ false
     shallow-closed k p m e =
-        shallow-within (length (shallow k)) (length xs) p (kept-length (λ x. not (deeper g k x)) xs) (shallow-count k p m e)
+        shallow-within (length (shallow k)) (length xs) p (filtered-length (λ x. not (deeper g k x)) xs) (shallow-count k p m e)
 
   shallow-graph : Closed g → (k p : ℕ) → p < length g → deeper g k p ≡ false → deeper g (length g) p ≡ false
   shallow-graph c k p h e =

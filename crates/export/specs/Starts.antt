@@ -4,7 +4,7 @@ use mathlib.Core.List.{List, map}
 use Prim.Native.Nat.{ℕ, zero, suc}
 use lib.Dec.{eqb, leb}
 use lib.ListN.{length, drop}
-use Rattle.laws.specs.Lists.{kept, someOf}
+use Rattle.laws.specs.Lists.{filtered, someOf}
 use Rattle.node.specs.Nodes.{KBWG, tile, arc}
 use Rattle.graph.specs.Runs.{Graph, node, run}
 
@@ -18,7 +18,7 @@ hasArc v = not (eqb (arc KBWG v) 0)
 
 -- the nodes that the arcs of the run from p lead to
 abbrev pub arcsFrom : Graph → ℕ → List ℕ
-arcsFrom g p = map (arc KBWG) (kept hasArc (runOf g p))
+arcsFrom g p = map (arc KBWG) (filtered hasArc (runOf g p))
 
 -- "21+ tile not below the label count", of any node
 abbrev pub unlabelled : Graph → List ℕ → Bool

@@ -11,8 +11,7 @@ use Rattle.lxd.proofs.Lxd as lxd
 use Rattle.lxd.specs.Said.{saidLxd}
 use Rattle.lxd.specs.declared.Lxd.{Lxd}
 use Rattle.lxd.specs.declared.Lxd.the-variants as L
-use Rattle.answers.specs.Answers.{Answer}
-use Rattle.flat.specs.Flat.{refusalIn}
+use Rattle.answers.specs.Answers.{Answer, refusalIn}
 use Rattle.flat.specs.FlatFiles.{fileOf, flatFile}
 use Rattle.flat.specs.declared.files.FlatFile.{FlatFile}
 

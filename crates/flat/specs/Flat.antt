@@ -6,7 +6,6 @@ use Prim.Native.Nat.{ℕ}
 use lib.Dec.{eqb}
 use lib.ListN.{getD}
 use Rattle.answers.specs.Answers.{Answer, gives, nothing, refused}
-pub use Rattle.pieces.specs.Said.{refusalIn}
 use Rattle.node.specs.declared.Layout.{Layout}
 use Rattle.node.specs.declared.Layout.the-variants.{Kwg, Kbwg}
 

@@ -1,7 +1,7 @@
 -- The flat answer of counting.
 use mathlib.Core.List.{[]}
-use Rattle.answers.specs.Answers.{Answer, gives}
-use Rattle.flat.specs.Flat.{refusedOr, refusalIn, nodeCarried, arcCarried}
+use Rattle.answers.specs.Answers.{Answer, gives, refusalIn}
+use Rattle.flat.specs.Flat.{refusedOr, nodeCarried, arcCarried}
 use Rattle.flat.specs.declared.counting.FlatCounted.{FlatCounted}
 
 abbrev pub countedOf : FlatCounted → Answer

@@ -3,11 +3,11 @@ use mathlib.Core.Bool.{true, false}
 use mathlib.Core.List.{List, [], _∷_}
 use Prim.Native.Nat.{ℕ}
 use lib.Dec.{eqb}
-use Rattle.answers.specs.Answers.{Answer, gives}
+use Rattle.answers.specs.Answers.{Answer, gives, refusalIn}
 use Rattle.export.specs.Written.{Written}
 use Rattle.macondo.specs.declared.MacondoFormat.{MacondoFormat}
 use Rattle.macondo.specs.declared.MacondoFormat.the-variants.{Dawg, Gaddag}
-use Rattle.flat.specs.Flat.{refusedOr, refusalIn, valueIn, arcCarried}
+use Rattle.flat.specs.Flat.{refusedOr, valueIn, arcCarried}
 use Rattle.flat.specs.declared.files.FlatFile.{FlatFile}
 
 -- a format's number: 0 is a DAWG, every other number a GADDAG

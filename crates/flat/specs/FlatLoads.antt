@@ -3,7 +3,7 @@ use mathlib.Core.Bool.{true, false}
 use mathlib.Core.List.{List, [], _∷_}
 use Prim.Native.Nat.{ℕ}
 use lib.Dec.{eqb}
-use Rattle.answers.specs.Answers.{Answer, gives}
+use Rattle.answers.specs.Answers.{Answer, gives, refusalIn}
 use Rattle.graph.specs.Runs.{Graph}
 use Rattle.load.specs.Repacking.{misfit, misfitAnswer}
 use Rattle.load.specs.Loading.{keptMisfit, Begins, Feeds, Finishes}
@@ -11,7 +11,7 @@ use Rattle.load.specs.declared.loader.KeptRefusal.{KeptRefusal}
 use Rattle.load.specs.declared.loader.KeptRefusal.the-variants.{Nothing, DoesNotFit}
 use Rattle.load.specs.declared.loader.Loader.{Loader}
 use Rattle.pieces.specs.Said.{LoadLeft}
-use Rattle.flat.specs.Flat.{layoutOf, layoutNumber, refusedOr, plainly, refusalIn, valueIn, nodeCarried, tileCarried, arcCarried}
+use Rattle.flat.specs.Flat.{layoutOf, layoutNumber, refusedOr, plainly, valueIn, nodeCarried, tileCarried, arcCarried}
 use Rattle.flat.specs.declared.loading.FlatRepacked.{FlatRepacked}
 use Rattle.flat.specs.declared.loading.FlatLoader.{FlatLoader}
 use Rattle.flat.specs.declared.loading.FlatBegun.{FlatBegun}

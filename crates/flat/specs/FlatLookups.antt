@@ -4,11 +4,11 @@ use mathlib.Core.Bool.{Bool, true, false}
 use mathlib.Core.List.{List, [], _∷_, _++_}
 use Prim.Native.Nat.{ℕ}
 use lib.ListN.{length, drop}
-use Rattle.answers.specs.Answers.{Answer, gives, nothing, refused}
+use Rattle.answers.specs.Answers.{Answer, gives, nothing, refused, refusalIn}
 use Rattle.graph.specs.Runs.{Graph}
 use Rattle.lookup.specs.Steps.{on, _>>=_, answer, lentPart, lent}
 use Rattle.cursor.specs.RunSteps.{Moves}
-use Rattle.flat.specs.Flat.{plainly, found, refusalIn, valueIn, isGiven}
+use Rattle.flat.specs.Flat.{plainly, found, valueIn, isGiven}
 use Rattle.flat.specs.declared.lookups.FlatSought.{FlatSought}
 use Rattle.flat.specs.declared.lookups.FlatCursor.{FlatCursor}
 use Rattle.flat.specs.declared.lookups.FlatIndex.{FlatIndex}

@@ -3,9 +3,9 @@ use mathlib.Core.List.{List, [], _∷_}
 use Prim.Native.Nat.{ℕ}
 use lib.Dec.{eqb}
 use Rattle.base.specs.Numbers.{flag}
-use Rattle.answers.specs.Answers.{Answer, gives}
+use Rattle.answers.specs.Answers.{Answer, gives, refusalIn}
 use Rattle.letters.specs.LetterBits.{Lettered}
-use Rattle.flat.specs.Flat.{plainly, refusalIn, valueIn}
+use Rattle.flat.specs.Flat.{plainly, valueIn}
 use Rattle.flat.specs.declared.sets.FlatAccepts.{FlatAccepts}
 use Rattle.flat.specs.declared.sets.FlatCross.{FlatCross}
 

@@ -5,8 +5,8 @@ use mathlib.Core.List.{[]}
 use Prim.Native.Nat.{ℕ}
 use borrow.Author.Tests.{eqb-true}
 use lib.Dec.{eqb}
-use Rattle.answers.specs.Answers.{gives, refused}
-use Rattle.flat.specs.Flat.{refusalIn, plainly}
+use Rattle.answers.specs.Answers.{gives, refused, refusalIn}
+use Rattle.flat.specs.Flat.{plainly}
 
 plain-by : (n : ℕ) (b : Bool) → eqb n 0 ≡ b → refusalIn (elim b [ true ↦ gives [] | false ↦ refused n [] ]) ≡ n
 plain-by n true t = sym (eqb-true n 0 t)

@@ -1,11 +1,12 @@
 -- A flat state is read back as the state that it was made of: field by field, with the two cases of the layout and of the kept refusal.
 use mathlib.Core.Path.{_≡_, refl, sym, ap, _∙_}
+use Rattle.answers.specs.Answers.{refusalIn}
 use Rattle.node.specs.declared.Layout.{Layout}
 use Rattle.node.specs.declared.Layout.the-variants.{Kwg, Kbwg}
 use Rattle.load.specs.declared.loader.KeptRefusal.{KeptRefusal}
 use Rattle.load.specs.declared.loader.KeptRefusal.the-variants.{Nothing, DoesNotFit}
 use Rattle.load.specs.declared.loader.Loader.{Loader}
-use Rattle.flat.specs.Flat.{layoutOf, layoutNumber, refusalIn, nodeCarried, tileCarried, arcCarried}
+use Rattle.flat.specs.Flat.{layoutOf, layoutNumber, nodeCarried, tileCarried, arcCarried}
 use Rattle.flat.specs.FlatLoads.{keptOf, keptAnswer, stateOf, flatLoader}
 use Rattle.flat.specs.declared.loading.FlatLoader.{FlatLoader}
 

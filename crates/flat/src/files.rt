@@ -1,8 +1,8 @@
 // Files for other programs. A format is a number: 0 is a DAWG, every other number a GADDAG.
 ghost use mathlib.Core.Path.{_≡_};
+ghost use Rattle.answers.specs.Answers.{refusalIn};
 ghost use Rattle.macondo.specs.Said.{saidMacondo};
 ghost use Rattle.lxd.specs.Said.{saidLxd};
-ghost use Rattle.flat.specs.Flat.{refusalIn};
 ghost use Rattle.flat.specs.FlatFiles.{formatNumbered, fileOf, flatFile};
 use lxd::Lxd;
 use macondo::Macondo;

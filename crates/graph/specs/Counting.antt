@@ -3,10 +3,11 @@ use mathlib.Core.Path.{_≡_}
 use mathlib.Core.Bool.{_||_}
 use mathlib.Core.List.{List, [], _∷_, _++_}
 use mathlib.Core.Option.{none, some}
-use Prim.Native.Nat.{ℕ, zero, suc, _*_, _≤_, _<_}
+use Prim.Native.Nat.{ℕ, _*_, _≤_, _<_}
 use lib.Dec.{ltb}
 use lib.ListN.{length, drop}
 use Rattle.laws.specs.Cleared.{cleared}
+use Rattle.laws.specs.Tables.{table}
 use Rattle.answers.specs.Answers.{Answer, gives, refused, refusing, Row, firstOf}
 use Rattle.node.specs.Nodes.{KBWG}
 use Rattle.base.specs.Numbers.{most}
@@ -14,11 +15,6 @@ use Rattle.graph.specs.Runs.{Graph}
 use Rattle.graph.specs.Words.{count}
 use Rattle.graph.specs.Loops.{Loops}
 use Rattle.graph.specs.Checks.{graphRow}
-
--- f of each number below n, in order
-unfoldable pub table : ℕ → (ℕ → ℕ) → List ℕ
-table zero f = []
-table (suc n) f = f zero ∷ table n (λ k. f (suc k))
 
 -- "Every node gets the number of words from it."
 abbrev pub counts : Graph → List ℕ

@@ -7,7 +7,6 @@ pub mod Lent
 pub mod Checks
 pub mod ChecksLaws
 pub mod Counting
-pub mod TableLaws
 pub mod WordsAscend
 pub mod WordsEquation
 pub mod UpwardLaws

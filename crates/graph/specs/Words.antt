@@ -4,6 +4,7 @@ use mathlib.Core.List.{List, [], _∷_, _++_, map}
 use Prim.Native.Nat.{ℕ, zero, suc}
 use lib.Dec.{eqb}
 use lib.ListN.{length, drop}
+use Rattle.laws.specs.Lists.{joinAll}
 use Rattle.node.specs.Nodes.{BitLayout, tile, arc, accepts}
 use Rattle.graph.specs.Runs.{Graph, run}
 
@@ -12,8 +13,7 @@ Word = List ℕ
 
 -- "for each node of the run in order"
 unfoldable pub inOrder : (ℕ → List Word) → List ℕ → List Word
-inOrder f [] = []
-inOrder f (v ∷ vs) = f v ++ inOrder f vs
+inOrder f vs = joinAll (map f vs)
 
 module _ (y : BitLayout) where
   -- "its tile alone if it accepts; then, where its arc is not 0, its tile before each word from the arc"

@@ -15,7 +15,7 @@ use Rattle.load.specs.FinishLaws.{finished-within}
 use Rattle.load.specs.StateLaws.{sound}
 use Rattle.pieces.specs.Pieces.{loadPieces, fedPieces}
 use Rattle.pieces.specs.PiecesLaws.{loads-as-whole, loads-however-cut}
-use Rattle.numbers.specs.WordNumbers.{Lent, WordNumbers}
+use Rattle.numbers.specs.WordNumbers.{GraphLent, WordNumbers}
 use Rattle.numbers.specs.WordNumbersLaws.{numbered, counted-lent, lent-left}
 use Rattle.export.specs.ChainLaws.{shallow-equation}
 use Rattle.export.specs.Written.{written}
@@ -42,10 +42,10 @@ module _ (announced : ℕ) (layout : Layout) (lent : Graph) (pieces : List (List
   within = let fed = fedPieces announced layout lent pieces in finished-within (fed .state) (fed .nodes) (r .loads)
 
   -- the lists as the calls left them
-  lists-left : Lent graph nodes counted
+  lists-left : GraphLent graph nodes counted
   lists-left = lent-left limit n nodes _ _ _ within (r .counts)
 
-  numbers : (lentNodes counts : List ℕ) → Lent graph lentNodes counts → (p : ℕ) → 0 < p → p < n → WordNumbers limit graph lentNodes counts p
+  numbers : (lentNodes counts : List ℕ) → GraphLent graph lentNodes counts → (p : ℕ) → 0 < p → p < n → WordNumbers limit graph lentNodes counts p
   numbers lentNodes counts is p z h =
       numbered limit graph (counted-lent limit _ _ _ _ (r .counts) .0) (r .ascending) lentNodes counts is p z (rw (length-take-le n nodes within) h)
 

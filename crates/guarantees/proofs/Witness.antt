@@ -15,13 +15,14 @@ use Rattle.node.specs.Nodes.{KBWG, fits}
 use Rattle.node.specs.declared.Layout.the-variants.{Kwg}
 use Rattle.graph.specs.Runs.{run, ascends, largestArc, lastEnds}
 use Rattle.graph.specs.Words.{Word, inOrder, spelled, wordsWithin, words, count}
-use Rattle.graph.specs.Counting.{table, Counts, IsCounted, all, countLimit}
+use Rattle.laws.specs.Tables.{table}
+use Rattle.graph.specs.Counting.{Counts, IsCounted, all, countLimit}
 use Rattle.graph.specs.ChecksLaws.{fit}
 use Rattle.graph.specs.UpwardLaws.{leadsUp, upward-loopless}
 use Rattle.load.specs.Repacking.{fitting, firstMisfit}
 use Rattle.load.specs.Loading.{begin, feed, finish, holding, stateAfter, nodesAfter, zeros}
 use Rattle.pieces.specs.Pieces.{loadPieces, fedPieces, feedAll}
-use Rattle.numbers.specs.WordNumbers.{Lent, WordNumbers}
+use Rattle.numbers.specs.WordNumbers.{GraphLent, WordNumbers}
 use Rattle.export.specs.Starts.{deeper}
 use Rattle.export.specs.Blocks.{met, blockAt}
 use Rattle.latin1.specs.Latin1.{byteOf}
@@ -93,7 +94,7 @@ G-answers : fedPieces 20 Kwg lent G-pieces .answers ≡ gives [] ∷ gives [] �
 unfolding fedPieces feedAll begin feed firstOf holding stateAfter nodesAfter wholeNodes partNode firstMisfit fitting fits zeros
 G-answers = refl
 
-G-lent : Lent G otherNodes otherCounts
+G-lent : GraphLent G otherNodes otherCounts
 unfolding table words wordsWithin inOrder spelled run
 G-lent = record { nodes-are = refl; counts-are = refl }
 

@@ -14,7 +14,7 @@ use Rattle.graph.specs.Runs.{Graph, run, ascends, startNode}
 use Rattle.graph.specs.Words.{inOrder, spelled, words}
 use Rattle.graph.specs.Counting.{IsCounted}
 use Rattle.pieces.specs.Pieces.{LoadsAsWhole, LoadsHoweverCut, loadPieces}
-use Rattle.numbers.specs.WordNumbers.{Lent, WordNumbers}
+use Rattle.numbers.specs.WordNumbers.{GraphLent, WordNumbers}
 use Rattle.export.specs.Written.{Written}
 use Rattle.macondo_file.specs.File.{Format, marks}
 use Rattle.macondo_file.specs.Row.{toMacondo}
@@ -64,7 +64,7 @@ pub record Demand3 (limit : ℕ) : Type 0 where
   -- the same where node and count lists are lent longer than N
   pub lending : (announced : ℕ) (layout : Layout) (lent : Graph) (pieces : List (List ℕ)) (n : ℕ) (counted : List ℕ)
       → CountedLoad announced layout lent pieces limit n counted
-      → (nodes counts : List ℕ) → Lent (loadedGraph announced layout lent pieces n) nodes counts
+      → (nodes counts : List ℕ) → GraphLent (loadedGraph announced layout lent pieces n) nodes counts
       → (p : ℕ) → 0 < p → p < n → WordNumbers limit (loadedGraph announced layout lent pieces n) nodes counts p
   -- every Macondo file, once written, spells exactly the words of its start node, renamed, less those ending in tile 0: each once, with
   -- the labels as its code points, to the file's last byte

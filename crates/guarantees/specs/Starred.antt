@@ -12,7 +12,8 @@ use Rattle.answers.specs.Answers.{Answer, gives, nothing, firstOf}
 use Rattle.node.specs.declared.Layout.the-variants.{Kwg}
 use Rattle.graph.specs.Runs.{Graph, run, largestArc, lastEnds, startNode}
 use Rattle.graph.specs.Words.{Word, inOrder, spelled, wordsWithin, words, count}
-use Rattle.graph.specs.Counting.{table, counts, countLimit}
+use Rattle.laws.specs.Tables.{table}
+use Rattle.graph.specs.Counting.{counts, countLimit}
 use Rattle.endian.specs.Bytes.{wholeNodes, partNode}
 use Rattle.load.specs.Repacking.{fitting, firstMisfit}
 use Rattle.load.specs.Loading.{begin, feed, finish, holding, stateAfter, nodesAfter, zeros}

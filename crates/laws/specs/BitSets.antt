@@ -11,7 +11,7 @@ use lib.Dec.{eqb, lit<}
 use lib.Pow.{pow-pos, pow-lt, shl-exact}
 use Rattle.laws.specs.Bits.{hasBit, zero-bit, power-bit, or-bit}
 use Rattle.laws.specs.Cases.{split}
-use Rattle.laws.specs.Lists.{kept, member}
+use Rattle.laws.specs.Lists.{filtered, member}
 
 -- with t, where the test holds
 abbrev pub marked : ℕ → ℕ → Bool → ℕ
@@ -24,9 +24,9 @@ bitSet (t ∷ ts) = marked (bitSet ts) t true
 
 -- the set of what f gives of those that pass the test, with one before them
 pub bit-set-with : {A : Type 0} (f : A → ℕ) (test : A → Bool) (v : A) (vs : List A)
-    → bitSet (map f (kept test (v ∷ vs))) ≡ marked (bitSet (map f (kept test vs))) (f v) (test v)
+    → bitSet (map f (filtered test (v ∷ vs))) ≡ marked (bitSet (map f (filtered test vs))) (f v) (test v)
 unfolding bitSet
-bit-set-with f test v vs = split (test v) (λ y. rw (y, kept)) (λ y. rw (y, kept))
+bit-set-with f test v vs = split (test v) (λ y. rw (y, filtered)) (λ y. rw (y, filtered))
 
 -- what the number means
 pub bit-set-bit : (ts : List ℕ) (t : ℕ) → hasBit (bitSet ts) t ≡ member t ts

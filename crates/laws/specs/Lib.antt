@@ -10,3 +10,4 @@ pub mod ListWrites
 pub mod Sorting
 pub mod Without
 pub mod Tests
+pub mod Tables

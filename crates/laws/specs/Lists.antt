@@ -27,9 +27,9 @@ pub all-members {ℓ κ} : {A : Type ℓ} (P : A → Type κ) (xs : List A) → 
 all-members P [] h = tt
 all-members P (x ∷ xs) h = (h x (List·Memᴰ·head refl), all-members P xs (λ y m. h y (List·Memᴰ·tail m)))
 
-abbrev pub kept : {A : Type 0} → (A → Bool) → List A → List A
-kept f [] = []
-kept f (x ∷ xs) = elim (f x) [ true ↦ x ∷ kept f xs | false ↦ kept f xs ]
+abbrev pub filtered : {A : Type 0} → (A → Bool) → List A → List A
+filtered f [] = []
+filtered f (x ∷ xs) = elim (f x) [ true ↦ x ∷ filtered f xs | false ↦ filtered f xs ]
 
 abbrev pub member : ℕ → List ℕ → Bool
 member x [] = false

@@ -1,4 +1,4 @@
--- Membership in a list: in what is kept of it, in its image, in lists joined; and tests that ask for a member.
+-- Membership in a list: in what passes a test of it, in its image, in lists joined; and tests that ask for a member.
 use mathlib.Core.Path.{_≡_, refl, sym, ap, ap₂, _∙_}
 use mathlib.Core.Bool.{Bool, true, false, true≢false}
 use mathlib.Core.Logic.{⊎-elim}
@@ -12,7 +12,7 @@ use borrow.Author.Tests.{eqb-true, eqb-false}
 use lib.ListN.{length, getD, drop, drop-of-length-le}
 use lib.Seq.{drop-cons}
 use Rattle.laws.specs.Cases.{split}
-use Rattle.laws.specs.Lists.{kept, member, someOf, joinAll}
+use Rattle.laws.specs.Lists.{filtered, member, someOf, joinAll}
 
 pub member-mem : (x : ℕ) (l : List ℕ) → member x l ≡ true → List·Memᴰ x l
 member-mem x [] e = absurd (true≢false (sym e))
@@ -64,28 +64,28 @@ module _ {A B : Type 0} (f : A → B) where
   getD-map-in (x ∷ l) (suc n) d e h = getD-map-in l n d e (omega arith)
 
 module _ {A : Type 0} (f : A → Bool) where
-  pub in-kept : (l : List A) (x : A) → List·Memᴰ x (kept f l) → List·Memᴰ x l × (f x ≡ true)
-  in-kept [] x m = absurd (List·Memᴰ·not-nil m)
-  in-kept (a ∷ l) x m =
+  pub in-filtered : (l : List A) (x : A) → List·Memᴰ x (filtered f l) → List·Memᴰ x l × (f x ≡ true)
+  in-filtered [] x m = absurd (List·Memᴰ·not-nil m)
+  in-filtered (a ∷ l) x m =
       split (f a)
       (λ t. ⊎-elim
       (λ i. (List·Memᴰ·head i, ap f i ∙ t))
-      (λ k. let r = in-kept l x k in (List·Memᴰ·tail (r .0), r .1))
-      (List·Memᴰ·cases-cons (rw (t, kept) at m)))
-      (λ t. let r = in-kept l x (rw (t, kept) at m) in (List·Memᴰ·tail (r .0), r .1))
+      (λ k. let r = in-filtered l x k in (List·Memᴰ·tail (r .0), r .1))
+      (List·Memᴰ·cases-cons (rw (t, filtered) at m)))
+      (λ t. let r = in-filtered l x (rw (t, filtered) at m) in (List·Memᴰ·tail (r .0), r .1))
 
-  pub kept-in : (l : List A) (x : A) → List·Memᴰ x l → f x ≡ true → List·Memᴰ x (kept f l)
-  kept-in [] x m e = absurd (List·Memᴰ·not-nil m)
-  kept-in (a ∷ l) x m e =
+  pub filtered-in : (l : List A) (x : A) → List·Memᴰ x l → f x ≡ true → List·Memᴰ x (filtered f l)
+  filtered-in [] x m e = absurd (List·Memᴰ·not-nil m)
+  filtered-in (a ∷ l) x m e =
       split (f a)
-      (λ t. rw (t, kept) (⊎-elim (λ i. List·Memᴰ·head i) (λ k. List·Memᴰ·tail (kept-in l x k e)) (List·Memᴰ·cases-cons m)))
-      (λ t. rw (t, kept) (⊎-elim (λ i. absurd (true≢false (sym e ∙ ap f i ∙ t))) (λ k. kept-in l x k e) (List·Memᴰ·cases-cons m)))
+      (λ t. rw (t, filtered) (⊎-elim (λ i. List·Memᴰ·head i) (λ k. List·Memᴰ·tail (filtered-in l x k e)) (List·Memᴰ·cases-cons m)))
+      (λ t. rw (t, filtered) (⊎-elim (λ i. absurd (true≢false (sym e ∙ ap f i ∙ t))) (λ k. filtered-in l x k e) (List·Memᴰ·cases-cons m)))
 
-  pub kept-length : (l : List A) → length (kept f l) ≤ length l
-  kept-length [] = zero-le
-  kept-length (x ∷ l) =
-      let h = kept-length l in
-      split (f x) (λ t. rw (t, kept) (omega arith)) (λ t. rw (t, kept) (omega arith))
+  pub filtered-length : (l : List A) → length (filtered f l) ≤ length l
+  filtered-length [] = zero-le
+  filtered-length (x ∷ l) =
+      let h = filtered-length l in
+      split (f x) (λ t. rw (t, filtered) (omega arith)) (λ t. rw (t, filtered) (omega arith))
 
   pub some-of : (l : List A) → someOf f l ≡ true → (x : A) × List·Memᴰ x l × (f x ≡ true)
   some-of [] e = absurd (true≢false (sym e))
@@ -137,26 +137,26 @@ module _ {A : Type 0} (f : A → Bool) (l : List A) (z : A) (i : ℕ) where
 
 -- a weaker test keeps more
 module _ {A : Type 0} (f h : A → Bool) (weaker : (x : A) → f x ≡ true → h x ≡ true) where
-  pub kept-le : (l : List A) → length (kept f l) ≤ length (kept h l)
-  kept-le [] = zero-le
-  kept-le (a ∷ l) =
-      let r = kept-le l in
+  pub filtered-le : (l : List A) → length (filtered f l) ≤ length (filtered h l)
+  filtered-le [] = zero-le
+  filtered-le (a ∷ l) =
+      let r = filtered-le l in
       split (f a)
-      (λ t. rw (t, weaker a t, kept) (omega arith))
-      (λ t. split (h a) (λ u. rw (t, u, kept) (omega arith)) (λ u. rw (t, u, kept) (omega arith)))
+      (λ t. rw (t, weaker a t, filtered) (omega arith))
+      (λ t. split (h a) (λ u. rw (t, u, filtered) (omega arith)) (λ u. rw (t, u, filtered) (omega arith)))
 
-  pub kept-less : (l : List A) (x : A) → List·Memᴰ x l → f x ≡ false → h x ≡ true → length (kept f l) < length (kept h l)
-  kept-less [] x m n y = absurd (List·Memᴰ·not-nil m)
-  kept-less (a ∷ l) x m n y =
-      let r = kept-le l in
+  pub filtered-less : (l : List A) (x : A) → List·Memᴰ x l → f x ≡ false → h x ≡ true → length (filtered f l) < length (filtered h l)
+  filtered-less [] x m n y = absurd (List·Memᴰ·not-nil m)
+  filtered-less (a ∷ l) x m n y =
+      let r = filtered-le l in
       ⊎-elim
       (λ i.
       let no : f a ≡ false = ap f (sym i) ∙ n in
       let yes : h a ≡ true = ap h (sym i) ∙ y in
-      rw (no, yes, kept) (omega arith))
+      rw (no, yes, filtered) (omega arith))
       (λ k.
-      let s = kept-less l x k n y in
+      let s = filtered-less l x k n y in
       split (f a)
-      (λ t. rw (t, weaker a t, kept) (omega arith))
-      (λ t. split (h a) (λ u. rw (t, u, kept) (omega arith)) (λ u. rw (t, u, kept) (omega arith))))
+      (λ t. rw (t, weaker a t, filtered) (omega arith))
+      (λ t. split (h a) (λ u. rw (t, u, filtered) (omega arith)) (λ u. rw (t, u, filtered) (omega arith))))
       (List·Memᴰ·cases-cons m)

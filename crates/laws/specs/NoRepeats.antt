@@ -8,8 +8,8 @@ use Prim.Native.Nat.{suc, zero-le, _≤_}
 use native.Mathlib.Omega.{arith}
 use lib.ListN.{length}
 use Rattle.laws.specs.Cases.{split}
-use Rattle.laws.specs.Lists.{kept}
-use Rattle.laws.specs.Members.{in-map, map-in, in-kept}
+use Rattle.laws.specs.Lists.{filtered}
+use Rattle.laws.specs.Members.{in-map, map-in, in-filtered}
 use Rattle.laws.specs.Sorting.{inserted, insertedAll, sorted, insert-from}
 
 -- no entry is among those after it
@@ -27,12 +27,12 @@ module _ {A : Type 0} where
     no-repeats-append xs ys (a .1) b (λ z m n. apart z (List·Memᴰ·tail m) n),
   )
 
-  pub no-repeats-kept : (f : A → Bool) (l : List A) → NoRepeats l → NoRepeats (kept f l)
-  no-repeats-kept f [] a = tt
-  no-repeats-kept f (x ∷ l) a =
+  pub no-repeats-filtered : (f : A → Bool) (l : List A) → NoRepeats l → NoRepeats (filtered f l)
+  no-repeats-filtered f [] a = tt
+  no-repeats-filtered f (x ∷ l) a =
       split (f x)
-      (λ t. rw (t, kept) ((λ m. a .0 (in-kept f l x m .0)), no-repeats-kept f l (a .1)))
-      (λ t. rw (t, kept) (no-repeats-kept f l (a .1)))
+      (λ t. rw (t, filtered) ((λ m. a .0 (in-filtered f l x m .0)), no-repeats-filtered f l (a .1)))
+      (λ t. rw (t, filtered) (no-repeats-filtered f l (a .1)))
 
 module _ {A B : Type 0} (f : A → B) where
   pub no-repeats-map : (l : List A) → ((x y : A) → List·Memᴰ x l → List·Memᴰ y l → f x ≡ f y → x ≡ y) → NoRepeats l → NoRepeats (map f l)

@@ -1,7 +1,8 @@
--- Tests of numbers.
-use mathlib.Core.Path.{_≡_, sym, _∙_}
+-- Tests and measures of numbers.
+use mathlib.Core.Path.{_≡_, sym, ap, _∙_}
 use mathlib.Core.Bool.{_||_}
-use Prim.Native.Nat.{ℕ, suc, _+_, max}
+use Prim.Native.Nat.{ℕ, suc, _+_, _*_, _≤_, _<_, max}
+use native.Mathlib.Nat.{suc-mul}
 use native.Mathlib.Omega.{arith}
 use lib.Dec.{ltb}
 use borrow.Author.Tests.{ltb-true, ltb-false, lt-ltb, le-ltb}
@@ -20,3 +21,7 @@ ltb-suc k a =
     split (ltb k a)
     (λ t. let h = ltb-true k a t in t ∙ sym (lt-ltb (suc k) (a + 1) (omega arith)))
     (λ t. let h = ltb-false k a t in t ∙ sym (le-ltb (suc k) (a + 1) (omega arith)))
+
+-- the measure of a loop in a loop: one turn less of the outer one is less, whatever is left of the inner one
+pub measure-falls : (a b n x y : ℕ) → a ≡ suc b → x ≤ n → b * suc n + x < a * suc n + y
+measure-falls a b n x y e h = let m = ap (_* suc n) e ∙ suc-mul b (suc n) in omega arith

@@ -9,8 +9,7 @@ use borrow.Author.Count.{below-more}
 use lib.ListN.{length, getD, set, drop, length-set, length-drop, drop-of-length-le}
 use lib.Seq.{getD-set-same, getD-set-other, getD-take, getD-drop, drop-set-lt, drop-cons, length-take-le}
 use Rattle.laws.specs.Firsts.{placeIn, firsts}
-use Rattle.graph.specs.Counting.{table}
-use Rattle.graph.specs.TableLaws.{table-length}
+use Rattle.laws.specs.Tables.{table, table-length}
 use Rattle.block_record.specs.Record.{blocksIn}
 use Rattle.dictionary.specs.declared.KeyNumber.{KeyNumber}
 use Rattle.dictionary.specs.KeyNumbered.{KeyNumbered}

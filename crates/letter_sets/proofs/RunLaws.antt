@@ -2,16 +2,15 @@
 use mathlib.Core.Path.{_≡_, ap, _∙_}
 use mathlib.Core.Bool.{true, false, and-false}
 use mathlib.Core.Logic.{_≢_}
-use mathlib.Core.List.{List, [], _∷_, map}
+use mathlib.Core.List.{List, [], map}
 use Prim.Native.Nat.{ℕ, _+_, _*_, _%_, _^_, _≤_, _<_}
 use native.Mathlib.Omega.{arith}
 use borrow.Author.Tests.{eq-eqb, ne-eqb}
 use lib.Bits.{bitOr, or-zero-r}
 use lib.ListN.{length, getD, drop-of-length-le}
 use Rattle.laws.specs.BitSets.{marked, bitSet, bit-set-with, marked-either, marked-shift}
-use Rattle.laws.specs.Cases.{split}
-use Rattle.laws.specs.Lists.{kept}
-use Rattle.laws.specs.Members.{map-same, in-kept}
+use Rattle.laws.specs.Lists.{filtered}
+use Rattle.laws.specs.Members.{map-same, in-filtered}
 use Rattle.node.specs.Nodes.{KBWG, tile, accepts, isEnd}
 use Rattle.graph.specs.Runs.{Graph, node, run}
 use Rattle.graph.specs.RunLaws.{in-graph}
@@ -43,7 +42,7 @@ module _ (ranks : List ℕ) where
   rank v = getD ranks (tile KBWG v) 0
 
   abbrev lettersOf : Graph → ℕ
-  lettersOf vs = bitSet (map rank (kept endsInLetter vs))
+  lettersOf vs = bitSet (map rank (filtered endsInLetter vs))
 
   -- s, joined with the set of the nodes left
   module _ (g : Graph) (p s : ℕ) where
@@ -73,8 +72,8 @@ module _ (labels ranks : List ℕ) (g : Graph) (labelled : unlabelled g labels �
   set-at : (p : ℕ) → setBy ranks g p ≡ setOf g labels p
   unfolding setBy setOf
   set-at p =
-      ap bitSet (map-same (rank ranks) (letterAt labels) (kept endsInLetter (runOf g p)) (λ v m.
-      let i = in-graph KBWG g p v (in-kept endsInLetter (runOf g p) v m .0) in
+      ap bitSet (map-same (rank ranks) (letterAt labels) (filtered endsInLetter (runOf g p)) (λ v m.
+      let i = in-graph KBWG g p v (in-filtered endsInLetter (runOf g p) v m .0) in
       ranked (tile KBWG v) (labelled-in g labels labelled v i)))
 
   pub set-by : setBy ranks g ≡ setOf g labels

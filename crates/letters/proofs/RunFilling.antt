@@ -10,14 +10,13 @@ use lib.Dec.{ltb}
 use lib.ListN.{length, drop, set, drop-of-length-le}
 use lib.Seq.{drop-cons, sets, length-sets, set-comm}
 use Rattle.laws.specs.Cases.{split}
-use Rattle.laws.specs.Lists.{kept}
+use Rattle.laws.specs.Lists.{filtered}
 use Rattle.laws.specs.ListWrites.{sets-front}
 use Rattle.answers.specs.Answers.{Answer, refused, firstOf}
 use Rattle.answers.specs.RowLaws.{row-refuses, row-passes, row-ends}
 use Rattle.node.specs.Nodes.{KBWG, tile, isEnd}
 use Rattle.graph.specs.Runs.{Graph, node, run}
-use Rattle.graph.specs.Counting.{table}
-use Rattle.graph.specs.TableLaws.{table-length}
+use Rattle.laws.specs.Tables.{table, table-length}
 use Rattle.laws.specs.BitSets.{marked, bitSet, bit-set-with}
 use Rattle.letters.specs.LetterBits.{tilesOf, perNode, bitsWritten, bitsRow, lettered, letterBits, carry}
 
@@ -48,7 +47,7 @@ abbrev runAfter : ℕ → Graph → Graph
 runAfter v vs = elim (isEnd KBWG v) [ true ↦ [] | false ↦ run KBWG vs ]
 
 module _ (test : ℕ → Bool) where
-  tiles-after : (v : ℕ) (vs : Graph) → bitSet (map (tile KBWG) (kept test (runAfter v vs))) ≡ carry (tilesOf test vs) v
+  tiles-after : (v : ℕ) (vs : Graph) → bitSet (map (tile KBWG) (filtered test (runAfter v vs))) ≡ carry (tilesOf test vs) v
   unfolding tilesOf bitSet
   tiles-after v vs = split (isEnd KBWG v) (λ e. rw (e, runAfter, carry)) (λ e. rw (e, runAfter, carry))
 

@@ -5,17 +5,17 @@ use mathlib.Core.Option.{Option, none, some}
 use Prim.Native.Nat.{ℕ}
 use lib.Dec.{ltb}
 use lib.ListN.{length, drop}
-use Rattle.laws.specs.Lists.{kept}
+use Rattle.laws.specs.Lists.{filtered}
 use Rattle.answers.specs.Answers.{Answer, gives, refusing, Row, firstOf}
 use Rattle.node.specs.Nodes.{tile, accepts, KBWG, isEnd}
 use Rattle.graph.specs.Runs.{Graph, run}
-use Rattle.graph.specs.Counting.{table}
+use Rattle.laws.specs.Tables.{table}
 use Rattle.laws.specs.BitSets.{bitSet}
 
 -- "from it to its run's end, or to the last lent node where no end comes": the tiles of the nodes that pass a test, in the run that
 -- begins at the head of the nodes left
 unfoldable pub tilesOf : (ℕ → Bool) → Graph → ℕ
-tilesOf test vs = bitSet (map (tile KBWG) (kept test (run KBWG vs)))
+tilesOf test vs = bitSet (map (tile KBWG) (filtered test (run KBWG vs)))
 
 -- "per node"
 abbrev pub perNode : (ℕ → Bool) → Graph → List ℕ

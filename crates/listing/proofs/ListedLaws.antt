@@ -19,7 +19,7 @@ use Rattle.graph.specs.Counting.{Counts}
 use Rattle.lookup.specs.Steps.{lentPart}
 use Rattle.lookup.specs.Walks.{wordByIndex}
 use Rattle.lookup.specs.WalkedLaws.{by-index-cut}
-use Rattle.numbers.specs.WordNumbers.{Lent}
+use Rattle.numbers.specs.WordNumbers.{GraphLent}
 use Rattle.numbers.specs.LentLaws.{walkable, lent-parts}
 use Rattle.numbers.specs.ByNumber.{named}
 use Rattle.numbers.specs.Walkable.{Walkable}
@@ -33,7 +33,7 @@ pub record LineNames (x : Word × Answer) (w : Word) : Type 0 where
   pub short : length w ≤ mostTiles → x ≡ (w, gives (length w ∷ []))
   pub long : mostTiles < length w → x .1 ≡ refused 16 []
 
-module _ (limit : ℕ) (g : Graph) (c : Counts limit g) (nodes counted : List ℕ) (is : Lent g nodes counted) where
+module _ (limit : ℕ) (g : Graph) (c : Counts limit g) (nodes counted : List ℕ) (is : GraphLent g nodes counted) where
   walk : Walkable g (lentPart nodes) (lentPart counted)
   walk =
       walkable g (fit g (c .fit)) (lentPart nodes) (lentPart counted) (lent-parts g (fit g (c .fit)) nodes counted is) (c .loopless)
@@ -72,7 +72,7 @@ lines-listed walk (w ∷ ws) i f =
     (λ t. rw (t, listed) (line-short walk i w more (first .short (omega (arith, ltb-false _ (length w) t))) ∙ ap (line i w ++_) rest))
 
 -- the words from the start: none where its arc is 0
-pub start-listed : (limit : ℕ) (g : Graph) → Counts limit g → (nodes counted : List ℕ) → Lent g nodes counted
+pub start-listed : (limit : ℕ) (g : Graph) → Counts limit g → (nodes counted : List ℕ) → GraphLent g nodes counted
     → linesOf (wordByIndex counted nodes mostTiles (startNode g 0)) 0 (length (startWords g)) ≡ listed 0 (startWords g)
 unfolding startWords
 start-listed limit g c nodes counted is =

@@ -10,6 +10,7 @@ use lib.ListN.{length, getD, take, length-take}
 use lib.Seq.{getD-take, take-all}
 use Rattle.laws.specs.Cases.{split}
 use Rattle.answers.specs.Answers.{Answer, gives, nothing, refused}
+use Rattle.answers.specs.RowLaws.{gives≢refused}
 use Rattle.node.specs.Nodes.{KBWG}
 use Rattle.node.specs.declared.Layout.the-variants.{Kwg}
 use Rattle.graph.specs.Runs.{Graph, startNode}
@@ -24,7 +25,7 @@ use Rattle.load.specs.declared.loader.Finished.{Finished}
 use Rattle.load.specs.declared.loader.Begun.{Begun}
 use Rattle.load.specs.declared.loader.Fed.{Fed}
 use Rattle.pieces.specs.Pieces.{LoadOutcome, feedAll, fedPieces, loadPieces, oneFeed}
-use Rattle.graph.specs.TableLaws.{table-length, table-at}
+use Rattle.laws.specs.Tables.{table-length, table-at}
 use Rattle.numbers.specs.WordNumbersLaws.{counted-lent}
 use Rattle.listing.specs.Wordlist.{startWords, mostBytes, loadInput, lastAnswer, loadAnswer, RefusesBy, CountWork, LongEnough, ReadInto, longer, unloaded, uncounted, counted, refuses, lists}
 use Rattle.listing.specs.Said.{saidLoad, LoadsAs, atStart, saidCount, CountsAs, Opening, OpensRead}
@@ -72,7 +73,7 @@ module _ {l : LoadOutcome} {begun : BeginAnswer} {finished : Finished} {nodes : 
 last-gives : (a b : Answer) {n : ℕ} → lastAnswer a b ≡ gives (n ∷ []) → b ≡ gives (n ∷ [])
 last-gives (gives vs) b e = e
 last-gives nothing b e = e
-last-gives (refused k vs) b e = let z : _≡_ {A = ℕ} 0 1 = cc in absurd (omega arith)
+last-gives (refused k vs) b e = gives≢refused (sym e)
 
 pub loaded-within : (input lentNodes : List ℕ) {n : ℕ} → loadAnswer (loadInput input lentNodes) ≡ gives (n ∷ [])
     → n ≤ length (loadInput input lentNodes .nodes)

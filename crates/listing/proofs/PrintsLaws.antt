@@ -12,7 +12,7 @@ use Rattle.laws.specs.Lists.{joinAll}
 use Rattle.answers.specs.Answers.{Answer, gives, nothing, refused}
 use Rattle.graph.specs.Runs.{Graph}
 use Rattle.graph.specs.Counting.{IsCounted, unfit, loop, many, all, Counts, countLimit}
-use Rattle.numbers.specs.WordNumbers.{Lent}
+use Rattle.numbers.specs.WordNumbers.{GraphLent}
 use Rattle.numbers.specs.WordNumbersLaws.{counted-lent, lent-left}
 use Rattle.listing.specs.Lines.{refusalLine}
 use Rattle.listing.specs.Wordlist.{startWords, loadInput, loadAnswer, RefusesBy, Ends, refuses, lists}
@@ -30,7 +30,7 @@ use Rattle.listing.proofs.OpeningLaws.{loaded-within}
 -- ---- the blocks, joined
 -- a graph that loads and counts stands in the lists that are left
 lists-left : {input lentNodes lentCounts lentWork nodes counts work : List ℕ} {g : Graph}
-    → Opens input lentNodes lentCounts lentWork (lists g) nodes counts work → Counts countLimit g × Lent g nodes counts
+    → Opens input lentNodes lentCounts lentWork (lists g) nodes counts work → Counts countLimit g × GraphLent g nodes counts
 lists-left {input} {lentNodes} {lentCounts} {lentWork} {counts = after} (counted {size} h a c w) =
     let nodes = loadInput input lentNodes .nodes in (
       counted-lent countLimit (take size nodes) lentCounts after (length lentWork) c .0,

@@ -1,8 +1,8 @@
 -- The buffer of `get_word_by_index`, tile by tile.
 use mathlib.Core.Path.{_≡_, refl, sym, ap, ap₂, _∙_}
 use mathlib.Core.List.{List, [], _∷_, _++_, append-nil, append-assoc}
-use Prim.Native.Nat.{ℕ, suc, _+_, _-_, _*_, _≤_, _<_}
-use native.Mathlib.Nat.{suc-mul, sub-zero}
+use Prim.Native.Nat.{ℕ, suc, _+_, _-_, _≤_, _<_}
+use native.Mathlib.Nat.{sub-zero}
 use native.Mathlib.Numerals.{add-one}
 use native.Mathlib.Omega.{arith}
 use lib.ListN.{length, drop, take, set, length-set, take-append-drop}
@@ -79,7 +79,3 @@ module _ {whole : List ℕ × Answer} {w₀ : List ℕ} {n : ℕ} {w : List ℕ}
   pub by-next : (q k : ℕ) → turnIn counts (drop p g) p idx ≡ turnIn counts (drop q g) q k
       → Left whole w₀ n w (wordFrom counts g (length w - n) n q k)
   by-next q k e = left-is (word-next counts g (length w - n) n p idx q k e) l
-
--- a tile put, whatever the place, is a step down
-pub fall : (a b size x y : ℕ) → a ≡ suc b → x ≤ size → b * suc size + x < a * suc size + y
-fall a b size x y e h = let m = ap (_* suc size) e ∙ suc-mul b (suc size) in omega arith

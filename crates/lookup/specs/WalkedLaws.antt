@@ -1,5 +1,5 @@
 -- The walk by number, whatever it is lent: it answers how many tiles it put, each is below 64, and a shorter buffer cuts it by 16.
-use mathlib.Core.Path.{_≡_, refl}
+use mathlib.Core.Path.{_≡_, refl, sym}
 use mathlib.Core.Bool.{_&&_}
 use mathlib.Core.List.{List, [], _∷_}
 use Prim.Native.Nat.{ℕ, zero, suc, zero-le, _+_, _-_, _≤_, _<_}
@@ -9,6 +9,7 @@ use lib.ListN.{length, drop}
 use Rattle.laws.specs.Cases.{split}
 use Rattle.laws.specs.Lists.{All}
 use Rattle.answers.specs.Answers.{Answer, gives, nothing, refused}
+use Rattle.answers.specs.RowLaws.{gives≢refused}
 use Rattle.node.specs.Nodes.{KBWG, arc, accepts, isEnd}
 use Rattle.graph.specs.Runs.{Graph}
 use Rattle.graph.specs.Words.{Word}
@@ -74,7 +75,7 @@ stopped : (room n : ℕ) (r : Answer) → NoValue {A = Turn} (stop r) → WalkLe
 unfolding NoValue
 stopped room n (gives vs) h = absurd h
 stopped room n nothing h = record { fits = zero-le; tiles = tt; given = λ m e. let z : _≡_ {A = ℕ} 0 1 = cc in absurd (omega arith) }
-stopped room n (refused k vs) h = record { fits = zero-le; tiles = tt; given = λ m e. let z : _≡_ {A = ℕ} 0 1 = cc in absurd (omega arith) }
+stopped room n (refused k vs) h = record { fits = zero-le; tiles = tt; given = λ m e. gives≢refused (sym e) }
 
 module _ (counts : List ℕ) (g : Graph) where
   full : (n p idx : ℕ) (t : Try Turn) → turnIn counts (drop p g) p idx ≡ t → NoValue t → WalkLeaves 0 n (wordFrom counts g 0 n p idx)

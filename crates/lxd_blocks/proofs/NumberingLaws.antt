@@ -9,7 +9,7 @@ use lib.Dec.{eqb, ltb}
 use lib.ListN.{length, getD, set}
 use borrow.Author.Tests.{eqb-true, eqb-false, eq-eqb, ne-eqb, ltb-false}
 use Rattle.laws.specs.Cases.{split, and-left, and-right}
-use Rattle.laws.specs.Lists.{kept, member}
+use Rattle.laws.specs.Lists.{filtered, member}
 use Rattle.node.specs.Nodes.{KBWG, arc, isEnd}
 use Rattle.graph.specs.Runs.{Graph, node}
 use Rattle.export.specs.Starts.{runOf, hasArc, arcsFrom, deeper}
@@ -44,7 +44,7 @@ module _ (children : ℕ → List ℕ) (c : ℕ) (o : List ℕ) (p : ℕ) where
 module _ (g : Graph) where
   -- the runs met from the arcs of nodes, with so many runs left in the chain
   abbrev pub walk : ℕ → List ℕ → List ℕ → List ℕ
-  walk left seen vs = each (met (arcsFrom g) left) seen (map (arc KBWG) (kept hasArc vs))
+  walk left seen vs = each (met (arcsFrom g) left) seen (map (arc KBWG) (filtered hasArc vs))
 
   -- ---- an arc
   module _ {w : List ℕ} {t : BlockTally} (r : RunsRecorded g w t) (left : ℕ) where
@@ -121,8 +121,8 @@ module _ (g : Graph) where
       → walk left o (v ∷ vs) ≡ walk left (metBy (arcsFrom g) left o (arc KBWG v)) vs
   walk-node left o v vs =
       split (eqb (arc KBWG v) 0)
-      (λ e. rw (e, kept) (ap (λ x. walk left x vs) (sym (met-by-none (arcsFrom g) left o (arc KBWG v) (eqb-true _ _ e)))))
-      (λ e. rw (e, kept) (ap (λ x. walk left x vs) (sym (met-by-arc (arcsFrom g) left o (arc KBWG v) (eqb-false _ _ e)))))
+      (λ e. rw (e, filtered) (ap (λ x. walk left x vs) (sym (met-by-none (arcsFrom g) left o (arc KBWG v) (eqb-true _ _ e)))))
+      (λ e. rw (e, filtered) (ap (λ x. walk left x vs) (sym (met-by-arc (arcsFrom g) left o (arc KBWG v) (eqb-false _ _ e)))))
 
   -- the runs met before node `at` of the run from p are held, and what is left gives what is met from all its nodes after those of o;
   -- w₀ is the work list as p was numbered
@@ -175,7 +175,7 @@ module _ (g : Graph) where
     along-over h =
         let r = run-first g at (k .inside) in
         let e = ap (walk left seen) (r .1) ∙ walk-node left seen v (r .0) in
-        let m = all-total (runSize g) (arcsFrom g) left next (map (arc KBWG) (kept hasArc (r .0))) in
+        let m = all-total (runSize g) (arcsFrom g) left next (map (arc KBWG) (filtered hasArc (r .0))) in
         subst (λ x. 2 ^ 22 < 2 + total (runSize g) x) (sym e ∙ k .rest) (omega arith)
 
     -- ---- past it
@@ -202,7 +202,7 @@ module _ (g : Graph) where
             ends = within;
           })
 
-      -- the last node passed, and what is found kept
+      -- the last node passed, and what is found is kept
       module _ (e : isEnd KBWG v ≡ true) (was : List ℕ) (b : NoneBut g p was w₀) (l : p < length g) (room : 4 * length g ≤ length w′) where
         abbrev whole : Walked
         whole = runClosed (nodePassed v f child)

@@ -3,8 +3,7 @@ use mathlib.Core.Path.{_≡_, refl, sym, ap, _∙_, subst}
 use mathlib.Core.Logic.{_≢_}
 use mathlib.Core.Bool.{Bool, true, false}
 use mathlib.Core.List.{List, [], _∷_, _++_, map, append-assoc, map-append, List·Memᴰ, Memᴰ·cast}
-use Prim.Native.Nat.{ℕ, suc, _+_, _*_, _≤_, _<_}
-use native.Mathlib.Nat.{suc-mul}
+use Prim.Native.Nat.{ℕ, suc, _+_, _≤_, _<_}
 use native.Mathlib.Omega.{arith}
 use native.Mathlib.Numerals.{add-one}
 use lib.ListN.{length, getD, drop, length-append, length-drop, drop-of-length-le}
@@ -152,7 +151,3 @@ module _ (g : Graph) (labels w : List ℕ) where
               rest = λ m. subst (λ y. Putting (from 0) file₀ 72 y file′ (at + 4)) (run-left (i + 1) q z m) r;
               done = λ m. put-done r (run-none (i + 1) m);
             }
-
--- the measure of the loop: the runs left, then the nodes left in a run
-pub falls : (a b n x y : ℕ) → a ≡ suc b → x ≤ n → b * suc n + x < a * suc n + y
-falls a b n x y e h = let m = ap (_* suc n) e ∙ suc-mul b (suc n) in omega arith

@@ -9,7 +9,7 @@ use lib.Dec.{eqb}
 use lib.ListN.{length, length-append}
 use borrow.Author.Tests.{ltb-false}
 use Rattle.laws.specs.Cases.{split}
-use Rattle.laws.specs.Lists.{kept}
+use Rattle.laws.specs.Lists.{filtered}
 use Rattle.base.specs.Numbers.{flag, most}
 use Rattle.node.specs.Nodes.{KBWG, arc, accepts}
 use Rattle.graph.specs.Runs.{Graph}
@@ -30,7 +30,7 @@ module _ (g : Graph) where
   -- ---- along the nodes of a run
   -- with the nodes vs of p's run left to pass, the longest chain and the words found so far give those from p
   pub record Passing (p runs words : ℕ) (vs : List ℕ) : Type 0 where
-    pub deepest : Deepest g p runs (map (arc KBWG) (kept hasArc vs))
+    pub deepest : Deepest g p runs (map (arc KBWG) (filtered hasArc vs))
     pub words-are : (k : ℕ) → runs ≤ k
         → min (words + length (inOrder (spelled KBWG (λ q. wordsWithin KBWG k g q)) vs)) most ≡ min (length (wordsWithin KBWG (suc k) g p)) most
     pub fits : words ≤ most
@@ -39,20 +39,20 @@ module _ (g : Graph) where
   unfolding wordsWithin
   passing-starts p =
       record {
-        deepest = deepest-none g p (map (arc KBWG) (kept hasArc (runOf g p))) (λ q m. m) (λ q m. m);
+        deepest = deepest-none g p (map (arc KBWG) (filtered hasArc (runOf g p))) (λ q m. m) (λ q m. m);
         words-are = λ k h. omega arith;
         fits = omega arith;
       }
 
   module _ {p runs words v : ℕ} {vs : List ℕ} {d y : ℕ} (a : Passing p runs words (v ∷ vs)) (c : RunCounted g (hasArc v) (arc KBWG v) d y) where
-    deepest-node : Deepest g p (max runs d) (map (arc KBWG) (kept hasArc vs))
+    deepest-node : Deepest g p (max runs d) (map (arc KBWG) (filtered hasArc vs))
     deepest-node =
         split (eqb (arc KBWG v) 0)
         (λ z.
         let n = ltb-false 0 d (sym (rw z at (c .depth 0))) in
         let e : max runs d ≡ runs = omega arith in
-        rw e (rw (z, kept) at (a .deepest)))
-        (λ z. deepest-next g p runs d (arc KBWG v) (map (arc KBWG) (kept hasArc vs)) (rw z at (c .depth)) (rw (z, kept) at (a .deepest)))
+        rw e (rw (z, filtered) at (a .deepest)))
+        (λ z. deepest-next g p runs d (arc KBWG v) (map (arc KBWG) (filtered hasArc vs)) (rw z at (c .depth)) (rw (z, filtered) at (a .deepest)))
 
     words-node : (k : ℕ) → max runs d ≤ k
         → min (min (words + min (flag (accepts KBWG v) + y) most) most + length (inOrder (spelled KBWG (λ q. wordsWithin KBWG k g q)) vs)) most

@@ -1,16 +1,12 @@
 -- What an LXD file spells, from document 01: "The words read, as a list, are those from s, in order, each tile renamed to its label."
 use mathlib.Core.Path.{_≡_}
 use mathlib.Core.List.{List, map}
-use mathlib.Core.Option.{none}
 use Prim.Native.Nat.{ℕ}
 use lib.ListN.{length, getD}
-use Rattle.answers.specs.Answers.{firstOf}
 use Rattle.node.specs.Nodes.{KBWG}
 use Rattle.graph.specs.Runs.{Graph, startNode}
 use Rattle.graph.specs.Words.{Word, words}
-use Rattle.lxd_file.specs.File.{lxdFile}
 use Rattle.lxd_file.specs.Reading.{nodesRead, lxdWords, nodeCount, wordCount}
-use Rattle.lxd_file.specs.Row.{lxdRow}
 
 -- "each tile renamed to its label"; the label's byte is its code point
 abbrev pub renamedToLabels : List ℕ → Word → Word
@@ -25,9 +21,3 @@ pub record SpellsLxd (file : List ℕ) (ws : List Word) : Type 0 where
   pub read : lxdWords file ≡ ws
   pub nodes-counted : nodeCount file ≡ length (nodesRead file)
   pub words-counted : wordCount file ≡ length ws
-
--- every file that the writer accepts
-abbrev pub LxdSpells : Type 0
-LxdSpells =
-    (g : Graph) (labels title date : List ℕ) (lentWork lentFile : ℕ) → firstOf (lxdRow g labels title date lentWork lentFile) ≡ none
-    → SpellsLxd (lxdFile g labels title date) (wordsSpelled g labels)

@@ -2,11 +2,13 @@
 -- file as copies, and no chain of runs is longer than the file.
 use mathlib.Core.Path.{_≡_, refl, sym, ap, _∙_}
 use mathlib.Core.List.{List, [], _∷_, _++_, map, map-append, List·Memᴰ}
+use mathlib.Core.Option.{none}
 use Prim.Native.Nat.{ℕ, suc, _+_}
 use native.Mathlib.Omega.{arith}
 use lib.ListN.{length, getD, drop, length-map}
 use Rattle.laws.specs.Lists.{drop-map}
 use Rattle.laws.specs.Members.{join-in}
+use Rattle.answers.specs.Answers.{firstOf}
 use Rattle.node.specs.Nodes.{KBWG, arc}
 use Rattle.graph.specs.Runs.{Graph, run, startNode}
 use Rattle.graph.specs.Words.{Word, inOrder, spelled, wordsWithin, words}
@@ -14,10 +16,11 @@ use Rattle.graph.specs.ChecksLaws.{start-inside}
 use Rattle.export.specs.Starts.{runOf}
 use Rattle.export.specs.BlocksLaws.{block-at}
 use Rattle.export.specs.ChainLaws.{words-within}
-use Rattle.lxd_file.specs.File.{LXD, runs, child, lxdNode, lxdNodes, reached, runSize, runPlace}
+use Rattle.lxd_file.specs.File.{LXD, runs, child, lxdNode, lxdNodes, lxdFile, reached, runSize, runPlace}
 use Rattle.lxd_file.specs.Reading.{lxdWords}
+use Rattle.lxd_file.specs.Row.{lxdRow}
 use Rattle.lxd_file.specs.RowLaws.{LxdAccepted, accepted}
-use Rattle.lxd_file.specs.Spelling.{wordsSpelled, renamedToLabels, LxdSpells}
+use Rattle.lxd_file.specs.Spelling.{wordsSpelled, renamedToLabels, SpellsLxd}
 use Rattle.lxd_file.specs.CopiedLaws.{run-copied, Copied, words-copied}
 use Rattle.lxd_file.specs.FileLaws.{file-nodes, file-node-count, file-word-count}
 use Rattle.lxd_file.specs.RunsLaws.{no-child, child-place, start-place, start-in-runs, ends-from}
@@ -83,7 +86,9 @@ module _ (g : Graph) (labels : List ℕ) (ok : LxdAccepted g labels) where
       (λ z. ap (λ l. words LXD l 2) (nodes-none g labels z) ∙ ap (map (renamedToLabels labels)) (sym (none-left (words KBWG g (startNode g 0)) z)))
       (λ n. ap (λ l. words LXD l 2) (nodes-some g labels n) ∙ copies-spell)
 
-pub lxd-spells : LxdSpells
+-- every file that the writer accepts
+pub lxd-spells : (g : Graph) (labels title date : List ℕ) (lentWork lentFile : ℕ) → firstOf (lxdRow g labels title date lentWork lentFile) ≡ none
+    → SpellsLxd (lxdFile g labels title date) (wordsSpelled g labels)
 unfolding lxdWords
 lxd-spells g labels title date lentWork lentFile e =
     let ok = accepted g labels title date lentWork lentFile e in

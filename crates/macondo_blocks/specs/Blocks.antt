@@ -5,7 +5,7 @@ use mathlib.Core.List.{List, [], _∷_, _++_}
 use Prim.Native.Nat.{ℕ, _*_, _≤_, _<_}
 use lib.ListN.{length, take}
 use lib.Seq.{slice}
-use Rattle.laws.specs.Lists.{All, kept}
+use Rattle.laws.specs.Lists.{All, filtered}
 use Rattle.laws.specs.Sorting.{inserted, insertedAll}
 use Rattle.node.specs.Nodes.{KBWG, tile}
 use Rattle.graph.specs.Runs.{Graph}
@@ -37,7 +37,7 @@ pub record Slot (labels list : List ℕ) (count v r : ℕ) : Type 0 where
 
 -- a node put among the arcs in order, if it has an arc
 abbrev pub withArc : List ℕ → List ℕ → ℕ → List ℕ
-withArc labels arcs v = insertedAll (byTile labels) arcs (kept hasArc (v ∷ []))
+withArc labels arcs v = insertedAll (byTile labels) arcs (filtered hasArc (v ∷ []))
 
 -- the work list has room for the record and the depths; it holds the blocks numbered so far, and how deep they are
 pub record BlocksRecorded (g : Graph) (labels : List ℕ) (w : List ℕ) (t : BlockTally) : Type 0 where

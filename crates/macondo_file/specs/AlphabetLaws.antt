@@ -13,10 +13,9 @@ use Rattle.laws.specs.Cases.{split}
 use Rattle.laws.specs.Firsts.{placeIn, place-le, place-lt, place-at}
 use Rattle.laws.specs.Members.{getD-map-in}
 use Rattle.laws.specs.Sorting.{insertedAll, in-sorted, sorted-in, sorted-length}
-use Rattle.graph.specs.Counting.{table}
+use Rattle.laws.specs.Tables.{table, table-length, table-in, from-table}
 use Rattle.macondo_file.specs.Alphabet.{precedes, tilesUp, letters, letterIn, letterOf}
 use Rattle.macondo_file.specs.File.{codePoints}
-use Rattle.graph.specs.TableLaws.{table-length, table-in, from-table}
 
 -- labels that descend: tile 2 ranks first, and so does its code point
 letters-ranked : codePoints (0x3F ∷ 0x42 ∷ 0x41 ∷ []) ≡ 0x41 ∷ 0x42 ∷ []

@@ -8,9 +8,9 @@ use Prim.Native.Nat.{ℕ, zero-le, _+_, _≤_, _<_}
 use native.Mathlib.Omega.{arith}
 use lib.ListN.{length, drop}
 use Rattle.laws.specs.Cases.{split}
-use Rattle.laws.specs.Lists.{kept}
-use Rattle.laws.specs.Members.{in-map, map-in, in-kept, kept-in, kept-length}
-use Rattle.laws.specs.NoRepeats.{NoRepeats, no-repeats-kept, no-repeats-sorted, map-no-repeats, map-apart}
+use Rattle.laws.specs.Lists.{filtered}
+use Rattle.laws.specs.Members.{in-map, map-in, in-filtered, filtered-in, filtered-length}
+use Rattle.laws.specs.NoRepeats.{NoRepeats, no-repeats-filtered, no-repeats-sorted, map-no-repeats, map-apart}
 use Rattle.laws.specs.Sorting.{in-sorted, sorted-in, sorted-length}
 use Rattle.node.specs.Nodes.{KBWG, tile, arc, isEnd}
 use Rattle.graph.specs.Runs.{Graph, run, ascends}
@@ -27,11 +27,11 @@ use Rattle.macondo_file.specs.RowLaws.{MacondoReady}
 module _ (g : Graph) (labels : List ℕ) where
   pub in-arcs : (p v : ℕ) → List·Memᴰ v (arcsOf g labels p) → List·Memᴰ v (runOf g p) × (hasArc v ≡ true)
   unfolding arcsOf
-  in-arcs p v m = in-kept hasArc (runOf g p) v (in-sorted (byTile labels) (kept hasArc (runOf g p)) v m)
+  in-arcs p v m = in-filtered hasArc (runOf g p) v (in-sorted (byTile labels) (filtered hasArc (runOf g p)) v m)
 
   pub arcs-in : (p v : ℕ) → List·Memᴰ v (runOf g p) → hasArc v ≡ true → List·Memᴰ v (arcsOf g labels p)
   unfolding arcsOf
-  arcs-in p v m h = sorted-in (byTile labels) (kept hasArc (runOf g p)) v (kept-in hasArc (runOf g p) v m h)
+  arcs-in p v m h = sorted-in (byTile labels) (filtered hasArc (runOf g p)) v (filtered-in hasArc (runOf g p) v m h)
 
   -- the order changes nothing of where they lead
   pub in-children : (p q : ℕ) → List·Memᴰ q (childrenOf g labels p) → List·Memᴰ q (arcsFrom g p)
@@ -48,8 +48,8 @@ module _ (g : Graph) (labels : List ℕ) where
   arcs-length : (p : ℕ) → length (arcsOf g labels p) ≤ length (runOf g p)
   unfolding arcsOf
   arcs-length p =
-      let a = sorted-length (byTile labels) (kept hasArc (runOf g p)) in
-      let b = kept-length hasArc (runOf g p) in
+      let a = sorted-length (byTile labels) (filtered hasArc (runOf g p)) in
+      let b = filtered-length hasArc (runOf g p) in
       omega arith
 
 -- ---- how long a run is
@@ -113,8 +113,8 @@ module _ {g : Graph} {labels : List ℕ} (c : MacondoReady g labels) where
   pub arcs-once : (p : ℕ) → NoRepeats (arcsOf g labels p)
   unfolding arcsOf
   arcs-once p =
-      no-repeats-sorted (byTile labels) (kept hasArc (runOf g p))
-      (no-repeats-kept hasArc (runOf g p) (map-no-repeats (tile KBWG) (runOf g p) (run-once p)))
+      no-repeats-sorted (byTile labels) (filtered hasArc (runOf g p))
+      (no-repeats-filtered hasArc (runOf g p) (map-no-repeats (tile KBWG) (runOf g p) (run-once p)))
 
   -- no two nodes of a run have one letter
   pub letters-apart : (p v w : ℕ) → List·Memᴰ v (runOf g p) → List·Memᴰ w (runOf g p)

@@ -6,7 +6,7 @@ use lib.Dec.{eqb}
 use lib.ListN.{length, getD}
 use Rattle.laws.specs.BitSets.{bitSet}
 use Rattle.laws.specs.Firsts.{placeIn, firsts}
-use Rattle.laws.specs.Lists.{kept, joinAll}
+use Rattle.laws.specs.Lists.{filtered, joinAll}
 use Rattle.laws.specs.Sorting.{sorted}
 use Rattle.endian.specs.Bytes.{bigEndian, bigEndians}
 use Rattle.node.specs.Nodes.{KBWG, tile, arc, accepts}
@@ -33,7 +33,7 @@ endsInLetter v = accepts KBWG v && not (eqb (tile KBWG v) 0)
 
 -- "a set has bit r for the letter of rank r": the set of p's run, where `rank` gives the letter of a node
 abbrev pub setWith : (ℕ → ℕ) → Graph → ℕ → ℕ
-setWith rank g p = bitSet (map rank (kept endsInLetter (runOf g p)))
+setWith rank g p = bitSet (map rank (filtered endsInLetter (runOf g p)))
 
 -- "the code points stand in rank order"
 abbrev pub codePoints : List ℕ → List ℕ
@@ -46,7 +46,7 @@ section width numbers = bigEndian 4 (length numbers) ++ bigEndians width numbers
 module _ (g : Graph) (labels : List ℕ) where
   -- "then its arcs by that order": the nodes of a run that have arcs
   unfoldable pub arcsOf : ℕ → List ℕ
-  arcsOf p = sorted (byTile labels) (kept hasArc (runOf g p))
+  arcsOf p = sorted (byTile labels) (filtered hasArc (runOf g p))
 
   -- the blocks that the arcs of p's block lead to
   abbrev pub childrenOf : ℕ → List ℕ

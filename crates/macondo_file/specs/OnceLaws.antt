@@ -11,8 +11,8 @@ use lib.ListN.{length}
 use Rattle.laws.specs.Bits.{hasBit}
 use Rattle.laws.specs.Cases.{split}
 use Rattle.laws.specs.Lists.{All}
-use Rattle.laws.specs.Members.{in-map, map-in, in-kept}
-use Rattle.laws.specs.NoRepeats.{NoRepeats, no-repeats-append, no-repeats-kept, no-repeats-map}
+use Rattle.laws.specs.Members.{in-map, map-in, in-filtered}
+use Rattle.laws.specs.NoRepeats.{NoRepeats, no-repeats-append, no-repeats-filtered, no-repeats-map}
 use Rattle.node.specs.Nodes.{KBWG, arc}
 use Rattle.graph.specs.Runs.{Graph, startNode}
 use Rattle.graph.specs.Words.{Word, inOrder, wordsWithin, words}
@@ -147,7 +147,7 @@ module _ {g : Graph} {labels : List ℕ} (c : MacondoReady g labels) where
   unfolding words
   spelled-labelled f w m =
       let s = startNode g (marks f .root) in
-      tiles-labelled (length g) s w (in-kept wordEndsInLetter (words KBWG g s) w m .0)
+      tiles-labelled (length g) s w (in-filtered wordEndsInLetter (words KBWG g s) w m .0)
 
   renamed-apart : (u v : Word) → LabelledWord u → LabelledWord v → renamedToLetters labels u ≡ renamedToLetters labels v → u ≡ v
   renamed-apart [] [] a b e = refl
@@ -161,4 +161,4 @@ module _ {g : Graph} {labels : List ℕ} (c : MacondoReady g labels) where
       let ws = words KBWG g (startNode g (marks f .root)) in
       no-repeats-map (renamedToLetters labels) (endingInLetters g f)
       (λ u v m n. renamed-apart u v (spelled-labelled f u m) (spelled-labelled f v n))
-      (no-repeats-kept wordEndsInLetter ws (ascending-once ws (words-ascend KBWG g (c .ascending) (startNode g (marks f .root)))))
+      (no-repeats-filtered wordEndsInLetter ws (ascending-once ws (words-ascend KBWG g (c .ascending) (startNode g (marks f .root)))))

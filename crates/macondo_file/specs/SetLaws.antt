@@ -12,8 +12,8 @@ use borrow.Author.Tests.{eqb-true, eqb-false}
 use Rattle.laws.specs.Bits.{hasBit}
 use Rattle.laws.specs.BitSets.{bit-set-bit, bit-set-below}
 use Rattle.laws.specs.Cases.{split}
-use Rattle.laws.specs.Lists.{kept}
-use Rattle.laws.specs.Members.{member-mem, mem-member, in-map, map-in, in-kept, kept-in}
+use Rattle.laws.specs.Lists.{filtered}
+use Rattle.laws.specs.Members.{member-mem, mem-member, in-map, map-in, in-filtered, filtered-in}
 use Rattle.node.specs.Nodes.{KBWG, tile}
 use Rattle.graph.specs.Runs.{Graph}
 use Rattle.graph.specs.Words.{Word}
@@ -25,7 +25,7 @@ use Rattle.macondo_file.specs.Reading.{setWords}
 
 module _ (g : Graph) (labels : List ℕ) where
   abbrev enders : ℕ → List ℕ
-  enders p = kept (endsInLetter) (runOf g p)
+  enders p = filtered (endsInLetter) (runOf g p)
 
   pub in-set : (p r : ℕ) → hasBit (setOf g labels p) r ≡ true
       → (v : ℕ) × List·Memᴰ v (runOf g p) × (endsInLetter v ≡ true) × (r ≡ letterAt labels v)
@@ -33,7 +33,7 @@ module _ (g : Graph) (labels : List ℕ) where
   in-set p r e =
       let rs = map (letterAt labels) (enders p) in
       let m = in-map (letterAt labels) (enders p) r (member-mem r rs (sym (bit-set-bit rs r) ∙ e)) in
-      let k = in-kept (endsInLetter) (runOf g p) (m .0) (m .1) in
+      let k = in-filtered (endsInLetter) (runOf g p) (m .0) (m .1) in
       (m .0, k .0, k .1, m .2)
 
   pub set-in : (p v : ℕ) → List·Memᴰ v (runOf g p) → endsInLetter v ≡ true
@@ -41,7 +41,7 @@ module _ (g : Graph) (labels : List ℕ) where
   unfolding setOf
   set-in p v m e =
       bit-set-bit (map (letterAt labels) (enders p)) (letterAt labels v)
-      ∙ mem-member (letterAt labels v) (map (letterAt labels) (enders p)) (map-in (letterAt labels) (enders p) v (kept-in (endsInLetter) (runOf g p) v m e))
+      ∙ mem-member (letterAt labels v) (map (letterAt labels) (enders p)) (map-in (letterAt labels) (enders p) v (filtered-in (endsInLetter) (runOf g p) v m e))
 
   pub set-below : length labels ≤ 50 → (p : ℕ) → setOf g labels p < 2 ^ 64
   unfolding setOf

@@ -8,16 +8,14 @@ use mathlib.Core.Option.{none}
 use Prim.Native.Nat.{ℕ, _+_, _-_, _*_, _<_}
 use lib.Dec.{eqb}
 use lib.ListN.{length, getD}
-use Rattle.laws.specs.Lists.{kept}
+use Rattle.laws.specs.Lists.{filtered}
 use Rattle.laws.specs.NoRepeats.{NoRepeats}
-use Rattle.answers.specs.Answers.{firstOf}
 use Rattle.node.specs.Nodes.{KBWG}
 use Rattle.graph.specs.Runs.{Graph, startNode}
 use Rattle.graph.specs.Words.{Word, words}
 use Rattle.macondo_file.specs.Alphabet.{codePoint, letterOf}
-use Rattle.macondo_file.specs.File.{Format, marks, macondoFile}
+use Rattle.macondo_file.specs.File.{Format, marks}
 use Rattle.macondo_file.specs.Reading.{countAt, letterSection, setSection, nodeSection, macondoWords, codePointIn, wordsInCodePoints}
-use Rattle.macondo_file.specs.Row.{macondoRow}
 
 -- "those ending in tile 0"
 abbrev pub endsInZero : Word → Bool
@@ -34,7 +32,7 @@ renamedToLetters labels = map (letterOf labels)
 
 -- the words that the file should spell: those of the start node, less those ending in tile 0
 abbrev pub endingInLetters : Graph → Format → List Word
-endingInLetters g f = kept wordEndsInLetter (words KBWG g (startNode g (marks f .root)))
+endingInLetters g f = filtered wordEndsInLetter (words KBWG g (startNode g (marks f .root)))
 
 -- the file spells the words of tiles with these labels
 pub record SpellsMacondo (file labels : List ℕ) (ws : List Word) : Type 0 where
@@ -51,9 +49,3 @@ pub record SpellsMacondo (file labels : List ℕ) (ws : List Word) : Type 0 wher
   pub letter-count-read : countAt (letterSection file) ≡ length labels - 1
   pub length-read : length file
       ≡ 5 + getD file 4 0 + (4 + 4 * countAt (letterSection file)) + (4 + 8 * countAt (setSection file)) + (4 + 4 * countAt (nodeSection file))
-
--- every file that the writer accepts
-abbrev pub MacondoSpells : Type 0
-MacondoSpells =
-    (g : Graph) (labels name : List ℕ) (f : Format) (lentWork lentFile : ℕ) → firstOf (macondoRow g labels name f lentWork lentFile) ≡ none
-    → SpellsMacondo (macondoFile g labels f name) labels (endingInLetters g f)

@@ -2,6 +2,7 @@
 -- as its code points. The idea: the words read have the same members, and neither list has repeats.
 use mathlib.Core.Path.{_≡_, refl, sym, ap, ap₂, _∙_}
 use mathlib.Core.Bool.{false}
+use mathlib.Core.Option.{none}
 use mathlib.Core.Logic.{_↔_}
 use mathlib.Core.List.{List, [], _∷_, map, List·Memᴰ, Memᴰ·cast}
 use Prim.Native.Nat.{ℕ, _^_, _≤_, _<_}
@@ -9,18 +10,19 @@ use lib.ListN.{length, drop, length-map}
 use Rattle.laws.specs.Lists.{All, someOf}
 use Rattle.laws.specs.Members.{in-map, map-in}
 use Rattle.laws.specs.NoRepeats.{same-length}
+use Rattle.answers.specs.Answers.{firstOf}
 use Rattle.graph.specs.Runs.{Graph, startNode}
 use Rattle.graph.specs.Words.{Word}
 use Rattle.export.specs.Starts.{deeper}
 use Rattle.macondo_file.specs.Alphabet.{codePoint}
 use Rattle.macondo_file.specs.File.{Format, marks, macondoNodes, macondoFile}
 use Rattle.macondo_file.specs.Reading.{macondoWords, codePointIn, wordsInCodePoints}
-use Rattle.macondo_file.specs.Row.{noCodePoint}
+use Rattle.macondo_file.specs.Row.{noCodePoint, macondoRow}
 use Rattle.macondo_file.specs.RowLaws.{MacondoReady, accepted-checks, accepted-walk}
 use Rattle.macondo_file.specs.ReadingLaws.{letter-count-read, length-read, labels-read, tile-read}
 use Rattle.macondo_file.specs.WordLaws.{words-read}
 use Rattle.macondo_file.specs.OnceLaws.{words-once, spelled-labelled, renamed-once}
-use Rattle.macondo_file.specs.Spelling.{renamedToLetters, endingInLetters, MacondoSpells}
+use Rattle.macondo_file.specs.Spelling.{renamedToLetters, endingInLetters, SpellsMacondo}
 
 module _ {g : Graph} {labels : List ℕ} (c : MacondoReady g labels) (f : Format) (name : List ℕ) where
   abbrev file : List ℕ
@@ -55,7 +57,9 @@ module _ {g : Graph} {labels : List ℕ} (c : MacondoReady g labels) (f : Format
         (words-read c f few shallow name)
         ∙ length-map ws (renamedToLetters labels)
 
-pub macondo-spells : MacondoSpells
+-- every file that the writer accepts
+pub macondo-spells : (g : Graph) (labels name : List ℕ) (f : Format) (lentWork lentFile : ℕ) → firstOf (macondoRow g labels name f lentWork lentFile) ≡ none
+    → SpellsMacondo (macondoFile g labels f name) labels (endingInLetters g f)
 macondo-spells g labels name f lentWork lentFile e =
     let c = accepted-checks g labels name f lentWork lentFile e .ready in
     let a = accepted-walk g labels name f lentWork lentFile e in

@@ -13,10 +13,10 @@ use lib.ListN.{length}
 use lib.Pow.{high, low}
 use borrow.Author.Tests.{not-true}
 use Rattle.laws.specs.Cases.{split, and-left, and-right}
-use Rattle.laws.specs.Lists.{kept, joinAll, all-mem}
-use Rattle.laws.specs.Members.{in-map, map-in, in-kept, kept-in, in-join, join-in}
+use Rattle.laws.specs.Lists.{filtered, all-mem}
+use Rattle.laws.specs.Members.{in-map, map-in, in-filtered, filtered-in, in-join, join-in}
 use Rattle.node.specs.Nodes.{KBWG, tile, arc, accepts}
-use Rattle.graph.specs.Runs.{Graph, ascends, startNode}
+use Rattle.graph.specs.Runs.{Graph, startNode}
 use Rattle.graph.specs.Words.{Word, inOrder, spelled, wordsWithin, words}
 use Rattle.graph.specs.WordsAscend.{From, within-nonempty}
 use Rattle.export.specs.Starts.{runOf, hasArc, arcsFrom, deeper}
@@ -34,16 +34,13 @@ use Rattle.macondo_file.specs.BlockReading.{block-read}
 use Rattle.macondo_file.specs.ReadingLaws.{file-read}
 
 -- ---- the words along a list of nodes, and those of one node
-in-order-join : (f : ℕ → List Word) (l : List ℕ) → inOrder f l ≡ joinAll (map f l)
-unfolding inOrder
-in-order-join f [] = refl
-in-order-join f (v ∷ l) = ap (f v ++_) (in-order-join f l)
-
 pub in-in-order : (f : ℕ → List Word) (l : List ℕ) (w : Word) → List·Memᴰ w (inOrder f l) → (v : ℕ) × List·Memᴰ v l × List·Memᴰ w (f v)
-in-in-order f l w m = in-join f l w (subst (List·Memᴰ w) (in-order-join f l) m)
+unfolding inOrder
+in-in-order f l w m = in-join f l w m
 
 in-order-in : (f : ℕ → List Word) (l : List ℕ) (v : ℕ) (w : Word) → List·Memᴰ v l → List·Memᴰ w (f v) → List·Memᴰ w (inOrder f l)
-in-order-in f l v w m n = subst (List·Memᴰ w) (sym (in-order-join f l)) (join-in f l v w m n)
+unfolding inOrder
+in-order-in f l v w m n = join-in f l v w m n
 
 abbrev own : ℕ → List Word
 own v = elim (accepts KBWG v) [ true ↦ (tile KBWG v ∷ []) ∷ [] | false ↦ [] ]
@@ -90,16 +87,16 @@ module _ (g : Graph) (labels : List ℕ) where
   wordsUpTo k = wordsWithin KBWG k g
 
   abbrev RenamedWord : ℕ → ℕ → Word → Type 0
-  RenamedWord k p w = List·Memᴰ w (map (renamedToLetters labels) (kept wordEndsInLetter (wordsUpTo k p)))
+  RenamedWord k p w = List·Memᴰ w (map (renamedToLetters labels) (filtered wordEndsInLetter (wordsUpTo k p)))
 
   renamed-in : (k p : ℕ) (u : Word) → List·Memᴰ u (wordsUpTo k p) → wordEndsInLetter u ≡ true → RenamedWord k p (renamedToLetters labels u)
-  renamed-in k p u m h = map-in (renamedToLetters labels) (kept wordEndsInLetter (wordsUpTo k p)) u (kept-in wordEndsInLetter (wordsUpTo k p) u m h)
+  renamed-in k p u m h = map-in (renamedToLetters labels) (filtered wordEndsInLetter (wordsUpTo k p)) u (filtered-in wordEndsInLetter (wordsUpTo k p) u m h)
 
   in-renamed : (k p : ℕ) (w : Word) → RenamedWord k p w
       → (u : Word) × List·Memᴰ u (wordsUpTo k p) × (wordEndsInLetter u ≡ true) × (w ≡ renamedToLetters labels u)
   in-renamed k p w n =
-      let r = in-map (renamedToLetters labels) (kept wordEndsInLetter (wordsUpTo k p)) w n in
-      let s = in-kept wordEndsInLetter (wordsUpTo k p) (r .0) (r .1) in
+      let r = in-map (renamedToLetters labels) (filtered wordEndsInLetter (wordsUpTo k p)) w n in
+      let s = in-filtered wordEndsInLetter (wordsUpTo k p) (r .0) (r .1) in
       (r .0, s .0, s .1, r .2)
 
   -- a word of a node that is in the run
@@ -111,44 +108,43 @@ module _ (g : Graph) (labels : List ℕ) where
   unfolding wordsWithin
   word-node k p u m = in-in-order (spelled KBWG (wordsUpTo k)) (runOf g p) u m
 
-  module _ (up : ascends KBWG g ≡ true) where
-    -- a word is not empty, so one tile before it does not change its end
-    end-after-tile : (k p t : ℕ) (u : Word) → List·Memᴰ u (wordsUpTo k p) → wordEndsInLetter (t ∷ u) ≡ wordEndsInLetter u
-    end-after-tile k p t [] m = absurd (all-mem (From 0) (wordsUpTo k p) [] (within-nonempty KBWG k g p) m)
-    end-after-tile k p t (x ∷ u) m = refl
+  -- a word is not empty, so one tile before it does not change its end
+  end-after-tile : (k p t : ℕ) (u : Word) → List·Memᴰ u (wordsUpTo k p) → wordEndsInLetter (t ∷ u) ≡ wordEndsInLetter u
+  end-after-tile k p t [] m = absurd (all-mem (From 0) (wordsUpTo k p) [] (within-nonempty KBWG k g p) m)
+  end-after-tile k p t (x ∷ u) m = refl
 
-    made-renamed : (k p : ℕ) (w : Word) → MadeOf (RenamedWord k) p w → RenamedWord (suc k) p w
-    made-renamed k p w (ends v m e i) =
-        let a = and-left (accepts KBWG v) (not (eqb (tile KBWG v) 0)) e in
-        let n = and-right (accepts KBWG v) (not (eqb (tile KBWG v) 0)) e in
-        let u = tile KBWG v ∷ [] in
-        rw i (renamed-in (suc k) p u (node-word k p v u m (own-in (wordsUpTo k) v a)) n)
-    made-renamed k p w (goes v u m h n i) =
-        let q = arc KBWG v in
-        let r = in-renamed k q u n in
-        let x = tile KBWG v ∷ r .0 in
-        let end = end-after-tile k q (tile KBWG v) (r .0) (r .1) ∙ r .2 in
-        rw (i, r .3) (renamed-in (suc k) p x (node-word k p v x m (arc-in (wordsUpTo k) v (r .0) h (r .1))) end)
+  made-renamed : (k p : ℕ) (w : Word) → MadeOf (RenamedWord k) p w → RenamedWord (suc k) p w
+  made-renamed k p w (ends v m e i) =
+      let a = and-left (accepts KBWG v) (not (eqb (tile KBWG v) 0)) e in
+      let n = and-right (accepts KBWG v) (not (eqb (tile KBWG v) 0)) e in
+      let u = tile KBWG v ∷ [] in
+      rw i (renamed-in (suc k) p u (node-word k p v u m (own-in (wordsUpTo k) v a)) n)
+  made-renamed k p w (goes v u m h n i) =
+      let q = arc KBWG v in
+      let r = in-renamed k q u n in
+      let x = tile KBWG v ∷ r .0 in
+      let end = end-after-tile k q (tile KBWG v) (r .0) (r .1) ∙ r .2 in
+      rw (i, r .3) (renamed-in (suc k) p x (node-word k p v x m (arc-in (wordsUpTo k) v (r .0) h (r .1))) end)
 
-    -- the letter and the word after it, of a word of node v
-    node-made : (k p v : ℕ) (u : Word) → List·Memᴰ v (runOf g p) → List·Memᴰ u (spelled KBWG (wordsUpTo k) v) → wordEndsInLetter u ≡ true
-        → MadeOf (RenamedWord k) p (renamedToLetters labels u)
-    node-made k p v u m n h =
-        ⊎-elim
-        (λ i.
-        let z : not (eqb (tile KBWG v) 0) ≡ true = ap wordEndsInLetter (sym (i .1)) ∙ h in
-        ends v m (rw (i .0, z)) (ap (renamedToLetters labels) (i .1)))
-        (λ i.
-        let q = arc KBWG v in
-        let end = sym (end-after-tile k q (tile KBWG v) (i .0) (i .2)) ∙ ap wordEndsInLetter (sym (i .3)) ∙ h in
-        goes v (renamedToLetters labels (i .0)) m (i .1) (renamed-in k q (i .0) (i .2) end) (ap (renamedToLetters labels) (i .3)))
-        (in-spelled (wordsUpTo k) v u n)
+  -- the letter and the word after it, of a word of node v
+  node-made : (k p v : ℕ) (u : Word) → List·Memᴰ v (runOf g p) → List·Memᴰ u (spelled KBWG (wordsUpTo k) v) → wordEndsInLetter u ≡ true
+      → MadeOf (RenamedWord k) p (renamedToLetters labels u)
+  node-made k p v u m n h =
+      ⊎-elim
+      (λ i.
+      let z : not (eqb (tile KBWG v) 0) ≡ true = ap wordEndsInLetter (sym (i .1)) ∙ h in
+      ends v m (rw (i .0, z)) (ap (renamedToLetters labels) (i .1)))
+      (λ i.
+      let q = arc KBWG v in
+      let end = sym (end-after-tile k q (tile KBWG v) (i .0) (i .2)) ∙ ap wordEndsInLetter (sym (i .3)) ∙ h in
+      goes v (renamedToLetters labels (i .0)) m (i .1) (renamed-in k q (i .0) (i .2) end) (ap (renamedToLetters labels) (i .3)))
+      (in-spelled (wordsUpTo k) v u n)
 
-    renamed-made : (k p : ℕ) (w : Word) → RenamedWord (suc k) p w → MadeOf (RenamedWord k) p w
-    renamed-made k p w n =
-        let r = in-renamed (suc k) p w n in
-        let j = word-node k p (r .0) (r .1) in
-        rw (r .3) (node-made k p (j .0) (r .0) (j .1) (j .2) (r .2))
+  renamed-made : (k p : ℕ) (w : Word) → RenamedWord (suc k) p w → MadeOf (RenamedWord k) p w
+  renamed-made k p w n =
+      let r = in-renamed (suc k) p w n in
+      let j = word-node k p (r .0) (r .1) in
+      rw (r .3) (node-made k p (j .0) (r .0) (j .1) (j .2) (r .2))
 
 -- ---- so are the words from a block of the file
 module _ (g : Graph) (labels : List ℕ) (f : Format) where
@@ -219,8 +215,8 @@ module _ {g : Graph} {labels : List ℕ} (c : MacondoReady g labels) (f : Format
   read-renamed (suc k) p m w =
       let renamed-of = made-of g labels (ReadsBack k) (RenamedWord g labels k) p (λ q u n. read-renamed k q (child-block c f shallow p q m n) u .0) w in
       let read-of = made-of g labels (RenamedWord g labels k) (ReadsBack k) p (λ q u n. read-renamed k q (child-block c f shallow p q m n) u .1) w in (
-        (λ n. made-renamed g labels (c .ascending) k p w (renamed-of (read-made k p m w n))),
-        (λ n. made-read k p m w (read-of (renamed-made g labels (c .ascending) k p w n))),
+        (λ n. made-renamed g labels k p w (renamed-of (read-made k p m w n))),
+        (λ n. made-read k p m w (read-of (renamed-made g labels k p w n))),
       )
 
   -- as many turns as there are nodes give all words from the start
@@ -242,4 +238,4 @@ module _ {g : Graph} {labels : List ℕ} (c : MacondoReady g labels) (f : Format
       let s = startNode g (marks f .root) in
       let n = length nodes in
       let same = read-renamed n s (start-block c f shallow) w in
-      rw (start-read name) (subst (λ ws. ReadsBack n s w ↔ List·Memᴰ w (map (renamedToLetters labels) (kept wordEndsInLetter ws))) all-words same)
+      rw (start-read name) (subst (λ ws. ReadsBack n s w ↔ List·Memᴰ w (map (renamedToLetters labels) (filtered wordEndsInLetter ws))) all-words same)

@@ -12,7 +12,7 @@ use Rattle.laws.specs.ListWrites.{sets-append}
 use Rattle.endian.specs.Bytes.{bigEndian, bigEndians}
 use Rattle.endian.specs.BigLaws.{big-length, bigs-length}
 use Rattle.endian.specs.Putting.{Putting, put-start, put-room, put-next, put-done}
-use Rattle.graph.specs.TableLaws.{table-length}
+use Rattle.laws.specs.Tables.{table-length}
 use Rattle.macondo_file.specs.File.{section}
 use Rattle.macondo_file.specs.ReadingLaws.{section-length}
 use Rattle.letter_sets.specs.SetNumbers.{setAt, setsIn}

@@ -1,11 +1,11 @@
 -- What packing answers, by whether the fields fit, and whether they fit, by the answer.
-use mathlib.Core.Path.{_≡_, _∙_}
+use mathlib.Core.Path.{_≡_, sym, _∙_}
 use mathlib.Core.Bool.{true, false}
 use mathlib.Core.List.{[], _∷_}
 use Prim.Native.Nat.{ℕ}
-use native.Mathlib.Omega.{arith}
 use Rattle.laws.specs.Cases.{split}
 use Rattle.answers.specs.Answers.{gives, refused}
+use Rattle.answers.specs.RowLaws.{gives≢refused}
 use Rattle.node.specs.Nodes.{BitLayout, Tile, Arc, Values, fits, packed}
 use Rattle.node.specs.Said.{packAnswer}
 
@@ -23,10 +23,10 @@ module _ (y : BitLayout) (x : Values) where
   node-answered {v} e =
       split (fits y x)
       (λ f. let h = e ∙ pack-fitting f in (f, cc))
-      (λ f. let h = e ∙ pack-misfit f in let z : _≡_ {A = ℕ} 0 1 = cc in absurd (omega arith))
+      (λ f. gives≢refused (e ∙ pack-misfit f))
 
   pub misfit-answered : {t r : ℕ} → refused 6 (t ∷ r ∷ []) ≡ packAnswer y x → (fits y x ≡ false) × (t ≡ x Tile) × (r ≡ x Arc)
   misfit-answered {t} {r} e =
       split (fits y x)
-      (λ f. let h = e ∙ pack-fitting f in let z : _≡_ {A = ℕ} 0 1 = cc in absurd (omega arith))
+      (λ f. gives≢refused (sym (e ∙ pack-fitting f)))
       (λ f. let h = e ∙ pack-misfit f in (f, cc, cc))

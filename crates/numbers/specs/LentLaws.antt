@@ -12,18 +12,18 @@ use Rattle.graph.specs.Words.{count}
 use Rattle.graph.specs.ChecksLaws.{Fit}
 use Rattle.graph.specs.Counting.{counts, Loopless}
 use Rattle.graph.specs.LoopLaws.{clear-where-loopless}
-use Rattle.graph.specs.TableLaws.{table-length, table-at}
+use Rattle.laws.specs.Tables.{table-length, table-at}
 use Rattle.lookup.specs.Steps.{lentPart, on}
 use Rattle.lookup.specs.StepsLaws.{lent-on}
 use Rattle.numbers.specs.Walkable.{Walkable}
-use Rattle.numbers.specs.WordNumbers.{Lent}
+use Rattle.numbers.specs.WordNumbers.{GraphLent}
 
 at-head : (l whole : List ℕ) → take (length l) whole ≡ l → (p : ℕ) → p < length l → (p < length whole) × (getD whole p 0 ≡ getD l p 0)
 at-head l whole e p h =
     let k = ap length (sym e) ∙ length-take (length l) whole in
     (omega arith, sym (getD-take (length l) whole p 0 h) ∙ ap (λ x. getD x p 0) e)
 
-module _ (g : Graph) (fits : Fit g) (nodes counted : List ℕ) (is : Lent g nodes counted) where
+module _ (g : Graph) (fits : Fit g) (nodes counted : List ℕ) (is : GraphLent g nodes counted) where
   pub count-at : (p : ℕ) → p < length g → (p < length counted) × (getD counted p 0 ≡ count KBWG g p)
   count-at p h =
       let n = table-length (length g) (count KBWG g) in
@@ -39,7 +39,7 @@ module _ (g : Graph) (fits : Fit g) (nodes counted : List ℕ) (is : Lent g node
         count-lent = λ p h. let r = count-at p h in lent-on counted p (r .0) ∙ ap on (r .1);
       }
 
-  pub lent-parts : Lent g (lentPart nodes) (lentPart counted)
+  pub lent-parts : GraphLent g (lentPart nodes) (lentPart counted)
   lent-parts =
       let most = fits .most in
       record {

@@ -14,7 +14,7 @@ use Rattle.lookup.specs.Walks.{wordByIndex, wordIndex}
 
 -- "both conversions are lent these nodes and counts": the graph stands at the head of the lent nodes, and its counts at the head of the
 -- lent counts; either list may be longer
-pub record Lent (g : Graph) (nodes counted : List ℕ) : Type 0 where
+pub record GraphLent (g : Graph) (nodes counted : List ℕ) : Type 0 where
   pub nodes-are : take (length g) nodes ≡ g
   pub counts-are : take (length g) counted ≡ counts g
 

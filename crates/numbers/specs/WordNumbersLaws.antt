@@ -21,12 +21,12 @@ use Rattle.graph.specs.WordsAscend.{≺-differ, words-ascend}
 use Rattle.graph.specs.WordsEquation.{words-equation}
 use Rattle.lookup.specs.Steps.{lentPart}
 use Rattle.lookup.specs.Walks.{wordIndex, wordByIndex}
-use Rattle.graph.specs.TableLaws.{table-length}
+use Rattle.laws.specs.Tables.{table-length}
 use Rattle.numbers.specs.LentLaws.{count-at, walkable, lent-parts}
 use Rattle.numbers.specs.ByNumber.{named, other-numbers}
 use Rattle.numbers.specs.ByWord.{IndexIs, number, no-word, index}
 use Rattle.numbers.specs.Walkable.{Walkable}
-use Rattle.numbers.specs.WordNumbers.{Lent, wordAt, WordNumbers}
+use Rattle.numbers.specs.WordNumbers.{GraphLent, wordAt, WordNumbers}
 
 once-only : (l : List Word) → Ascending l → (i j : ℕ) → i < length l → j < length l → getD l i [] ≡ getD l j [] → i ≡ j
 once-only [] a i j h k e = absurd (omega arith)
@@ -35,7 +35,7 @@ once-only (w ∷ l) a zero (suc j) h k e = absurd (≺-differ (all-mem (w ≺_) 
 once-only (w ∷ l) a (suc i) zero h k e = absurd (≺-differ (all-mem (w ≺_) l _ (a .0) (at-in l i [] (omega arith))) (sym e))
 once-only (w ∷ l) a (suc i) (suc j) h k e = ap suc (once-only l (a .1) i j (omega arith) (omega arith) e)
 
-module _ (limit : ℕ) (g : Graph) (c : Counts limit g) (up : ascends KBWG g ≡ true) (nodes counted : List ℕ) (is : Lent g nodes counted) where
+module _ (limit : ℕ) (g : Graph) (c : Counts limit g) (up : ascends KBWG g ≡ true) (nodes counted : List ℕ) (is : GraphLent g nodes counted) where
   fits : Fit g
   fits = fit g (c .fit)
 
@@ -83,7 +83,7 @@ counted-lent limit g before after lentWork (all e l f) = (
 
 -- the first nodes of a list, where they are counted, stand in the list and in the counts that are left
 pub lent-left : (limit size : ℕ) (nodes before after : List ℕ) (lentWork : ℕ) → size ≤ length nodes
-    → IsCounted limit (take size nodes) before lentWork (gives []) after → Lent (take size nodes) nodes after
+    → IsCounted limit (take size nodes) before lentWork (gives []) after → GraphLent (take size nodes) nodes after
 lent-left limit size nodes before after lentWork h c =
     record {
       nodes-are = ap (λ k. take k nodes) (length-take-le size nodes h);

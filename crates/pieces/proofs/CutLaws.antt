@@ -8,11 +8,12 @@ use native.Mathlib.Numerals.{add-one}
 use lib.ListN.{length, getD, take, drop, set, length-drop, length-set, drop-of-length-le}
 use lib.Seq.{sets, take-all, drop-drop, drop-cons, set-out}
 use borrow.Author.Tests.{ltb-true, ltb-false}
+use Rattle.answers.specs.Answers.{refusalIn}
 use Rattle.laws.specs.Cases.{split}
 use Rattle.node.specs.declared.Layout.{Layout}
 use Rattle.graph.specs.Runs.{Graph}
 use Rattle.pieces.specs.Pieces.{feedAll, fedPieces, loadPieces, cutAt}
-use Rattle.pieces.specs.Said.{refusalIn, LoadLeft, loadLeaves}
+use Rattle.pieces.specs.Said.{LoadLeft, loadLeaves}
 use Rattle.load.specs.Loading.{Begins, begin, Feeds, feed, Finishes, finish}
 use Rattle.load.specs.declared.loader.Loader.{Loader}
 

@@ -3,18 +3,12 @@ use mathlib.Core.List.{List, map}
 use Prim.Native.Nat.{ℕ}
 use lib.ListN.{length, take}
 use lib.Seq.{sets}
-use Rattle.answers.specs.Answers.{Answer, gives, nothing, refused}
+use Rattle.answers.specs.Answers.{Answer, refusalIn}
 use Rattle.graph.specs.Runs.{Graph}
 use Rattle.load.specs.Said.{saidBegin, saidFinish}
 use Rattle.load.specs.declared.loader.Loader.{Loader}
 use Rattle.pieces.specs.Pieces.{LoadOutcome}
 use Rattle.pieces.specs.declared.Loaded.{Loaded}
-
--- an answer as one number: that of its refusal, or 0
-abbrev pub refusalIn : Answer → ℕ
-refusalIn (gives vs) = 0
-refusalIn nothing = 0
-refusalIn (refused n vs) = n
 
 -- the numbers of the answers at the front of a lent list, as many as it has room for; "entries past that stay"
 abbrev pub answersStored : List ℕ → List Answer → List ℕ

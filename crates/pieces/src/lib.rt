@@ -2,9 +2,10 @@
 ghost use mathlib.Core.Path.{_≡_};
 ghost use Prim.Native.Nat.{_+_, _≤_, min};
 ghost use lib.ListN.{set};
+ghost use Rattle.answers.specs.Answers.{refusalIn};
 ghost use Rattle.load.specs.Said.{saidFeed};
 ghost use Rattle.pieces.specs.Pieces.{cutAt, loadPieces};
-ghost use Rattle.pieces.specs.Said.{refusalIn, loadLeaves, loadedAs};
+ghost use Rattle.pieces.specs.Said.{loadLeaves, loadedAs};
 use load::BeginAnswer;
 use load::FeedAnswer;
 use load::Finished;

@@ -4,13 +4,13 @@ use mathlib.Core.List.{List, [], _∷_, _++_}
 use Prim.Native.Nat.{ℕ}
 use borrow.Author.Tests.{eq-eqb, ne-eqb}
 use lib.ListN.{length, getD, take, drop}
-use Rattle.answers.specs.Answers.{gives}
+use Rattle.answers.specs.Answers.{gives, refusalIn}
 use Rattle.node.specs.Said.{bitLayout}
 use Rattle.node.specs.declared.Layout.{Layout}
 use Rattle.load.specs.Repacking.{repackAnswer, repackedBytes}
 use Rattle.load.specs.Loading.{begin, feed, finish}
 use Rattle.pieces.specs.Pieces.{feedAll, fedPieces, loadPieces}
-use Rattle.flat.specs.Flat.{layoutOf, plainly, refusalIn}
+use Rattle.flat.specs.Flat.{layoutOf, plainly}
 use Rattle.flat.specs.PlainLaws.{plain-refusal}
 use Rattle.flat.specs.FlatLoads.{repackedOf, flatRepacked, stateOf, begunOf, fedOf, finishedOf, finishesOf, flatFinished}
 use Rattle.flat.specs.declared.loading.FlatRepacked.{FlatRepacked}

@@ -3,9 +3,9 @@ use mathlib.Core.Bool.{Bool}
 use mathlib.Core.List.{List, [], _∷_, _++_}
 use Prim.Native.Nat.{ℕ}
 use lib.ListN.{length, take}
-use Rattle.answers.specs.Answers.{Answer}
+use Rattle.answers.specs.Answers.{Answer, refusalIn}
 use Rattle.graph.specs.Counting.{IsCounted, countLimit}
-use Rattle.flat.specs.Flat.{refusalIn, arcCarried}
+use Rattle.flat.specs.Flat.{arcCarried}
 use Rattle.stored.specs.Answers.{same}
 
 -- the number of the refusal, the arc that it carries, and a count for each node

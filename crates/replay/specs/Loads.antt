@@ -3,11 +3,12 @@ use mathlib.Core.List.{List, [], _∷_, _++_}
 use Prim.Native.Nat.{ℕ}
 use lib.Dec.{eqb}
 use lib.ListN.{length, getD, take, drop}
+use Rattle.answers.specs.Answers.{refusalIn}
 use Rattle.node.specs.Said.{bitLayout}
 use Rattle.load.specs.Repacking.{repackAnswer, repackedBytes}
 use Rattle.pieces.specs.Pieces.{LoadOutcome, loadPieces}
 use Rattle.stored.specs.Inputs.{pick}
-use Rattle.flat.specs.Flat.{layoutOf, refusalIn}
+use Rattle.flat.specs.Flat.{layoutOf}
 use Rattle.flat.specs.FlatLoads.{flatRepacked, flatFinished}
 use Rattle.flat.specs.declared.loading.FlatRepacked.{FlatRepacked}
 use Rattle.flat.specs.declared.loading.FlatFinished.{FlatFinished}

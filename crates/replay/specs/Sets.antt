@@ -2,10 +2,10 @@
 use mathlib.Core.List.{List, [], _∷_, _++_}
 use Prim.Native.Nat.{ℕ}
 use lib.ListN.{length, take}
+use Rattle.answers.specs.Answers.{refusalIn}
 use Rattle.base.specs.Numbers.{flag}
 use Rattle.letters.specs.LetterBits.{letterBits}
 use Rattle.letters.specs.AlphaSets.{acceptsAlpha, crossSet}
-use Rattle.flat.specs.Flat.{refusalIn}
 use Rattle.flat.specs.FlatSets.{flatAccepts, flatCross}
 use Rattle.flat.specs.declared.sets.FlatAccepts.{FlatAccepts}
 use Rattle.flat.specs.declared.sets.FlatCross.{FlatCross}

@@ -8,6 +8,7 @@ use native.Mathlib.Omega.{arith}
 use borrow.Author.Needs.{needs}
 use lib.Dec.{eqb}
 use lib.ListN.{length, drop, set, length-set}
+use Rattle.laws.specs.Tests.{measure-falls}
 use Rattle.answers.specs.Answers.{Answer}
 use Rattle.node.specs.Nodes.{accepts, KBWG}
 use Rattle.graph.specs.Runs.{node}
@@ -18,7 +19,7 @@ use Rattle.lookup.specs.declared.by_number.WordByIndex.the-variants as T
 use Rattle.lookup.specs.declared.by_number.Here.{Here}
 use Rattle.lookup.specs.Said.{hereTry, saidWord, WordPut}
 use Rattle.lookup.proofs.WordByIndexLaws.{past-own, HasWords, turn-out, turn-last, turn-stop, turn-down, turn-none, turn-next}
-use Rattle.lookup.proofs.Buffer.{Left, left-start, by-stop, by-full, by-last, by-down, by-next, fall}
+use Rattle.lookup.proofs.Buffer.{Left, left-start, by-stop, by-full, by-last, by-down, by-next}
 use Rattle.lookup.proofs.by_number.word_from.Statement.{statement}
 use Rattle.lookup.proofs.by_number.word_from.Tie as tie
 
@@ -193,7 +194,7 @@ loop-less : tie.Need-loop-less Inv-loop μ-loop
 loop-less c =
     let t = c .before .before in
     let n = length (g (begun (found t))) in
-    fall (left t) _ n (n - c .arc-index .result) (n - begun (found t) .loop .p) (less t) (omega arith)
+    measure-falls (left t) _ n (n - c .arc-index .result) (n - begun (found t) .loop .p) (less t) (omega arith)
 
 loop-again : tie.Need-loop-again Inv-loop μ-loop
 loop-again c =

@@ -7,12 +7,13 @@ use mathlib.Core.List.{List}
 use Prim.Native.Nat.{ℕ, suc, _+_, _-_, _*_, _≤_, _<_}
 use lib.ListN.{length}
 use lib.Seq.{sets}
+use Rattle.laws.specs.Tests.{measure-falls}
 use Rattle.node.specs.Nodes.{KBWG, arc}
 use Rattle.graph.specs.Runs.{node}
 use Rattle.endian.specs.Bytes.{toBytes}
 use Rattle.export.specs.LabelLaws.{labelled-at}
 use Rattle.lxd_blocks.specs.Placed.{nodeIn, LxdReady}
-use Rattle.lxd_blocks.proofs.PlacedLaws.{left-some, RunsWriting, writing-starts, writing-on, writing-over, falls}
+use Rattle.lxd_blocks.proofs.PlacedLaws.{left-some, RunsWriting, writing-starts, writing-on, writing-over}
 use Rattle.lxd_blocks.proofs.nodes.write_runs.Statement.{statement}
 use Rattle.lxd_blocks.proofs.nodes.write_runs.Tie as tie
 
@@ -148,7 +149,7 @@ loop-less c =
     let k = here (written (c .before)) in
     let n = length (g (from k)) in
     let w = turn k .loop in
-    falls (blocks (from k) - w .i) (blocks (from k) - (w .i + 1)) n _ (n - w .p) (omega (arith, more k)) (omega arith)
+    measure-falls (blocks (from k) - w .i) (blocks (from k) - (w .i + 1)) n _ (n - w .p) (omega (arith, more k)) (omega arith)
 
 loop-again : tie.Need-loop-again Inv-loop μ-loop
 loop-again c =

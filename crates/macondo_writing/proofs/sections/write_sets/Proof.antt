@@ -7,7 +7,7 @@ use Prim.Native.Nat.{ℕ, _+_, _-_, _*_, _≤_, _<_}
 use lib.ListN.{length, getD}
 use Rattle.letter_sets.specs.HalvesLaws.{set-halves}
 use Rattle.letter_sets.specs.SetNumbers.{setAt, setsIn}
-use Rattle.graph.specs.TableLaws.{table-length, table-at}
+use Rattle.laws.specs.Tables.{table-length, table-at}
 use Rattle.macondo_writing.proofs.SectionLaws.{SectionWriting, writing-start, writing-room, writing-next, writing-done, section-stored}
 use Rattle.macondo_writing.proofs.sections.write_sets.Statement.{statement}
 use Rattle.macondo_writing.proofs.sections.write_sets.Tie as tie

@@ -5,7 +5,11 @@ use mathlib.Core.List.{List, [], _∷_, _++_, List·Memᴰ, List·Memᴰ·head, 
 use Prim.Native.Nat.{ℕ, zero, suc, _≤_, _<_}
 use native.Mathlib.Omega.{arith}
 use lib.ListN.{length, getD, drop}
-use Rattle.graph.specs.Counting.{table}
+
+-- f of each number below n, in order
+unfoldable pub table : ℕ → (ℕ → ℕ) → List ℕ
+table zero f = []
+table (suc n) f = f zero ∷ table n (λ k. f (suc k))
 
 pub table-length : (n : ℕ) (f : ℕ → ℕ) → length (table n f) ≡ n
 unfolding table
