@@ -6,7 +6,7 @@ use Prim.Native.Nat.{ℕ, _^_, _<_}
 use native.Mathlib.Omega.{arith}
 use lib.Dec.{eqb}
 use Rattle.base.specs.Numbers.{flag, flag-read}
-use Rattle.node.specs.Nodes.{Field, Tile, Accepts, End, Arc, bitsOf, width, fields, tile, arc, accepts, isEnd, values, packed}
+use Rattle.node.specs.Nodes.{Field, Tile, Accepts, End, Arc, fieldBits, width, fields, tile, arc, accepts, isEnd, values, packed}
 use Rattle.node.specs.PackingLaws.{FillsNode, unpack-pack}
 use Rattle.lxd_file.specs.File.{LXD}
 
@@ -32,7 +32,7 @@ pub record Fields (v t : ℕ) (a e : Bool) (r : ℕ) : Type 0 where
   pub below : v < 2 ^ 32
 
 module _ (t : ℕ) (a e : Bool) (r : ℕ) (byte : t < 2 ^ 8) (place : r < 2 ^ 22) where
-  small : (f : Field) → values t a e r f < 2 ^ width (bitsOf LXD f)
+  small : (f : Field) → values t a e r f < 2 ^ width (fieldBits LXD f)
   small Tile = byte
   small Accepts = flag-below a
   small End = flag-below e

@@ -50,11 +50,11 @@ KBWG =
     }
 
 -- the bits of a field
-abbrev pub bitsOf : BitLayout → Field → Bits
-bitsOf y Tile = y .tile
-bitsOf y Accepts = y .accepts
-bitsOf y End = y .end
-bitsOf y Arc = y .arc
+abbrev pub fieldBits : BitLayout → Field → Bits
+fieldBits y Tile = y .tile
+fieldBits y Accepts = y .accepts
+fieldBits y End = y .end
+fieldBits y Arc = y .arc
 
 -- A value for each field.
 abbrev pub Values : Type 0
@@ -63,7 +63,7 @@ Values = Field → ℕ
 -- ---- reading a node in the layout y
 module _ (y : BitLayout) where
   abbrev pub fields : ℕ → Values
-  fields v f = v / 2 ^ bitsOf y f .first % 2 ^ width (bitsOf y f)
+  fields v f = v / 2 ^ fieldBits y f .first % 2 ^ width (fieldBits y f)
 
   abbrev pub tile : ℕ → ℕ
   tile v = fields v Tile
@@ -95,7 +95,7 @@ module _ (y : BitLayout) where
   -- each value at its field's place
   abbrev pub fieldSum : List Field → Values → ℕ
   fieldSum [] x = 0
-  fieldSum (f ∷ fs) x = x f * 2 ^ bitsOf y f .first + fieldSum fs x
+  fieldSum (f ∷ fs) x = x f * 2 ^ fieldBits y f .first + fieldSum fs x
 
   abbrev pub packed : Values → ℕ
   packed x = fieldSum (y .upward) x

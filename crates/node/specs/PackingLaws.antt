@@ -12,13 +12,13 @@ use borrow.Author.Tests.{eqb-true, leb-true, lt-ltb}
 use lib.Dec.{eqb, leb}
 use lib.Pow.{pow-add, pow-pos, shr-shr}
 use Rattle.laws.specs.Cases.{and-left, and-right}
-use Rattle.node.specs.Nodes.{Field, Tile, Accepts, End, Arc, width, BitLayout, KWG, KBWG, bitsOf}
+use Rattle.node.specs.Nodes.{Field, Tile, Accepts, End, Arc, width, BitLayout, KWG, KBWG, fieldBits}
 use Rattle.node.specs.Nodes.{Values, fields, tile, arc, fieldSum, packed, fits}
 
 -- the fields stand one above the other, from the bit `from` to the top of 32
 abbrev pub chained : BitLayout → ℕ → List Field → Bool
 chained y from [] = eqb from 32
-chained y from (f ∷ fs) = eqb (bitsOf y f .first) from && leb from (bitsOf y f .last) && chained y (suc (bitsOf y f .last)) fs
+chained y from (f ∷ fs) = eqb (fieldBits y f .first) from && leb from (fieldBits y f .last) && chained y (suc (fieldBits y f .last)) fs
 
 pub record FillsNode (y : BitLayout) : Type 0 where
   pub chain : chained y 0 (y .upward) ≡ true
@@ -65,26 +65,26 @@ field-below r d a w hr hd =
 module _ (y : BitLayout) where
   -- the first field of a chain, and the chain above it
   record Above (from : ℕ) (f : Field) (fs : List Field) : Type 0 where
-    first : bitsOf y f .first ≡ from
-    rest : chained y (bitsOf y f .first + width (bitsOf y f)) fs ≡ true
+    first : fieldBits y f .first ≡ from
+    rest : chained y (fieldBits y f .first + width (fieldBits y f)) fs ≡ true
 
   above : (from : ℕ) (f : Field) (fs : List Field) → chained y from (f ∷ fs) ≡ true → Above from f fs
   above from f fs c =
-      let l = eqb (bitsOf y f .first) from in
-      let m = leb from (bitsOf y f .last) in
-      let lm = and-left (l && m) (chained y (suc (bitsOf y f .last)) fs) c in
-      let a = eqb-true (bitsOf y f .first) from (and-left l m lm) in
-      let b = leb-true from (bitsOf y f .last) (and-right l m lm) in
-      let n : suc (bitsOf y f .last) ≡ bitsOf y f .first + width (bitsOf y f) = omega arith in
-      record { first = a; rest = rw n at (and-right (l && m) (chained y (suc (bitsOf y f .last)) fs) c) }
+      let l = eqb (fieldBits y f .first) from in
+      let m = leb from (fieldBits y f .last) in
+      let lm = and-left (l && m) (chained y (suc (fieldBits y f .last)) fs) c in
+      let a = eqb-true (fieldBits y f .first) from (and-left l m lm) in
+      let b = leb-true from (fieldBits y f .last) (and-right l m lm) in
+      let n : suc (fieldBits y f .last) ≡ fieldBits y f .first + width (fieldBits y f) = omega arith in
+      record { first = a; rest = rw n at (and-right (l && m) (chained y (suc (fieldBits y f .last)) fs) c) }
 
   -- ---- packing after unpacking
   unpacked-from : (v from : ℕ) (fs : List Field) → chained y from fs ≡ true → v < 2 ^ 32 → fieldSum y fs (fields y v) ≡ v / 2 ^ from * 2 ^ from
   unpacked-from v from [] c h = rw (eqb-true from 32 c) (rw (div-eq-of-lt h) refl)
   unpacked-from v from (f ∷ fs) c h =
       let a = above from f fs c in
-      let p = bitsOf y f .first in
-      let w = width (bitsOf y f) in
+      let p = fieldBits y f .first in
+      let w = width (fieldBits y f) in
       ap (λ n. fields y v f * 2 ^ p + n) (unpacked-from v (p + w) fs (a .rest) h)
       ∙ field-split v p w
       ∙ ap (λ b. v / 2 ^ b * 2 ^ b) (a .first)
@@ -101,13 +101,13 @@ module _ (y : BitLayout) where
       rw (t, r, fits)
 
   -- ---- unpacking after packing
-  module _ (x : Values) (small : (f : Field) → x f < 2 ^ width (bitsOf y f)) where
+  module _ (x : Values) (small : (f : Field) → x f < 2 ^ width (fieldBits y f)) where
     multiple : (from : ℕ) (fs : List Field) → chained y from fs ≡ true → (k : ℕ) × (fieldSum y fs x ≡ k * 2 ^ from)
     multiple from [] c = (0, sym (zero-mul (2 ^ from)))
     multiple from (f ∷ fs) c =
         let a = above from f fs c in
-        let p = bitsOf y f .first in
-        let w = width (bitsOf y f) in
+        let p = fieldBits y f .first in
+        let w = width (fieldBits y f) in
         let m = multiple (p + w) fs (a .rest) in
         let k = x f + m .0 * 2 ^ w in
         (k, ap (λ n. x f * 2 ^ p + n) (m .1) ∙ field-join (x f) (m .0) p w ∙ ap (λ b. k * 2 ^ b) (a .first))
@@ -118,8 +118,8 @@ module _ (y : BitLayout) where
     packed-above from [] c r h f m = absurd (List·Memᴰ·not-nil m)
     packed-above from (g ∷ fs) c r h f m =
         let a = above from g fs c in
-        let p = bitsOf y g .first in
-        let w = width (bitsOf y g) in
+        let p = fieldBits y g .first in
+        let w = width (fieldBits y g) in
         let k = multiple (p + w) fs (a .rest) in
         let hr : r < 2 ^ p = rw (a .first) h in
         ⊎-elim
