@@ -163,9 +163,9 @@ module _ (g : Graph) (nodes counted : List ℕ) (walk : Walkable g nodes counted
       (more-found p base q front u us l f (subst (λ x. NotIn x front) (sym e) n) k before b ih)
   more-tile p base t u us k ih r (ends-none n) = no-word (n (u ∷ us))
 
-  pub index : (w : Word) → Indexed w
+  pub indexed : (w : Word) → Indexed w
   unfolding indexFrom
-  index [] p base h n k = no-word (no-empty p)
-  index (t ∷ []) p base h n k = last-tile p base t k (passed limit nodes counted p base t) (pass p base t h n k)
-  index (t ∷ u ∷ us) p base h n k =
-      more-tile p base t u us k (index (u ∷ us)) (passed limit nodes counted p base t) (pass p base t h n k)
+  indexed [] p base h n k = no-word (no-empty p)
+  indexed (t ∷ []) p base h n k = last-tile p base t k (passed limit nodes counted p base t) (pass p base t h n k)
+  indexed (t ∷ u ∷ us) p base h n k =
+      more-tile p base t u us k (indexed (u ∷ us)) (passed limit nodes counted p base t) (pass p base t h n k)

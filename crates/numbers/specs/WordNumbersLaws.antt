@@ -24,7 +24,7 @@ use Rattle.lookup.specs.Walks.{wordIndex, wordByIndex}
 use Rattle.laws.specs.Tables.{table-length}
 use Rattle.numbers.specs.LentLaws.{count-at, walkable, lent-parts}
 use Rattle.numbers.specs.ByNumber.{named, other-numbers}
-use Rattle.numbers.specs.ByWord.{IndexIs, number, no-word, index}
+use Rattle.numbers.specs.ByWord.{IndexIs, number, no-word, indexed}
 use Rattle.numbers.specs.Walkable.{Walkable}
 use Rattle.numbers.specs.WordNumbers.{GraphLent, wordAt, WordNumbers}
 
@@ -47,7 +47,7 @@ module _ (limit : ℕ) (g : Graph) (c : Counts limit g) (up : ascends KBWG g ≡
 
   index-of : (p : ℕ) → 0 < p → p < length g → (w : Word) → Index p w (wordIndex limit nodes counted p w)
   unfolding wordIndex
-  index-of p z h w = index g (lentPart nodes) (lentPart counted) walk up limit w p 0 h (omega arith) (let f = c .few p h in omega arith)
+  index-of p z h w = indexed g (lentPart nodes) (lentPart counted) walk up limit w p 0 h (omega arith) (let f = c .few p h in omega arith)
 
   back : (p i : ℕ) → i < count KBWG g p → {x : Answer} → Index p (wordAt g p i) x → x ≡ gives (i ∷ [])
   back p i h (number {i = j} l e n) =

@@ -54,7 +54,7 @@ impl CaseTally {
         }
         match verdict {
             Verdict::Same => self.case(call),
-            Verdict::Different => self.difference().case(call),
+            Verdict::Different => self.with_difference().case(call),
             Verdict::Malformed => self.malformed(),
         }
     }
@@ -67,7 +67,7 @@ impl CaseTally {
         self
     }
 
-    fn difference(mut self) -> CaseTally
+    fn with_difference(mut self) -> CaseTally
         ensures { λ r. ⌜ r ≡ withDifference self ⌝ }
     {
         self.differences = one_more(self.differences);

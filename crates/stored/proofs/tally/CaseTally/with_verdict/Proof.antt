@@ -21,8 +21,8 @@ case-requires c κs = search needs
 enum-told-2 : tie.Need-enum-told-2
 enum-told-2 c = search needs
 
-difference-requires : tie.Need-difference-requires
-difference-requires c κs = search needs
+with-difference-requires : tie.Need-with-difference-requires
+with-difference-requires c κs = search needs
 
 case-requires-2 : tie.Need-case-requires-2
 case-requires-2 c κs = search needs
@@ -39,7 +39,7 @@ returns-2 c = rw (lt-ltb _ _ (c .before .before .before .if1 .left), c .before .
 returns-3 : tie.Need-returns-3
 returns-3 c =
     let s = c .before .before in
-    rw (lt-ltb _ _ (s .before .before .if1 .left), s .enum-told2 .given .1) (c .case2 .ensures ∙ ap (withCase _) (c .before .difference .ensures))
+    rw (lt-ltb _ _ (s .before .before .if1 .left), s .enum-told2 .given .1) (c .case2 .ensures ∙ ap (withCase _) (c .before .with-difference .ensures))
 
 returns-4 : tie.Need-returns-4
 returns-4 c = rw (lt-ltb _ _ (c .before .before .before .if1 .left), c .before .enum-told3 .given .1) (c .malformed2 .ensures)
@@ -53,7 +53,7 @@ with-verdict-spec =
     enum-told
     case-requires
     enum-told-2
-    difference-requires
+    with-difference-requires
     case-requires-2
     enum-told-3
     malformed-requires-2
