@@ -1,2 +1,3 @@
+-- Demand 3 as a theorem, and the five nodes that meet its premises.
 pub mod Demand3Laws
 pub mod Witness
