@@ -3,11 +3,12 @@
 use mathlib.Core.Path.{_≡_, sym, ap, _∙_}
 use mathlib.Core.List.{List, _++_}
 use mathlib.Core.Option.{none, some}
-use Prim.Native.Nat.{ℕ, _≤_, _<_}
+use Prim.Native.Nat.{ℕ, _+_, _-_, _≤_, _<_}
 use native.Mathlib.Omega.{arith}
-use lib.ListN.{length, drop, set, length-set, length-append, length-drop}
-use lib.Seq.{drop-set-lt, drop-at}
+use lib.ListN.{length, drop, set, replicate, length-set, length-append, length-drop, length-replicate}
+use lib.Seq.{drop-set-lt, drop-at, drop-drop}
 use Rattle.laws.specs.Cases.{some≢none}
+use Rattle.laws.specs.Cleared.{cleared}
 use Rattle.answers.specs.Answers.{Answer, Row, firstOf}
 
 -- a list as long as before, and the same from place n on
@@ -24,6 +25,15 @@ kept-set n l i v h = record { size = length-set l i v; rest = drop-set-lt n l i 
 -- a list whose first n numbers are others
 pub kept-part : (n : ℕ) (l part : List ℕ) → n ≤ length l → length part ≡ n → Kept n l (part ++ drop n l)
 kept-part n l part h e = record { size = simp (length-append, length-drop) (omega arith); rest = drop-at part (drop n l) n e }
+
+pub kept-further : (m n : ℕ) (l r : List ℕ) → n ≤ m → Kept n l r → Kept m l r
+kept-further m n l r h k =
+    let e : n + (m - n) ≡ m = omega arith in
+    let far : (s : List ℕ) → drop m s ≡ drop (m - n) (drop n s) = λ s. ap (λ i. drop i s) (sym e) ∙ sym (drop-drop (m - n) n s) in
+    record { size = k .size; rest = far r ∙ ap (drop (m - n)) (k .rest) ∙ sym (far l) }
+
+pub cleared-kept : (n : ℕ) (l : List ℕ) → n ≤ length l → Kept n l (cleared n l)
+cleared-kept n l h = kept-part n l (replicate n 0) h (length-replicate n 0)
 
 -- A work list of n numbers, "free afterwards": where a check before the walk refuses it is as before.
 pub record WorkKept (checks : Row) (n : ℕ) (before after : List ℕ) : Type 0 where

@@ -7,14 +7,15 @@ use mathlib.Core.List.{List, [], _∷_, _++_, map, List·Memᴰ}
 use Prim.Native.Nat.{ℕ, suc, _+_, _-_, _*_, _≤_, _<_, max}
 use native.Mathlib.Numerals.{add-one}
 use native.Mathlib.Omega.{arith}
-use lib.ListN.{length, getD, set, take, length-set}
+use lib.ListN.{length, getD, set, take}
 use lib.Seq.{slice, slice-cons, slice-empty, length-take-le}
 use borrow.Author.Tests.{lt-ltb, le-ltb}
 use Rattle.node.specs.Nodes.{KBWG, arc}
 use Rattle.graph.specs.Runs.{Graph}
+use Rattle.graph.specs.Lent.{Kept, kept-then, kept-set, kept-further, cleared-kept}
 use Rattle.export.specs.Starts.{arcsFrom, deeper}
 use Rattle.export.specs.Blocks.{each, met}
-use Rattle.laws.specs.Cleared.{cleared, cleared-length, cleared-at}
+use Rattle.laws.specs.Cleared.{cleared, cleared-at}
 use Rattle.block_record.specs.Record.{blocksIn, orderIn, Pushed, HoldsBlocks}
 use Rattle.block_record.specs.RecordLaws.{holds-room, met-old, met-new, push-holds, holds-past, fresh-of, stale-of, holds-here, holds-at, holds-none}
 use Rattle.block_record.specs.Depths.{depthAt, Depth, Deepest, Depths, Below, NoneBut, NoneLeft}
@@ -60,7 +61,7 @@ module _ {g : Graph} {labels w : List ℕ} {t : BlockTally} (r : BlocksRecorded 
       known-reaches l = record {
         numbered = record {
           holds = holds-at (sym (met-old (childrenOf g labels) c seen p (stale-of (r .holds) p h old))) (r .holds);
-          size = refl;
+          past = record { size = refl; rest = refl };
         };
         depth = depth-known;
         within = l;
@@ -86,11 +87,15 @@ module _ {g : Graph} {labels w : List ℕ} {t : BlockTally} (r : BlocksRecorded 
         → w₂ ≡ set w₁ (depthAt (length g) p) 0 → BlockOpened g labels w t p w₂ t₁
     opens w₁ w₂ t₁ size e a b =
         let n = length g in
+        let f = few in
+        let one = set w p (t .nodes + 1) in
+        let two = set one (n + t .blocks) p in
         let holds = push-holds p (r .holds) h (omega (arith, r .room)) (fresh-of (r .holds) p h new) e a in
         subst (λ x. BlockOpened g labels w t p x t₁) (sym (b ∙ ap (λ x. set x (depthAt n p) 0) (a .list))) (record {
           numbered = record {
             holds = holds-past (depthAt n p) 0 (omega arith) (subst (λ x. HoldsBlocks n (sizeOf g labels) 0 x t₁ (seen ++ p ∷ [])) (a .list) holds);
-            size = simp length-set refl;
+            past = kept-then (kept-set (3 * n) w p (t .nodes + 1) (omega arith))
+                (kept-then (kept-set (3 * n) one (n + t .blocks) p (omega arith)) (kept-set (3 * n) two (depthAt n p) 0 (omega arith)));
           };
           depths = opened-depths g w p t h few (r .room) (r .depths);
           but = opened-but g w p t h few (r .room);
@@ -106,7 +111,7 @@ metFrom g labels c arcs count seen i = each (λ s q. met (childrenOf g labels) (
 pub record ArcWalk (g : Graph) (labels : List ℕ) (c p : ℕ) (arcs : List ℕ) (count : ℕ) (w₀ : List ℕ) (t₀ : BlockTally)
     (w : List ℕ) (t : BlockTally) (runs i : ℕ) : Type 0 where
   pub within : i ≤ count
-  pub size : length w ≡ length w₀
+  pub past : Kept (3 * length g) w₀ w
   pub holds : HoldsBlocks (length g) (sizeOf g labels) 0 w t (orderIn (length g) w t)
   pub same : metFrom g labels c arcs count (orderIn (length g) w t) i ≡ metFrom g labels c arcs count (orderIn (length g) w₀ t₀) 0
   pub depths : Depths g w
@@ -118,7 +123,7 @@ pub arc-walk-start : {g : Graph} {labels w : List ℕ} {t : BlockTally} {p : ℕ
     → {arcs : List ℕ} {count : ℕ} → take count arcs ≡ arcsOf g labels p → {c : ℕ} → ArcWalk g labels c p arcs count w₀ t₀ w₀ t₀ 0 0
 arc-walk-start {g} {labels} {p = p} o e = record {
   within = omega arith;
-  size = refl;
+  past = record { size = refl; rest = refl };
   holds = holds-here (o .numbered .holds);
   same = refl;
   depths = o .depths;
@@ -131,7 +136,7 @@ arc-walk-start {g} {labels} {p = p} o e = record {
 module _ {g : Graph} {labels : List ℕ} {c p : ℕ} {arcs : List ℕ} {count : ℕ} {w₀ : List ℕ} {t₀ : BlockTally} {w : List ℕ} {t : BlockTally} {runs i : ℕ}
     (k : ArcWalk g labels c p arcs count w₀ t₀ w t runs i) where
   pub walk-recorded : MacondoReady g labels → 3 * length g ≤ length w₀ → BlocksRecorded g labels w t
-  walk-recorded ready room = record { ready = ready; room = omega (arith, k .size); holds = k .holds; depths = k .depths }
+  walk-recorded ready room = record { ready = ready; room = omega (arith, k .past .size); holds = k .holds; depths = k .depths }
 
   -- ---- the next arc
   module _ (q : ℕ) (h : i < count) (fits : count ≤ length arcs) (e : q ≡ arc KBWG (getD arcs i 0)) where
@@ -141,7 +146,7 @@ module _ {g : Graph} {labels : List ℕ} {c p : ℕ} {arcs : List ℕ} {count : 
         let on : slice i count arcs ≡ getD arcs i 0 ∷ slice (i + 1) count arcs = rw (add-one i) (slice-cons i count arcs 0 h fits) in
         record {
           within = omega arith;
-          size = n .numbered .size ∙ k .size;
+          past = kept-then (k .past) (n .numbered .past);
           holds = holds-here (n .numbered .holds);
           same = ap (λ o. metFrom g labels c arcs count o (i + 1))
               (n .numbered .holds .order ∙ ap (met (childrenOf g labels) (c - 1) (orderIn (length g) w t)) e)
@@ -182,12 +187,12 @@ module _ {g : Graph} {labels : List ℕ} {c p : ℕ} {arcs : List ℕ} {count : 
           → BlocksReached g labels v u c p w′ (record { tally = t; runs = runs + 1 })
       walk-done w′ a =
           let n = length g in
-          let room : 3 * n ≤ length w = omega (arith, r .room, k .size, o .numbered .size) in
+          let room : 3 * n ≤ length w = omega (arith, r .room, k .past .size, o .numbered .past .size) in
           let some : runs + 1 ≢ 0 = λ y. omega arith in
           subst (λ x. BlocksReached g labels v u c p x (record { tally = t; runs = runs + 1 })) (sym a) (record {
             numbered = record {
               holds = holds-past (depthAt n p) (runs + 1) (omega arith) (holds-at all-met (k .holds));
-              size = length-set w (depthAt n p) (runs + 1) ∙ k .size ∙ o .numbered .size;
+              past = kept-then (o .numbered .past) (kept-then (k .past) (kept-set (3 * n) w (depthAt n p) (runs + 1) (omega arith)));
             };
             depth = depth-found;
             within = let s = k .short in omega arith;
@@ -204,14 +209,16 @@ module _ (w w′ : List ℕ) {g : Graph} {labels : List ℕ} (ready : MacondoRea
   pub clear-at : (p : ℕ) → p < length g → getD w′ p 0 ≡ 0
   clear-at p h = ap (λ l. getD l p 0) e ∙ cleared-at (length g) w p h
 
-  clear-length : length w′ ≡ length w
-  clear-length = ap length e ∙ cleared-length (length g) w (omega arith)
+  clear-past : Kept (3 * length g) w w′
+  clear-past =
+      let n = length g in
+      subst (Kept (3 * n) w) (sym e) (kept-further (3 * n) n w (cleared n w) (omega arith) (cleared-kept n w (omega arith)))
 
   pub clear-recorded : (t : BlockTally) → t .blocks ≡ 0 → t .nodes ≡ 0 → BlocksRecorded g labels w′ t
   clear-recorded t b n =
       record {
         ready = ready;
-        room = omega (arith, clear-length);
+        room = omega (arith, clear-past .size);
         holds = holds-here (holds-none (length g) (sizeOf g labels) 0 w′ t clear-at b n);
         depths = depths-none g w′ clear-at .0;
       }
@@ -224,7 +231,7 @@ module _ (w w′ : List ℕ) {g : Graph} {labels : List ℕ} (ready : MacondoRea
   clear-numbering t z s v (Done r) n = (
     record {
       holds = holds-at (ap (λ o. met (childrenOf g labels) 64 (blocksIn (length g) w′ o) s) z) (n .numbered .holds);
-      size = n .numbered .size ∙ clear-length;
+      past = kept-then clear-past (n .numbered .past);
     },
     n .depth,
     n .depth 64 ∙ le-ltb 64 (r .runs) (n .within),

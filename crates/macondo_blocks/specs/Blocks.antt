@@ -9,6 +9,7 @@ use Rattle.laws.specs.Lists.{All, filtered}
 use Rattle.laws.specs.Sorting.{inserted, insertedAll}
 use Rattle.node.specs.Nodes.{KBWG, tile}
 use Rattle.graph.specs.Runs.{Graph}
+use Rattle.graph.specs.Lent.{Kept}
 use Rattle.export.specs.Starts.{hasArc, deeper}
 use Rattle.export.specs.Blocks.{met}
 use Rattle.block_record.specs.Record.{orderIn, HoldsBlocks}
@@ -46,10 +47,10 @@ pub record BlocksRecorded (g : Graph) (labels : List ℕ) (w : List ℕ) (t : Bl
   pub holds : HoldsBlocks (length g) (sizeOf g labels) 0 w t (orderIn (length g) w t)
   pub depths : Depths g w
 
--- what numbering leaves: the record of the blocks in a list as long as before
+-- what numbering leaves: the record of the blocks in the list, and the numbers past the depths as before
 pub record BlocksNumbered (g : Graph) (labels : List ℕ) (w w′ : List ℕ) (t : BlockTally) (blocks : List ℕ) : Type 0 where
   pub holds : HoldsBlocks (length g) (sizeOf g labels) 0 w′ t blocks
-  pub size : length w′ ≡ length w
+  pub past : Kept (3 * length g) w w′
 
 -- the same of a block and what its arcs lead to, where a record stands and a chain of c runs is left: the runs in the longest chain from
 -- it, which are no more; the depths of all blocks that are not being followed; and that no other block is followed than before

@@ -12,10 +12,9 @@ use Rattle.graph.specs.ChecksLaws.{Fit}
 use Rattle.graph.specs.Counting.{IsCounted, countLimit}
 use Rattle.count.specs.declared.walk.MaybeNode.{MaybeNode}
 use Rattle.count.specs.declared.walk.MaybeNode.the-variants.{Nothing, At}
-use Rattle.graph.specs.Lent.{Kept, kept-then}
+use Rattle.graph.specs.Lent.{Kept, kept-then, kept-further, cleared-kept}
 use Rattle.count.specs.CountWalk.{WalkedIs, ReachesIs}
 use Rattle.laws.specs.Cleared.{cleared-at}
-use Rattle.count.proofs.Lists.{cleared-kept, kept-further}
 use Rattle.count.proofs.Rows.{counts-room, work-room, row-fit}
 use Rattle.count.proofs.Results.{count-start, loop-answer, many-answer, all-answer}
 use borrow.Author.Needs.{needs}

@@ -251,7 +251,7 @@ module _ (t : ℕ) where
     s = start known
 
     still-long : length (c .loop .work) ≡ length (lent s)
-    still-long = c .loop .inv .size ∙ as-long followed
+    still-long = c .loop .inv .past .size ∙ as-long followed
 
     next-below : (q : ℕ) → List·Memᴰ q (arcsFrom (g s) (p s)) → Below (g s) (c .loop .work) q
     next-below = walk-below (c .loop .inv) (opened followed) (below s)
