@@ -1,4 +1,5 @@
-/* Loads a lexicon in pieces, looks a word up and names a number: words FILE WORD NUMBER. Its letters are A to Z, tiles 1 to 26. */
+/* Loads a lexicon in pieces, looks a word up, names a number and shows the page of words from that number on: words FILE WORD NUMBER. Its
+ * letters are A to Z, tiles 1 to 26. */
 #include <stdio.h>
 #include <stdlib.h>
 #include <string.h>
@@ -7,6 +8,9 @@
 
 /* A piece of any length will do; this one cuts inside nodes. */
 enum { PIECE = 7, LETTERS = 26, LONGEST = 64 };
+
+/* A page of the text service. */
+enum { ROWS = 24, COLUMNS = 40 };
 
 static int refused(const char *call, uint32_t refusal)
 {
@@ -121,6 +125,25 @@ static int name(const uint32_t *nodes, const uint32_t *counts, size_t n, uint32_
     return 0;
 }
 
+/* Shows the page of words from the number on, in nodes that are counted. */
+static int show_page(const uint32_t *nodes, const uint32_t *counts, size_t n, uint32_t number)
+{
+    static const uint8_t title[] = {'W', 'O', 'R', 'D', 'S'};
+    uint32_t labels[LETTERS + 1], refusal;
+    uint8_t page[ROWS * COLUMNS];
+    uint32_t i;
+
+    labels[0] = '?';
+    for (i = 1; i <= LETTERS; i++)
+        labels[i] = 'A' - 1 + i;
+    refusal = machirsun_write_page(nodes, n, counts, n, labels, LETTERS + 1, title, sizeof title, nodes[0] >> 8, number, page, sizeof page);
+    if (refusal != 0)
+        return refused("write_page", refusal);
+    for (i = 0; i < ROWS; i++)
+        printf("%.*s\n", COLUMNS, (const char *)&page[i * COLUMNS]);
+    return 0;
+}
+
 int main(int argc, char **argv)
 {
     FILE *file;
@@ -166,6 +189,8 @@ int main(int argc, char **argv)
     status = look_up(nodes, counts, n, argv[2], tiles, letters);
     if (status == 0)
         status = name(nodes, counts, n, number);
+    if (status == 0)
+        status = show_page(nodes, counts, n, number);
     free(nodes);
     free(counts);
     free(work);

@@ -50,27 +50,31 @@ extern "C" {
  *   8   the largest arc is at least the number of nodes; carries that arc              finish, count_words, to_macondo, to_lxd
  *   9   the last node is no end                                                        finish, count_words, to_macondo, to_lxd
  *  10   under 2 nodes or over 16,777,216                                               count_words, to_macondo, to_lxd
- *  11   a lent list is too short. count_words: counts under N or work under 2 x N;     count_words, letter_bits, to_macondo, to_lxd
- *       letter_bits: either list under N; to_macondo, to_lxd: work under 8 x N, or,
- *       last of all checks, the file buffer under the file's length
+ *  11   a lent list is too short. count_words: counts under N or work under 2 x N;     count_words, letter_bits, to_macondo, to_lxd,
+ *       letter_bits: either list under N; to_macondo, to_lxd: work under 8 x N, or,    write_page
+ *       last of all checks, the file buffer under the file's length; write_page:
+ *       the page buffer under 960 bytes
  *  12   a node can be reached from itself; carries such a node                         count_words
  *  13   some node (to_lxd: the start) has 4,294,967,295 words or more                  count_words, to_lxd
  *  14   a step leads to a node or a count that is not lent                             seek, cursor_at, cursor_step, word_index,
- *                                                                                      word_by_index, accepts_alpha, alpha_cross_set
- *  15   a difference is below 0, or a sum above 4,294,967,295: the counts are not      word_index, word_by_index
+ *                                                                                      word_by_index, accepts_alpha, alpha_cross_set,
+ *                                                                                      write_page
+ *  15   a difference is below 0, or a sum above 4,294,967,295: the counts are not      word_index, word_by_index, write_page
  *       the graph's
  *  16   the word buffer is full                                                        word_by_index
  *  17   the tally has over 64 entries                                                  accepts_alpha, alpha_cross_set
  *  18   no label, or over 50                                                           to_macondo
- *  19   a text is too long: a name over 255 bytes, a title over 31, a date over 19     to_macondo, to_lxd
+ *  19   a text is too long: a name over 255 bytes, a title over 31, a date over 19;    to_macondo, to_lxd, write_page
+ *       write_page: a title over 40 bytes
  *  20   the title or the date has a code point over FF hexadecimal                     to_lxd
- *  21   a tile has no label                                                            to_macondo, to_lxd
+ *  21   a tile has no label; write_page: a tile that is shown                          to_macondo, to_lxd, write_page
  *  22   over 64 runs, each reached by an arc of the one before, from the start         to_macondo, to_lxd
  *  23   to_macondo: the label of a letter (tiles 1 up, used or not, not the            to_macondo, to_lxd
  *       blank's) is not one code point; to_lxd: the label of a tile that is reached
  *       from the start, the blank's too, is over FF hexadecimal
  *  24   runs do not ascend                                                             to_macondo
  *  25   the file would have too many nodes: over 2^24 (to_lxd: 2^22)                   to_macondo, to_lxd
+ *  26   a byte of the title or a shown label is outside 20 to 7E hexadecimal           write_page
  *
  * Where several apply, the first in the order that the call's comment gives is answered.
  */
@@ -99,7 +103,8 @@ enum {
     MACHIRSUN_CHAIN_TOO_LONG = 22,
     MACHIRSUN_BAD_LETTER = 23,
     MACHIRSUN_NOT_ASCENDING = 24,
-    MACHIRSUN_TOO_MANY_NODES = 25
+    MACHIRSUN_TOO_MANY_NODES = 25,
+    MACHIRSUN_NOT_PRINTABLE = 26
 };
 
 /* ---- Layouts and formats: 0 is the first, every other number the second -------------------------------------------------------- */
@@ -300,6 +305,21 @@ machirsun_file machirsun_to_macondo(const uint32_t *nodes, size_t nodes_len, con
 machirsun_file machirsun_to_lxd(const uint32_t *nodes, size_t nodes_len, const uint32_t *labels, size_t labels_len,
                                 const uint32_t *title, size_t title_len, const uint32_t *date, size_t date_len, uint32_t *work,
                                 size_t work_len, uint8_t *file, size_t file_len);
+
+/* ---- Pages of words for a text service ------------------------------------------------------------------------------------------- */
+
+/* Writes a page of 24 rows of 40 bytes, without line ends, blanks (20 hexadecimal) filled in: the first 960 bytes of the page buffer; bytes past
+ * them stay. Row 0 is the title, at most 40 bytes. Row r (1 to 23) is for the number first + r - 1 among the words from the start: the
+ * number right-aligned in 10 columns, a blank, the labels of the word's first 28 tiles, one byte each, in 28 columns, and `+` where the word has
+ * more tiles, else a blank. From the first number that names no word, or is over 4,294,967,295, rows are blank.
+ *
+ * A word is the one that machirsun_word_by_index puts, start 0 included; its walk stops at the 29th tile, and ends the page where it finds none.
+ * Labels are one number a tile, the blank's (tile 0) first; only those of tiles that are shown are read. Answers just the number of
+ * the refusal, or 0; after any refusal nothing is written. Order: 19, 11, 14 or 15 (the first that the rows' walks meet, one row after the
+ * other), 21 for a tile of any row, 26 for the title and the label of a tile of any row. */
+uint32_t machirsun_write_page(const uint32_t *nodes, size_t nodes_len, const uint32_t *counts, size_t counts_len,
+                              const uint32_t *labels, size_t labels_len, const uint8_t *title, size_t title_len, uint32_t start,
+                              uint32_t first, uint8_t *page, size_t page_len);
 
 #ifdef __cplusplus
 }

@@ -4,6 +4,7 @@
 mod files;
 mod loading;
 mod numbers;
+mod pages;
 mod sets;
 
 pub use files::Fit;

@@ -6,6 +6,8 @@ mod lexicons;
 mod limits;
 mod loads;
 mod odd;
+mod page_limits;
+mod pages;
 mod small;
 mod texts;
 
@@ -42,6 +44,7 @@ pub fn run(checker: &mut Checker, size: Size, seed: u64) {
     loads::run(checker, size, &mut random());
     lexicons::run(checker, size, &mut random());
     limits::run(checker, size, &mut random());
+    page_limits::run(checker, size, &mut random());
     if size == Size::Full {
         big::run(checker, &mut random());
     }

@@ -25,6 +25,16 @@ pub struct LxdTexts {
     pub date: Vec<u32>,
 }
 
+/// What a page is asked for, besides the nodes and the buffer.
+#[derive(Clone, Copy, Debug)]
+pub struct PageOf<'a> {
+    pub counts: &'a [u32],
+    pub labels: &'a [u32],
+    pub title: &'a [u8],
+    pub start: u32,
+    pub first: u32,
+}
+
 fn misfit(refusal: u32, node: usize, tile: u8, arc: u32) -> Answer {
     Answer {
         refusal,
@@ -239,6 +249,25 @@ pub fn to_lxd(nodes: &[u32], texts: &LxdTexts, work: &mut [u32], file: &mut [u8]
             work.len(),
             file.as_mut_ptr(),
             file.len(),
+        )
+    })
+}
+
+pub fn write_page(nodes: &[u32], asked: &PageOf, page: &mut [u8]) -> Answer {
+    Answer::refused(unsafe {
+        ffi::machirsun_write_page(
+            nodes.as_ptr(),
+            nodes.len(),
+            asked.counts.as_ptr(),
+            asked.counts.len(),
+            asked.labels.as_ptr(),
+            asked.labels.len(),
+            asked.title.as_ptr(),
+            asked.title.len(),
+            asked.start,
+            asked.first,
+            page.as_mut_ptr(),
+            page.len(),
         )
     })
 }

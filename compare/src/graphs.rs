@@ -112,6 +112,19 @@ pub fn chain(runs: usize, downwards: bool) -> Vec<u32> {
     nodes
 }
 
+/// Nodes from 2 on, each a run with an arc to the next, that spell a word of each of these lengths: tiles 0 to 5 in turns. The lengths ascend.
+pub fn line(lengths: &[usize]) -> Vec<u32> {
+    let longest = lengths.last().copied().unwrap_or(1);
+    let tiles = (1..=longest).map(|len| {
+        let arc = if len < longest { len as u32 + 2 } else { 0 };
+        node(len as u8 % 6, lengths.contains(&len), true, arc)
+    });
+    [node(0, false, true, 2), node(0, false, true, 0)]
+        .into_iter()
+        .chain(tiles)
+        .collect()
+}
+
 /// A chain of so many runs that starts at node 0: its arc is 0, and its run goes on to node 1.
 pub fn chain_from_0(runs: usize) -> Vec<u32> {
     let on = (1..=runs).map(|at| {

@@ -1,5 +1,5 @@
-//! Document 01, read once more and on its own: what each call answers and what it leaves in the lent buffers, by the paper's words and not
-//! by the engine's code or the Rust's. Written to be plainly right; how long it takes hardly matters.
+//! Document 01 and the requests that add to it, read once more and on their own: what each call answers and what it leaves in the lent
+//! buffers, by the paper's words and not by the engine's code or the Rust's. Written to be plainly right; how long it takes hardly matters.
 
 pub mod alpha;
 pub mod counting;
@@ -7,6 +7,7 @@ pub mod loading;
 pub mod lxd;
 pub mod macondo;
 pub mod nodes;
+pub mod pages;
 pub mod runs;
 pub mod walks;
 pub mod words;

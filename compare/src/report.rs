@@ -22,11 +22,12 @@ pub enum Call {
     AlphaCrossSet,
     ToMacondo,
     ToLxd,
+    WritePage,
 }
 
 use Call::*;
 
-pub const CALLS: [Call; 16] = [
+pub const CALLS: [Call; 17] = [
     Begin,
     Feed,
     Finish,
@@ -43,6 +44,7 @@ pub const CALLS: [Call; 16] = [
     AlphaCrossSet,
     ToMacondo,
     ToLxd,
+    WritePage,
 ];
 
 #[derive(Clone, Copy, Default)]
@@ -55,8 +57,8 @@ pub struct Line {
     pub refusals: [u64; REFUSALS],
 }
 
-/// 0, and 01's numbers 1 to 25.
-pub const REFUSALS: usize = 26;
+/// 0, and the refusals 1 to 26.
+pub const REFUSALS: usize = 27;
 
 /// Where the engine and what it is held to differ.
 pub struct Difference {

@@ -4,10 +4,10 @@
 //! nodes without words again and again, and the program's thread has a stack that its deepest recursion fits. A panic is caught; as
 //! none is to be expected where it is asked, it comes out as the refusal `PANICKED`, which no other answer equals.
 
-use crate::engine::{LxdTexts, MacondoTexts};
+use crate::engine::{LxdTexts, MacondoTexts, PageOf};
 use crate::paper::counting::steps;
 use std::collections::HashMap;
-use std::panic::{AssertUnwindSafe, catch_unwind};
+use std::panic::{AssertUnwindSafe, catch_unwind, resume_unwind};
 use wolges::alphabet::Alphabet;
 use wolges::kwg::{Kwg, Node, Node22, Node24, kbwg_from_bytes_alloc, repack_in_place};
 use wolges::lexport::{self, MacondoFormat};
@@ -194,6 +194,8 @@ pub fn word_index(graph: &Graph, counts: &[u32], start: u32, word: &[u8]) -> Ans
     })
 }
 
+const FEWER_WORDS: &str = "the word graph has fewer words than the index";
+
 /// The tiles put, and whether the word is whole.
 pub fn word_by_index(
     graph: &Graph,
@@ -206,12 +208,55 @@ pub fn word_by_index(
         let put = graph.get_word_by_index(counts, start as i32, number, |tile| tiles.push(tile));
         match put.map_err(|message| message.to_string()) {
             Ok(()) => Ok((tiles, true)),
-            Err(message) if message == "the word graph has fewer words than the index" => {
-                Ok((tiles, false))
-            }
+            Err(message) if message == FEWER_WORDS => Ok((tiles, false)),
             Err(message) => Err(refused(&message)),
         }
     })
+}
+
+// What the Rust's walk is left with at the first tile that has no room: it may meet a panic later, or never end.
+struct NoRoom;
+
+// The first tiles of a word, as many as there is room for, and whether it has more; none where there are fewer words.
+fn first_tiles(
+    graph: &Graph,
+    counts: &[u32],
+    start: u32,
+    number: u32,
+    room: usize,
+) -> Answered<Option<(Vec<u8>, bool)>> {
+    let mut tiles = Vec::new();
+    let put = |tile| {
+        if tiles.len() == room {
+            resume_unwind(Box::new(NoRoom));
+        }
+        tiles.push(tile);
+    };
+    let walk = || graph.get_word_by_index(counts, start as i32, number, put);
+    match catch_unwind(AssertUnwindSafe(walk)) {
+        Ok(Ok(())) => Ok(Some((tiles, false))),
+        Ok(Err(message)) if message.to_string() == FEWER_WORDS => Ok(None),
+        Ok(Err(message)) => Err(refused(&message.to_string())),
+        Err(left) if left.is::<NoRoom>() => Ok(Some((tiles, true))),
+        Err(_) => Err(Refused::plain(PANICKED)),
+    }
+}
+
+/// A page of the Rust's words, put into columns by its standard library. The title and the labels that are shown must be ASCII.
+pub fn page(graph: &Graph, asked: &PageOf) -> Answered<Vec<u8>> {
+    let character = |label: u32| char::from_u32(label).unwrap_or(char::REPLACEMENT_CHARACTER);
+    let title: String = asked.title.iter().map(|&byte| char::from(byte)).collect();
+    let mut page = format!("{title:<40}");
+    for number in (asked.first..=u32::MAX).take(23) {
+        let Some((tiles, more)) = first_tiles(graph, asked.counts, asked.start, number, 28)? else {
+            break;
+        };
+        let labels = tiles.iter().map(|&tile| asked.labels[usize::from(tile)]);
+        let word: String = labels.map(character).collect();
+        let last = if more { "+" } else { " " };
+        page += &format!("{number:>10} {word:<28}{last}");
+    }
+    Ok(format!("{page:<960}").into_bytes())
 }
 
 pub fn letter_bits(graph: &Graph) -> Answered<(Vec<u64>, Vec<u64>)> {

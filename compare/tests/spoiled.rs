@@ -67,7 +67,7 @@ fn changes(call: Call) -> Vec<Change> {
         Call::Feed => (&[Taken], 1),
         Call::Finish => (&[Value], 1),
         Call::LoadInPieces => (&[Begun, Taken, Value], 2),
-        Call::Repack => (&[], 1),
+        Call::Repack | Call::WritePage => (&[], 1),
         Call::CountWords | Call::LetterBits => (&[], 2),
         Call::Seek | Call::CursorAt | Call::CursorStep | Call::WordIndex => (&[Value, Flag], 0),
         Call::WordByIndex => (&[Value, Flag], 1),

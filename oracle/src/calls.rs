@@ -10,6 +10,7 @@ mod macondo;
 mod nodes;
 mod numbers;
 mod outcome;
+mod pages;
 mod samples;
 mod trial;
 
@@ -64,6 +65,7 @@ const FAMILIES: &[Family] = &[
     letters::FAMILY,
     macondo::FAMILY,
     lxd::FAMILY,
+    pages::FAMILY,
 ];
 
 pub fn find_list(name: &str) -> Option<&'static Family> {

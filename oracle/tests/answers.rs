@@ -260,6 +260,83 @@ fn a_refused_file_says_why() {
     }
 }
 
+// The rows of a page, and blanks to its end.
+fn page(rows: &[&str]) -> String {
+    let rows: String = rows.iter().map(|row| format!("{row:<40}")).collect();
+    let bytes: Vec<String> = format!("{rows:<960}")
+        .bytes()
+        .map(|byte| byte.to_string())
+        .collect();
+    format!("0 {}", bytes.join(" "))
+}
+
+#[test]
+fn the_words_of_the_sample_graph_stand_on_a_page() {
+    let graph = "576 64 1153 1090 194";
+    let counts = "3 0 3 1 1";
+    let rows = ["G", "         0 A", "         1 AB", "         2 BB"];
+    for (first, rows) in [
+        (0, &rows[..]),
+        (2, &[rows[0], rows[3]]),
+        (3, &rows[..1]),
+        (u32::MAX, &rows[..1]),
+    ] {
+        let request = format!("16 5 {graph} {counts} 2 {first} 3 63 65 66 1 71\n");
+        let words = format!("2 {first} 3 5 63 65 66 {graph} {counts}");
+        assert_eq!(answers(&request).0, case(16, &words, "71", &page(rows)));
+    }
+    // By these counts number 2 names no word, and 3 does.
+    let counts = "0 0 4 1 1";
+    for (first, rows) in [(0, &rows[1..3]), (3, &["         3 BB"])] {
+        let request = format!("16 5 {graph} {counts} 2 {first} 3 63 65 66 0\n");
+        let words = format!("2 {first} 3 5 63 65 66 {graph} {counts}");
+        let rows = [&[""], rows].concat();
+        assert_eq!(answers(&request).0, case(16, &words, "", &page(&rows)));
+    }
+}
+
+#[test]
+fn a_row_has_28_tiles_at_most() {
+    // Each node leads to the next; the words have 28 and 29 tiles.
+    let nodes: Vec<String> = (2..31)
+        .map(|at| match at {
+            30 => 0xc1,
+            29 => 0x1ec1,
+            at => (at + 1) * 256 + 0x41,
+        })
+        .map(|node: u32| node.to_string())
+        .collect();
+    let graph = format!("576 64 {}", nodes.join(" "));
+    let counts = format!("2 0{} 1", " 2".repeat(28));
+    let word = "A".repeat(28);
+    let rows = [
+        String::new(),
+        format!("         0 {word} "),
+        format!("         1 {word}+"),
+    ];
+    let rows: Vec<&str> = rows.iter().map(String::as_str).collect();
+    let request = format!("16 31 {graph} {counts} 2 0 2 63 65 0\n");
+    let words = format!("2 0 2 31 63 65 {graph} {counts}");
+    assert_eq!(answers(&request).0, case(16, &words, "", &page(&rows)));
+}
+
+#[test]
+fn a_refused_page_says_why() {
+    let graph = "5 576 64 1153 1090 194 3 0 3 1 1 2 0";
+    let many = |len: usize| format!("{len}{}", " 65".repeat(len));
+    for (inputs, refusal) in [
+        // A title too long comes before all; B has no label; a label and a byte
+        // of the title are not printable.
+        (format!("0 {}", many(41)), 19),
+        ("2 63 7 1 7".into(), 21),
+        ("3 63 65 321 0".into(), 26),
+        ("3 63 65 66 1 127".into(), 26),
+    ] {
+        let (list, _) = answers(&format!("16 {graph} {inputs}\n"));
+        assert!(list.ends_with(&format!(" {refusal}\n")), "{list}");
+    }
+}
+
 #[test]
 fn what_an_alphabet_or_a_text_cannot_hold_is_not_asked() {
     let graph = "5 576 64 1153 1090 194";
@@ -308,7 +385,7 @@ fn an_unreadable_request_stops_the_run() {
 #[test]
 fn the_lists_are_the_same_each_time_and_fully_answered() {
     let asked = [
-        "requests", "nodes", "loading", "numbers", "letters", "macondo", "lxd",
+        "requests", "nodes", "loading", "numbers", "letters", "macondo", "lxd", "pages",
     ];
     let requests = text(oracle(&asked, "").stdout);
     assert_eq!(requests, text(oracle(&asked, "").stdout));

@@ -1,6 +1,7 @@
-//! Loads a lexicon in pieces, looks a word up and names a number: words FILE WORD NUMBER. Its letters are A to Z, tiles 1 to 26.
+//! Loads a lexicon in pieces, looks a word up, names a number and shows the page of words from that number on: words FILE WORD NUMBER. Its
+//! letters are A to Z, tiles 1 to 26.
 
-use machirsun::{count_words, word_by_index, word_index, Layout, Loader};
+use machirsun::{count_words, word_by_index, word_index, write_page, Layout, Loader, PAGE};
 use std::error::Error;
 use std::fs::File;
 use std::io::Read;
@@ -11,6 +12,9 @@ const PIECE: usize = 7;
 
 /// The most letters of a word here; the engine sets no limit.
 const LONGEST: usize = 64;
+
+/// The columns of a page of the text service.
+const COLUMNS: usize = 40;
 
 fn load(path: &str) -> Result<Vec<u32>, Box<dyn Error>> {
     let mut file = File::open(path)?;
@@ -84,6 +88,16 @@ fn run(arguments: &[String]) -> Result<(), Box<dyn Error>> {
     match word_by_index(&nodes, &counts, start, number, &mut put)? {
         Some(tiles) => println!("word {number} is {}", letters(number, &put[..tiles])?),
         None => println!("there is no word {number}"),
+    }
+
+    let labels: Vec<u32> = "?ABCDEFGHIJKLMNOPQRSTUVWXYZ"
+        .chars()
+        .map(u32::from)
+        .collect();
+    let mut page = [0; PAGE];
+    write_page(&nodes, &counts, &labels, b"WORDS", start, number, &mut page)?;
+    for row in page.chunks(COLUMNS) {
+        println!("{}", std::str::from_utf8(row)?);
     }
     Ok(())
 }

@@ -231,4 +231,19 @@ extern "C" {
         file: *mut u8,
         file_len: usize,
     ) -> File;
+
+    pub fn machirsun_write_page(
+        nodes: *const u32,
+        nodes_len: usize,
+        counts: *const u32,
+        counts_len: usize,
+        labels: *const u32,
+        labels_len: usize,
+        title: *const u8,
+        title_len: usize,
+        start: u32,
+        first: u32,
+        page: *mut u8,
+        page_len: usize,
+    ) -> u32;
 }

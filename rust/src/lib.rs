@@ -381,3 +381,37 @@ pub fn to_lxd(
     refused(answer.refusal, 0, 0, answer.arc)?;
     Ok(answer.written)
 }
+
+/// The bytes of a page: 24 rows of 40.
+pub const PAGE: usize = 960;
+
+/// Writes a page of words into the first [`PAGE`] bytes: the title as row 0, then 23 rows, each with a number from `first` on, the labels of
+/// that word's first 28 tiles, and `+` where it has more. From the first number that names no word on rows are blank. Labels are one number
+/// a tile, the blank's first; a refused call writes nothing.
+#[inline]
+pub fn write_page(
+    nodes: &[u32],
+    counts: &[u32],
+    labels: &[u32],
+    title: &[u8],
+    start: u32,
+    first: u32,
+    page: &mut [u8],
+) -> Result<(), Refusal> {
+    plain(unsafe {
+        ffi::machirsun_write_page(
+            nodes.as_ptr(),
+            nodes.len(),
+            counts.as_ptr(),
+            counts.len(),
+            labels.as_ptr(),
+            labels.len(),
+            title.as_ptr(),
+            title.len(),
+            start,
+            first,
+            page.as_mut_ptr(),
+            page.len(),
+        )
+    })
+}

@@ -43,11 +43,11 @@ pub enum Refusal {
     TallyTooLong,
     /// 18: no label, or over 50.
     LabelCount,
-    /// 19: a name over 255 bytes, a title over 31 or a date over 19.
+    /// 19: a name over 255 bytes, a title over 31 or a date over 19; for a page a title over 40 bytes.
     TextTooLong,
     /// 20: the title or the date has a code point over FF hexadecimal.
     NotLatin1,
-    /// 21: a tile has no label.
+    /// 21: a tile (for a page: one that is shown) has no label.
     NoLabel,
     /// 22: over 64 runs, each reached by an arc of the one before, from the start.
     ChainTooLong,
@@ -57,6 +57,8 @@ pub enum Refusal {
     NotAscending,
     /// 25: the file would have too many nodes.
     TooManyNodes,
+    /// 26: a byte of the title or a shown label is outside 20 to 7E hexadecimal.
+    NotPrintable,
     /// A number that this crate does not know: the library linked is a later one.
     Unknown(u32),
 }
@@ -89,6 +91,7 @@ impl Refusal {
             23 => Refusal::BadLetter,
             24 => Refusal::NotAscending,
             25 => Refusal::TooManyNodes,
+            26 => Refusal::NotPrintable,
             other => Refusal::Unknown(other),
         }
     }
@@ -121,6 +124,7 @@ impl Refusal {
             Refusal::BadLetter => 23,
             Refusal::NotAscending => 24,
             Refusal::TooManyNodes => 25,
+            Refusal::NotPrintable => 26,
             Refusal::Unknown(number) => number,
         }
     }
@@ -159,6 +163,7 @@ impl fmt::Display for Refusal {
             Refusal::BadLetter => write!(f, "a label cannot be written as a letter"),
             Refusal::NotAscending => write!(f, "runs do not ascend"),
             Refusal::TooManyNodes => write!(f, "the file would have too many nodes"),
+            Refusal::NotPrintable => write!(f, "the title or a shown label is outside 20 to 7E"),
             Refusal::Unknown(number) => write!(f, "refusal {number}"),
         }
     }

@@ -472,6 +472,84 @@ fn lxd_files() {
 }
 
 #[test]
+fn pages() {
+    let mut page = [0xEE; PAGE + 1];
+    assert_eq!(
+        write_page(&G, &G_COUNTS, &LABELS, b"G", 2, 0, &mut page),
+        Ok(())
+    );
+    let mut rows = format!("{:<40}", "G");
+    for (number, word) in ["A", "AB", "BB"].iter().enumerate() {
+        rows += &format!("{number:>10} {word:<29}");
+    }
+    assert_eq!(page[..PAGE], *format!("{rows:<960}").as_bytes());
+    assert_eq!(page[PAGE], 0xEE);
+    // no word from the first number on: only the title
+    assert_eq!(
+        write_page(&G, &G_COUNTS, &[], &[b'~'; 40], 2, 3, &mut page),
+        Ok(())
+    );
+    assert_eq!(page[..40], [b'~'; 40]);
+    assert_eq!(page[40..PAGE], [b' '; PAGE - 40]);
+}
+
+#[test]
+fn a_word_of_over_28_tiles_on_a_page() {
+    // a chain of 29 nodes: the words of 28 and of 29 tiles
+    let mut nodes = vec![0x240, 0x40];
+    nodes.extend((2..29).map(|node| (node + 1) << 8 | 0x41));
+    nodes.extend([30 << 8 | 0xC1, 0xC1]);
+    let mut counts = vec![0; nodes.len()];
+    count_words(&nodes, &mut counts, &mut vec![0; 2 * nodes.len()]).unwrap();
+    let mut page = [0xEE; PAGE];
+    assert_eq!(
+        write_page(&nodes, &counts, &LABELS, b"", 2, 0, &mut page),
+        Ok(())
+    );
+    let word = "A".repeat(28);
+    let rows = format!("{:<40}{:>10} {word} {:>10} {word}+", "", 0, 1);
+    assert_eq!(page[..], *format!("{rows:<960}").as_bytes());
+}
+
+#[test]
+fn pages_are_refused() {
+    let mut page = [0xEE; PAGE];
+    let mut refused = |counts: &[u32], labels: &[u32], title: &[u8], start, room: usize| {
+        write_page(&G, counts, labels, title, start, 0, &mut page[..room]).unwrap_err()
+    };
+    assert_eq!(
+        refused(&[], &[], &[0; 41], 5, 0),
+        Refusal::TextTooLong,
+        "before all others"
+    );
+    assert_eq!(
+        refused(&[], &[], &[0; 40], 5, PAGE - 1),
+        Refusal::ListTooShort
+    );
+    assert_eq!(refused(&G_COUNTS, &[], b"\n", 5, PAGE), Refusal::NotLent);
+    // the second row meets it, the first shows a tile without a label
+    assert_eq!(
+        refused(&[0, 0, 0, 1, 1], &[], b"\n", 2, PAGE),
+        Refusal::OutOfRange
+    );
+    assert_eq!(
+        refused(&G_COUNTS, &LABELS[..2], b"\n", 2, PAGE),
+        Refusal::NoLabel
+    );
+    assert_eq!(
+        refused(&G_COUNTS, &LABELS, b"\n", 2, PAGE),
+        Refusal::NotPrintable
+    );
+    for label in [0x1F, 0x7F, 0x141, 0xD800, u32::MAX] {
+        assert_eq!(
+            refused(&G_COUNTS, &[63, 65, label], b"G", 2, PAGE),
+            Refusal::NotPrintable
+        );
+    }
+    assert_eq!(page, [0xEE; PAGE]);
+}
+
+#[test]
 fn a_refusal_is_an_error_with_a_number() {
     let refusal = Refusal::DoesNotFit {
         node: 1,

@@ -602,6 +602,89 @@ static void writes_lxd(void)
     REFUSED(lxd(LENT(G), LENT(LABELS), LENT(title), LENT(date), 40, 83), MACHIRSUN_LIST_TOO_SHORT, 0);
 }
 
+/* ---- Pages of words --------------------------------------------------------------------------------------------------------------- */
+
+static uint8_t page[962];
+
+static void blank_page(void)
+{
+    memset(page, 0xEE, sizeof page);
+}
+
+/* Whether the page has these rows, all later ones blank, and bytes past it as they were. No row: whether nothing was written. */
+static bool page_is(const char *const *rows, size_t count)
+{
+    static uint8_t expected[sizeof page];
+    size_t i;
+
+    memset(expected, 0xEE, sizeof expected);
+    if (count > 0)
+        memset(expected, ' ', 960);
+    for (i = 0; i < count; i++)
+        memcpy(expected + 40 * i, rows[i], strlen(rows[i]));
+    return memcmp(page, expected, sizeof page) == 0;
+}
+
+static uint32_t page_of_g(const uint32_t *counts, const uint32_t *labels, size_t labels_len, const char *title, size_t title_len,
+                          uint32_t start, uint32_t first, size_t page_len)
+{
+    blank_page();
+    return machirsun_write_page(LENT(G), counts, 5, labels, labels_len, (const uint8_t *)title, title_len, start, first, page, page_len);
+}
+
+static void same_refusal(int line, uint32_t answer, uint32_t refusal)
+{
+    compare(answer == refusal && page_is(NULL, 0), "a refused page", line);
+}
+
+#define NO_PAGE(answer, refusal) same_refusal(__LINE__, answer, refusal)
+
+static void writes_pages(void)
+{
+    static const char *const words[4] = {"G", "         0 A", "         1 AB", "         2 BB"};
+    static const char *const last[2] = {"", "         2 BB"}, *const none[1] = {"1234567890123456789012345678901234567890"};
+    static const char *const long_words[3] = {"", "         0 AAAAAAAAAAAAAAAAAAAAAAAAAAAA", "         1 AAAAAAAAAAAAAAAAAAAAAAAAAAAA+"};
+    uint32_t long_nodes[31], long_counts[31], long_work[62];
+    uint32_t i;
+
+    SAME(page_of_g(COUNTS_OF_G, LENT(LABELS), "G", 1, 2, 0, 962) == 0 && page_is(LENT(words)));
+    SAME(page_of_g(COUNTS_OF_G, LENT(LABELS), "G", 1, 2, 0, 960) == 0 && page_is(LENT(words)));
+    SAME(page_of_g(COUNTS_OF_G, LENT(LABELS), "", 0, 2, 2, 960) == 0 && page_is(LENT(last)));
+    SAME(page_of_g(COUNTS_OF_G, LABELS, 0, none[0], 40, 2, 3, 960) == 0 && page_is(LENT(none)));
+    SAME(page_of_g(COUNTS_OF_G, LABELS, 0, none[0], 40, 2, 4294967295, 960) == 0 && page_is(LENT(none)));
+
+    /* A chain of 29 nodes with the words of 28 and of 29 tiles. */
+    long_nodes[0] = 0x240;
+    long_nodes[1] = 0x40;
+    for (i = 2; i < 30; i++)
+        long_nodes[i] = (i + 1) << 8 | (i == 29 ? 0xC1 : 0x41);
+    long_nodes[30] = 0xC1;
+    SAME(machirsun_count_words(LENT(long_nodes), LENT(long_counts), LENT(long_work)).refusal == 0);
+    blank_page();
+    SAME(machirsun_write_page(LENT(long_nodes), LENT(long_counts), LENT(LABELS), (const uint8_t *)"", 0, 2, 0, LENT(page)) == 0);
+    SAME(page_is(LENT(long_words)));
+}
+
+static void refuses_pages(void)
+{
+    static const char wide[41] = {1};
+    static const uint32_t foreign[5] = {0, 0, 0, 1, 1};
+    static const uint32_t unprintable[5] = {0x1F, 0x7F, 0x141, 0xD800, 4294967295};
+    uint32_t labels[3] = {'?', 'A', 'B'};
+    size_t i;
+
+    NO_PAGE(page_of_g(foreign, LABELS, 0, LENT(wide), 5, 0, 959), MACHIRSUN_TEXT_TOO_LONG);
+    NO_PAGE(page_of_g(foreign, LABELS, 0, wide, 40, 5, 0, 959), MACHIRSUN_LIST_TOO_SHORT);
+    NO_PAGE(page_of_g(foreign, LABELS, 0, wide, 40, 5, 0, 960), MACHIRSUN_NOT_LENT);
+    NO_PAGE(page_of_g(foreign, LABELS, 0, wide, 40, 2, 0, 960), MACHIRSUN_OUT_OF_RANGE);
+    NO_PAGE(page_of_g(COUNTS_OF_G, LABELS, 2, wide, 40, 2, 0, 960), MACHIRSUN_NO_LABEL);
+    NO_PAGE(page_of_g(COUNTS_OF_G, LENT(LABELS), wide, 40, 2, 0, 960), MACHIRSUN_NOT_PRINTABLE);
+    for (i = 0; i < 5; i++) {
+        labels[2] = unprintable[i];
+        NO_PAGE(page_of_g(COUNTS_OF_G, LENT(labels), "", 0, 2, 0, 960), MACHIRSUN_NOT_PRINTABLE);
+    }
+}
+
 int main(void)
 {
     begins();
@@ -620,6 +703,8 @@ int main(void)
     alpha_sets();
     writes_macondo();
     writes_lxd();
+    writes_pages();
+    refuses_pages();
     printf("calls from C: %u compared, %u differences\n", compared, differences);
     return differences == 0 ? 0 : 1;
 }

@@ -1,6 +1,7 @@
 //! One graph through all calls.
 
 use super::loads::{file_of, load};
+use super::pages::pages;
 use super::texts;
 use crate::checker::{Checker, Fit, Graph};
 use crate::random::Random;
@@ -17,6 +18,7 @@ pub fn all_calls(checker: &mut Checker, random: &mut Random, nodes: Vec<u32>, as
     loading(checker, random, &graph);
     lookups(checker, random, &graph, asked);
     counting(checker, random, &graph);
+    pages(checker, random, &graph);
     sets(checker, random, &graph);
     files(checker, random, &graph);
     checker.nothing_changed(&graph);
@@ -30,8 +32,8 @@ fn loading(checker: &mut Checker, random: &mut Random, graph: &Graph) {
     }
 }
 
-// A place that is lent, or at times one that is not.
-fn place(random: &mut Random, len: usize) -> u32 {
+/// A place that is lent, or at times one that is not.
+pub fn place(random: &mut Random, len: usize) -> u32 {
     match random.within(0, 30) {
         0 => len as u32,
         1 => random.word(),
@@ -124,8 +126,8 @@ fn some_words(
     }
 }
 
-// Counts that are not the graph's: off by one, zeros, huge or any, and at times too few or more than nodes.
-fn foreign(random: &mut Random, graph: &Graph) -> Vec<u32> {
+/// Counts that are not the graph's: off by one, zeros, huge or any, and at times too few or more than nodes.
+pub fn foreign(random: &mut Random, graph: &Graph) -> Vec<u32> {
     let len = graph.nodes.len();
     let mut own = graph.counts.clone().unwrap_or(vec![1; len]);
     own.extend([1, 2].iter().take(random.within(0, 3) as usize));

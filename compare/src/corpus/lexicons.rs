@@ -3,6 +3,7 @@
 use super::Size;
 use super::all_calls::{Nodes, all_calls};
 use super::loads::{file_of, load};
+use super::pages::every_page;
 use crate::checker::{Checker, Fit, Graph};
 use crate::lexicon::{Words, dawg, gaddag, made_up_words};
 use crate::random::Random;
@@ -19,6 +20,7 @@ pub fn run(checker: &mut Checker, size: Size, random: &mut Random) {
         let graph = Graph::new(gaddag(&some));
         lexicon(checker, random, &graph, &some);
         every_number(checker, &graph, graph.nodes[1] >> 8);
+        every_page(checker, &graph, graph.nodes[1] >> 8);
     }
     for count in [10, 40] {
         let words = made_up_words(random, count);
@@ -52,6 +54,7 @@ fn lexicon(checker: &mut Checker, random: &mut Random, graph: &Graph, words: &Wo
     }
     checker.file(graph, &super::texts::plain_lxd(TILES), Fit::Around);
     every_number(checker, graph, graph.nodes[0] >> 8);
+    every_page(checker, graph, graph.nodes[0] >> 8);
     words_and_others(checker, random, graph, words);
     checker.nothing_changed(graph);
 }

@@ -1,6 +1,7 @@
 //! Each limit met and passed: counts, chains, labels, texts, and graphs that the Rust's counter is no match for.
 
 use super::all_calls::{Nodes, all_calls};
+use super::pages::{every_page, plain_page};
 use super::{Size, texts};
 use crate::checker::{Checker, Fit, Graph};
 use crate::graphs::{chain, chain_from_0, deep, loop_and_too_many, odd, with_words, without_words};
@@ -39,6 +40,7 @@ fn counts(checker: &mut Checker, random: &mut Random) {
         for number in [count / 2, count - 1, count, random.next() % count] {
             let word = checker.word_by_index(&graph, &own, start, number as u32, 33);
             checker.word_index(&graph, &own, start, &word);
+            plain_page(checker, &graph, &own, start, number as u32);
         }
     }
     for more in 0..3 {
@@ -103,6 +105,7 @@ fn deep_graphs(checker: &mut Checker, size: Size) {
         let counts = graph.counts.clone().expect("a deep graph counts");
         let word = checker.word_by_index(&graph, &counts, len - 1, 0, len as usize);
         checker.word_index(&graph, &counts, len - 1, &word);
+        every_page(checker, &graph, len - 1);
         checker.file(&graph, &texts::plain_lxd(3), Fit::Around);
     }
 }
@@ -144,6 +147,7 @@ fn few_nodes(checker: &mut Checker, random: &mut Random) {
             checker.cursor(&graph, place);
             checker.word_index(&graph, &[1], place, &[1]);
             checker.word_by_index(&graph, &[1], place, 0, 2);
+            plain_page(checker, &graph, &[1], place, 0);
         }
         for tally in [vec![], vec![0; 64], vec![0; 65], vec![0, 1]] {
             checker.accepts_alpha(&graph, &tally);

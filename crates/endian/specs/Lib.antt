@@ -2,3 +2,4 @@ pub mod Bytes
 pub mod BytesLaws
 pub mod BigLaws
 pub mod Putting
+pub mod Puts

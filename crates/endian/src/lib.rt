@@ -1,9 +1,11 @@
 // Numbers in the bytes of a file. The calls that read and write files use these; each asks that its bytes are there.
 ghost use mathlib.Core.Path.{_≡_};
+ghost use mathlib.Core.List.{[], _∷_};
 ghost use Prim.Native.Nat.{_+_, _*_, _<_, _≤_};
 ghost use lib.ListN.{length};
 ghost use lib.Seq.{sets};
 ghost use Rattle.endian.specs.Bytes.{fromBytes, toBytes, nodeAt, bigEndian};
+ghost use Rattle.endian.specs.Puts.{Puts};
 
 pub fn from_le_bytes(a: u8, b: u8, c: u8, d: u8) -> u32
     ensures { λ r. ⌜ r ≡ fromBytes a b c d ⌝ }
@@ -60,4 +62,13 @@ pub fn write_bytes(bytes: &mut [u8], p: usize, text: &[u8])
         bytes[p + i] = text[i];
         i += 1;
     }
+}
+
+// Puts a byte at a place, which must be there, and answers the place after it.
+pub fn put_byte(byte: u8, out: &mut [u8], at: usize) -> usize
+    requires { ⌜ at + 1 ≤ length (now out) ⌝ }
+    ensures { λ r. ⌜ Puts (byte ∷ []) (now (out .entry)) at (now (out .exit)) r ⌝ }
+{
+    out[at] = byte;
+    at + 1
 }

@@ -6,3 +6,4 @@ pub mod FlatLookups
 pub mod FlatSets
 pub mod PlainLaws
 pub mod StateLaws
+pub mod FlatPages

@@ -3,6 +3,7 @@ mod counting;
 mod files;
 mod loading;
 mod lookups;
+mod pages;
 mod sets;
 
 pub use counting::FlatCounted;
@@ -31,6 +32,7 @@ pub use lookups::FlatWord;
 pub use lookups::flat_index;
 pub use lookups::flat_sought;
 pub use lookups::flat_word;
+pub use pages::page_refusal;
 pub use sets::FlatAccepts;
 pub use sets::FlatCross;
 pub use sets::bits_refusal;

@@ -11,6 +11,7 @@ use Rattle.answers.specs.Answers.{Answer, Row, firstOf}
 use Rattle.answers.specs.RowLaws.{row-never-gives}
 use Rattle.node.specs.declared.Layout.{Layout}
 use Rattle.graph.specs.Runs.{Graph, startNode}
+use Rattle.graph.specs.Counting.{Counts}
 use Rattle.load.specs.FinishLaws.{finished-within}
 use Rattle.load.specs.StateLaws.{sound}
 use Rattle.pieces.specs.Pieces.{loadPieces, fedPieces}
@@ -45,9 +46,14 @@ module _ (announced : ℕ) (layout : Layout) (lent : Graph) (pieces : List (List
   lists-left : GraphLent graph nodes counted
   lists-left = lent-left limit n nodes _ _ _ within (r .counts)
 
+  pub loaded-counts : Counts limit graph
+  loaded-counts = counted-lent limit _ _ _ _ (r .counts) .0
+
+  pub loaded-inside : (p : ℕ) → p < n → p < length graph
+  loaded-inside p h = rw (length-take-le n nodes within) h
+
   numbers : (lentNodes counts : List ℕ) → GraphLent graph lentNodes counts → (p : ℕ) → 0 < p → p < n → WordNumbers limit graph lentNodes counts p
-  numbers lentNodes counts is p z h =
-      numbered limit graph (counted-lent limit _ _ _ _ (r .counts) .0) (r .ascending) lentNodes counts is p z (rw (length-take-le n nodes within) h)
+  numbers lentNodes counts is p z h = numbered limit graph loaded-counts (r .ascending) lentNodes counts is p z (loaded-inside p h)
 
 -- ---- where a writer answers a length, no check refused, and the bytes are the file's
 wrote-passed : (row : Row) (file lent : List ℕ) {bytes : List ℕ} (o : Option Answer) → firstOf row ≡ o

@@ -1,3 +1,5 @@
--- Demand 3 as a theorem, and the five nodes that meet its premises.
+-- Demand 3 and pages as theorems, and the five nodes that meet their premises.
 pub mod Demand3Laws
+pub mod PagesLaws
 pub mod Witness
+pub mod PageWitness

@@ -1,2 +1,3 @@
 pub mod Starred
 pub mod Demand3
+pub mod Pages

@@ -1,6 +1,7 @@
 -- The tiles of each node's run, written into a lent list from the last node back to the first.
-use mathlib.Core.Path.{_≡_, refl, sym, ap, _∙_}
+use mathlib.Core.Path.{_≡_, sym, ap, _∙_}
 use mathlib.Core.Bool.{Bool, true, false, or-true}
+use mathlib.Core.Logic.{inl}
 use mathlib.Core.List.{List, [], _∷_, _++_, map}
 use mathlib.Core.Option.{Option, none, some}
 use Prim.Native.Nat.{ℕ, suc, _-_, _≤_, _<_}
@@ -8,10 +9,10 @@ use native.Mathlib.Omega.{arith}
 use borrow.Author.Tests.{lt-ltb, le-ltb}
 use lib.Dec.{ltb}
 use lib.ListN.{length, drop, set, drop-of-length-le}
-use lib.Seq.{drop-cons, sets, length-sets, set-comm}
+use lib.Seq.{drop-cons, sets, length-sets}
 use Rattle.laws.specs.Cases.{split}
 use Rattle.laws.specs.Lists.{filtered}
-use Rattle.laws.specs.ListWrites.{sets-front}
+use Rattle.laws.specs.ListWrites.{sets-apart, sets-front}
 use Rattle.answers.specs.Answers.{Answer, refused, firstOf}
 use Rattle.answers.specs.RowLaws.{row-refuses, row-passes, row-ends}
 use Rattle.node.specs.Nodes.{KBWG, tile, isEnd}
@@ -37,11 +38,6 @@ module _ (g : Graph) (l a : List ℕ) where
   long-enough h k = by-row none (row-passes _ _ _ (rw (le-ltb (length l) (length g) h, le-ltb (length a) (length g) k)) ∙ row-ends)
 
 -- ---- one node more
--- an entry before those that are written
-sets-before : (vs l : List ℕ) (i j a : ℕ) → j < i → set (sets l i vs) j a ≡ sets (set l j a) i vs
-sets-before [] l i j a h = refl
-sets-before (v ∷ vs) l i j a h = sets-before vs (set l i v) (suc i) j a (omega arith) ∙ ap (λ k. sets k (suc i) vs) (set-comm l i j v a (λ e. omega arith))
-
 -- what the run has after its first node
 abbrev runAfter : ℕ → Graph → Graph
 runAfter v vs = elim (isEnd KBWG v) [ true ↦ [] | false ↦ run KBWG vs ]
@@ -81,7 +77,7 @@ module _ {test : ℕ → Bool} {g : Graph} {l₀ : List ℕ} where
       e ∙ ap (λ k. marked (carry k v) (tile KBWG v) (test v)) (f .set-is) ∙ sym (tiles-step test v (drop (suc i) g)) in
       record {
         set-is = is ∙ ap (tilesOf test) (sym d);
-        list-is = ap (λ k. set k i x) (f .list-is) ∙ sets-before (perNode test (drop (suc i) g)) l₀ (suc i) i x (omega arith)
+        list-is = ap (λ k. set k i x) (f .list-is) ∙ sets-apart (perNode test (drop (suc i) g)) l₀ (suc i) i x (inl (omega arith))
             ∙ ap (λ k. sets (set l₀ i k) (suc i) (perNode test (drop (suc i) g))) is ∙ ap (λ k. sets l₀ i (perNode test k)) (sym d);
       }
 

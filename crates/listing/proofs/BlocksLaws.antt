@@ -10,12 +10,13 @@ use borrow.Author.Tests.{lt-ltb, le-ltb}
 use lib.ListN.{length}
 use Rattle.laws.specs.Cases.{split}
 use Rattle.endian.specs.Putting.{Putting, put-start}
+use Rattle.endian.specs.Puts.{Puts, next-put, all-put}
 use Rattle.listing.specs.Blocks.{NumberWalk, lineFor, goesOn, longest, linesOf, allWords, numbersIn, block}
 use Rattle.listing.specs.NextLaws.{block-more, block-over, some-number}
-use Rattle.listing.proofs.PutLaws.{next-put, all-put, put-front}
+use Rattle.listing.proofs.PutLaws.{put-front}
 use Rattle.listing.specs.Lines.{refusalLine}
 use Rattle.listing.specs.Printing.{room, walkFrom, nextBlock}
-use Rattle.listing.specs.Said.{Puts, PutWord, FillsBlock, Makes}
+use Rattle.listing.specs.Said.{PutWord, FillsBlock, Makes}
 use Rattle.listing.specs.declared.opening.Unprinted.{Unprinted}
 use Rattle.listing.specs.declared.opening.Unprinted.the-variants.{Refusal, Words}
 use Rattle.listing.specs.declared.blocks.LinePut.{LinePut}

@@ -1,60 +1,16 @@
--- Decimal digits one by one, and how long a line can get.
-use mathlib.Core.Path.{_≡_, refl, ap, _∙_, subst}
+-- The parts of a line, and how long it can get.
+use mathlib.Core.Path.{_≡_, refl, ap, _∙_}
 use mathlib.Core.List.{[], _∷_, _++_}
-use Prim.Native.Nat.{ℕ, zero, suc, zero-le, _+_, _-_, _*_, _/_, _%_, _^_, _≤_, _<_}
-use native.Mathlib.Nat.{pow-suc, div-lt-iff-lt-mul}
+use Prim.Native.Nat.{ℕ, zero-le, _+_, _-_, _*_, _≤_, _<_}
 use native.Mathlib.Numerals.{add-one}
 use native.Mathlib.Omega.{arith}
-use lib.Dec.{ltb, lit<}
-use borrow.Author.Tests.{ltb-false, lt-ltb, le-ltb}
 use lib.ListN.{length, getD, drop, length-append, drop-of-length-le}
 use lib.Seq.{drop-cons}
-use Rattle.laws.specs.Cases.{split}
+use Rattle.decimal.specs.Decimal.{decimal}
+use Rattle.decimal.specs.DecimalLaws.{decimal-length}
 use Rattle.graph.specs.Words.{Word}
 use Rattle.lookup.specs.WalkedLaws.{Tiles}
-use Rattle.listing.specs.Lines.{decimalWithin, decimal, spaced, parted, line, refusalLine}
-
--- ---- decimal digits
--- more digits than enough change nothing
-within-enough : (k m n : ℕ) → n < k → n < m → decimalWithin k n ≡ decimalWithin m n
-unfolding decimalWithin
-within-enough zero m n h i = absurd (omega arith)
-within-enough (suc k) zero n h i = absurd (omega arith)
-within-enough (suc k) (suc m) n h i =
-    split (ltb n 10)
-    (λ t. rw (t, decimalWithin))
-    (λ t. let b = ltb-false n 10 t in
-    rw (t, decimalWithin) (ap (_++ (0x30 + n % 10) ∷ []) (within-enough k m (n / 10) (omega arith) (omega arith))))
-
-pub decimal-one : (n : ℕ) → n < 10 → decimal n ≡ (0x30 + n) ∷ []
-unfolding decimal decimalWithin
-decimal-one n h = rw (lt-ltb n 10 h, decimalWithin)
-
-pub decimal-more : (n : ℕ) → 10 ≤ n → decimal n ≡ decimal (n / 10) ++ (0x30 + n % 10) ∷ []
-unfolding decimal decimalWithin
-decimal-more n h =
-    rw (le-ltb n 10 h, decimalWithin)
-    (ap (_++ (0x30 + n % 10) ∷ []) (within-enough n (suc (n / 10)) (n / 10) (omega arith) (omega arith)))
-
--- a number below 10 ^ k has at most k digits
-more-length : (k m n : ℕ) → ((i : ℕ) → i < 10 ^ k → length (decimalWithin m i) ≤ k) → 10 ≤ n → n < 10 ^ suc k
-    → length (decimalWithin m (n / 10) ++ (0x30 + n % 10) ∷ []) ≤ suc k
-more-length k m n ih b h =
-    let l = ih (n / 10) (div-lt-iff-lt-mul (lit< tt) .1 (subst (λ x. n < x) (pow-suc 10 k) h)) in
-    rw length-append (omega arith)
-
-within-length : (k m n : ℕ) → n < 10 ^ suc k → length (decimalWithin m n) ≤ suc k
-unfolding decimalWithin
-within-length k zero n h = zero-le
-within-length zero (suc m) n h = rw (lt-ltb n 10 h, decimalWithin) (omega arith)
-within-length (suc k) (suc m) n h =
-    split (ltb n 10)
-    (λ t. rw (t, decimalWithin) (omega arith))
-    (λ t. rw (t, decimalWithin) (more-length (suc k) m n (within-length k m) (ltb-false n 10 t) h))
-
-pub decimal-length : (k n : ℕ) → n < 10 ^ suc k → length (decimal n) ≤ suc k
-unfolding decimal
-decimal-length k n h = within-length k (suc n) n h
+use Rattle.listing.specs.Lines.{spaced, parted, line, refusalLine}
 
 -- ---- the parts of a line
 pub parted-first : (w : Word) → 0 < length w → parted w ≡ decimal (getD w 0 0) ++ spaced (drop 1 w)

@@ -16,13 +16,9 @@ use Rattle.graph.specs.Runs.{Graph, startNode}
 use Rattle.graph.specs.Words.{Word, words, count}
 use Rattle.graph.specs.ChecksLaws.{fit}
 use Rattle.graph.specs.Counting.{Counts}
-use Rattle.lookup.specs.Steps.{lentPart}
 use Rattle.lookup.specs.Walks.{wordByIndex}
-use Rattle.lookup.specs.WalkedLaws.{by-index-cut}
 use Rattle.numbers.specs.WordNumbers.{GraphLent}
-use Rattle.numbers.specs.LentLaws.{walkable, lent-parts}
-use Rattle.numbers.specs.ByNumber.{named}
-use Rattle.numbers.specs.Walkable.{Walkable}
+use Rattle.numbers.specs.LentNumbers.{named-lent, cut-lent}
 use Rattle.listing.specs.Lines.{line, refusalLine}
 use Rattle.listing.specs.Wordlist.{startWords, mostTiles, listed}
 use Rattle.listing.specs.Blocks.{NumberWalk, lineFor, goesOn, linesOf}
@@ -34,19 +30,11 @@ pub record LineNames (x : Word × Answer) (w : Word) : Type 0 where
   pub long : mostTiles < length w → x .1 ≡ refused 16 []
 
 module _ (limit : ℕ) (g : Graph) (c : Counts limit g) (nodes counted : List ℕ) (is : GraphLent g nodes counted) where
-  walk : Walkable g (lentPart nodes) (lentPart counted)
-  walk =
-      walkable g (fit g (c .fit)) (lentPart nodes) (lentPart counted) (lent-parts g (fit g (c .fit)) nodes counted is) (c .loopless)
-
   pub names : (p i : ℕ) → p < length g → i < count KBWG g p → LineNames (wordByIndex counted nodes mostTiles p i) (getD (words KBWG g p) i [])
-  unfolding wordByIndex
   names p i h k =
-      let w = getD (words KBWG g p) i [] in
-      let whole : wordByIndex counted nodes (length w) p i ≡ (w, gives (length w ∷ [])) =
-      named g (lentPart nodes) (lentPart counted) walk (length w) p i h k (omega arith) in
       record {
-        short = λ s. named g (lentPart nodes) (lentPart counted) walk mostTiles p i h k s;
-        long = λ l. by-index-cut counted nodes mostTiles p i (length w) (subst (λ x. mostTiles < length (x .0)) (sym whole) l);
+        short = named-lent limit g c nodes counted is p i mostTiles h k;
+        long = λ l. ap (λ x. x .1) (cut-lent limit g c nodes counted is p i mostTiles h k l);
       }
 
 -- ---- so the lines are those of the words

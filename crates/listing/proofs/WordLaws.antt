@@ -7,6 +7,7 @@ use native.Mathlib.Omega.{arith}
 use lib.ListN.{length, take, drop}
 use lib.Seq.{take-at}
 use Rattle.answers.specs.Answers.{Answer, gives, nothing, refused}
+use Rattle.endian.specs.Puts.{Puts, put-none}
 use Rattle.graph.specs.Words.{Word}
 use Rattle.lookup.specs.Said.{saidWord, WordPut}
 use Rattle.lookup.specs.Walks.{wordByIndex}
@@ -18,8 +19,7 @@ use Rattle.listing.proofs.LinesLaws.{line-length, refusal-length}
 use Rattle.listing.specs.Wordlist.{mostTiles}
 use Rattle.listing.specs.Blocks.{longest, goesOn}
 use Rattle.listing.specs.Printing.{walkFrom}
-use Rattle.listing.proofs.PutLaws.{put-none}
-use Rattle.listing.specs.Said.{Puts, PutWord}
+use Rattle.listing.specs.Said.{PutWord}
 
 -- the walk of a number left this answer and these tiles
 pub record Tiled (walked : Word × Answer) (r : WordByIndex) (after : List ℕ) : Type 0 where

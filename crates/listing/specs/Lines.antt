@@ -1,18 +1,8 @@
 -- The lines of `wordlist`, as bytes; from document 01, "Five nodes to check by".
-use mathlib.Core.Bool.{true, false}
 use mathlib.Core.List.{List, [], _∷_, _++_}
-use Prim.Native.Nat.{ℕ, zero, suc, _+_, _/_, _%_}
-use lib.Dec.{ltb}
+use Prim.Native.Nat.{ℕ}
+use Rattle.decimal.specs.Decimal.{decimal}
 use Rattle.graph.specs.Words.{Word}
-
--- a number in decimal digits, the highest first, where k are enough
-unfoldable pub decimalWithin : ℕ → ℕ → List ℕ
-decimalWithin zero n = []
-decimalWithin (suc k) n = elim (ltb n 10) [ true ↦ (0x30 + n) ∷ [] | false ↦ decimalWithin k (n / 10) ++ (0x30 + n % 10) ∷ [] ]
-
--- more than n digits are always enough (`decimal-one`, `decimal-more`)
-unfoldable pub decimal : ℕ → List ℕ
-decimal n = decimalWithin (suc n) n
 
 -- each tile after a space
 unfoldable pub spaced : Word → List ℕ

@@ -6,9 +6,9 @@ use mathlib.Core.Option.{Option, none, some}
 use Prim.Native.Nat.{ℕ, _+_, _≤_}
 use lib.Dec.{eqb}
 use lib.ListN.{length, getD, drop}
-use lib.Seq.{sets}
 use Rattle.laws.specs.Lists.{joinAll}
 use Rattle.answers.specs.Answers.{Answer, gives}
+use Rattle.endian.specs.Puts.{Puts}
 use Rattle.graph.specs.Runs.{Graph, startNode}
 use Rattle.graph.specs.Words.{Word}
 use Rattle.graph.specs.Counting.{IsCounted, countLimit}
@@ -24,11 +24,6 @@ use Rattle.listing.specs.declared.blocks.BlockFilled.{BlockFilled}
 use Rattle.listing.specs.declared.blocks.LinePut.{LinePut}
 use Rattle.listing.specs.declared.blocks.BlockMade.{BlockMade}
 use Rattle.listing.specs.declared.blocks.BlockMade.the-variants.{Bytes, Done}
-
--- bytes stored from a place on, and the place after them
-pub record Puts (bytes before : List ℕ) (at : ℕ) (after : List ℕ) (end : ℕ) : Type 0 where
-  pub place : end ≡ at + length bytes
-  pub stored : after ≡ sets before at bytes
 
 -- bytes at the front of a list, so many, and its old ones after them
 pub record AtFront (bytes before after : List ℕ) (written : ℕ) : Type 0 where

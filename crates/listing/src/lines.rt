@@ -1,31 +1,13 @@
 // The bytes of a line.
-ghost use mathlib.Core.List.{[], _∷_};
 ghost use Prim.Native.Nat.{_+_, _≤_};
 ghost use lib.ListN.{length};
-ghost use Rattle.listing.specs.Lines.{decimal, parted, line, refusalLine};
-ghost use Rattle.listing.specs.Said.{Puts};
+ghost use Rattle.endian.specs.Puts.{Puts};
+ghost use Rattle.listing.specs.Lines.{parted, line, refusalLine};
 use base::widened;
+use decimal::put_number;
+use endian::put_byte;
 
 // Each of these puts its bytes from a place on, where they must have room, and answers the place after them.
-fn put_byte(byte: u8, out: &mut [u8], at: usize) -> usize
-    requires { ⌜ at + 1 ≤ length (now out) ⌝ }
-    ensures { λ r. ⌜ Puts (byte ∷ []) (now (out .entry)) at (now (out .exit)) r ⌝ }
-{
-    out[at] = byte;
-    at + 1
-}
-
-fn put_number(number: u32, out: &mut [u8], at: usize) -> usize
-    requires { ⌜ at + length (decimal number) ≤ length (now out) ⌝ }
-    ensures { λ r. ⌜ Puts (decimal number) (now (out .entry)) at (now (out .exit)) r ⌝ }
-{
-    if number < 10 {
-        return put_byte(b'0' + number as u8, out, at);
-    }
-    let last = put_number(number / 10, out, at);
-    put_byte(b'0' + (number % 10) as u8, out, last)
-}
-
 fn put_tiles(word: &[u8], out: &mut [u8], at: usize) -> usize
     requires { ⌜ at + length (parted (now word)) ≤ length (now out) ⌝ }
     ensures { λ r. ⌜ Puts (parted (now (word .entry))) (now (out .entry)) at (now (out .exit)) r ⌝ }

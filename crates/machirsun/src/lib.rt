@@ -3,6 +3,7 @@ mod counting;
 mod files;
 mod loading;
 mod lookups;
+mod pages;
 mod sets;
 
 // The calls that crate `replay` makes. Every `extern "C"` function is in the static library.
@@ -17,6 +18,7 @@ pub use lookups::machirsun_cursor_step;
 pub use lookups::machirsun_seek;
 pub use lookups::machirsun_word_by_index;
 pub use lookups::machirsun_word_index;
+pub use pages::machirsun_write_page;
 pub use sets::machirsun_accepts_alpha;
 pub use sets::machirsun_alpha_cross_set;
 pub use sets::machirsun_letter_bits;

@@ -3,6 +3,7 @@ pub mod Walkable
 pub mod LentLaws
 pub mod RunWords
 pub mod ByNumber
+pub mod LentNumbers
 pub mod TileSearch
 pub mod ByWord
 pub mod WordNumbersLaws

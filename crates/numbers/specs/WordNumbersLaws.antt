@@ -20,10 +20,10 @@ use Rattle.graph.specs.Counting.{counts, countRow, IsCounted, unfit, all, Count
 use Rattle.graph.specs.WordsAscend.{≺-differ, words-ascend}
 use Rattle.graph.specs.WordsEquation.{words-equation}
 use Rattle.lookup.specs.Steps.{lentPart}
-use Rattle.lookup.specs.Walks.{wordIndex, wordByIndex}
+use Rattle.lookup.specs.Walks.{wordIndex}
 use Rattle.laws.specs.Tables.{table-length}
-use Rattle.numbers.specs.LentLaws.{count-at, walkable, lent-parts}
-use Rattle.numbers.specs.ByNumber.{named, other-numbers}
+use Rattle.numbers.specs.LentLaws.{count-at}
+use Rattle.numbers.specs.LentNumbers.{walk-lent, named-lent, none-lent}
 use Rattle.numbers.specs.ByWord.{IndexIs, number, no-word, indexed}
 use Rattle.numbers.specs.Walkable.{Walkable}
 use Rattle.numbers.specs.WordNumbers.{GraphLent, wordAt, WordNumbers}
@@ -40,7 +40,7 @@ module _ (limit : ℕ) (g : Graph) (c : Counts limit g) (up : ascends KBWG g ≡
   fits = fit g (c .fit)
 
   walk : Walkable g (lentPart nodes) (lentPart counted)
-  walk = walkable g fits (lentPart nodes) (lentPart counted) (lent-parts g fits nodes counted is) (c .loopless)
+  walk = walk-lent limit g c nodes counted is
 
   abbrev Index : ℕ → Word → Answer → Type 0
   Index p w x = IndexIs g (lentPart nodes) (lentPart counted) walk up limit p 0 w x
@@ -59,17 +59,16 @@ module _ (limit : ℕ) (g : Graph) (c : Counts limit g) (up : ascends KBWG g ≡
   other p w n (no-word m) = refl
 
   pub numbered : (p : ℕ) → 0 < p → p < length g → WordNumbers limit g nodes counted p
-  unfolding wordByIndex
   numbered p z h =
       let e = count-at g fits nodes counted is p h .1 in
       record {
         equation = words-equation KBWG g p (walk .clear p);
         count-is = e;
-        named = λ i room k r. named g (lentPart nodes) (lentPart counted) walk room p i h (rw e at k) r;
+        named = λ i room k r. named-lent limit g c nodes counted is p i room h (rw e at k) r;
         ascending = words-ascend KBWG g up p;
         given-back = λ i k. back p i (rw e at k) (index-of p z h (wordAt g p i));
         other-words = λ w n. other p w n (index-of p z h w);
-        other-numbers = λ i room k. other-numbers g (lentPart nodes) (lentPart counted) walk room p i h (rw e at k);
+        other-numbers = λ i room k. none-lent limit g c nodes counted is p i room h (rw e at k);
       }
 
 -- ---- "counts where counting its N nodes, with lists long enough, gives none"

@@ -6,4 +6,5 @@ pub mod TileLaws
 pub mod CountLaws
 pub mod SetLaws
 pub mod FileLaws
+pub mod PageLaws
 pub mod VerdictLaws

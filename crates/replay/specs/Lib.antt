@@ -4,4 +4,5 @@ pub mod Lookups
 pub mod Counts
 pub mod Sets
 pub mod Files
+pub mod Pages
 pub mod Judged

@@ -7,6 +7,7 @@ mod files;
 mod loads;
 mod lookups;
 mod nodes;
+mod pages;
 mod sets;
 mod verdicts;
 

@@ -4,6 +4,7 @@ use crate::files;
 use crate::loads;
 use crate::lookups;
 use crate::nodes;
+use crate::pages;
 use crate::sets;
 use stored::Count;
 use stored::ROOM;
@@ -33,7 +34,7 @@ fn judge_lent(call: u64, case: &[u64], words: &mut [u32], bytes: &mut [u8]) -> V
     if call < 1 {
         return Verdict::Malformed;
     }
-    if 15 < call {
+    if 16 < call {
         return Verdict::Malformed;
     }
     let Count::Are(word_count) = words_in(case, words) else {
@@ -56,7 +57,7 @@ fn after_list(case: &[u64], count: usize) -> &[u64]
 
 // The bytes are the first so many.
 fn replies(call: u64, stored: &[u64], words: &[u32], bytes: &mut [u8], count: usize) -> bool
-    requires { ⌜ (1 ≤ call) × (call ≤ 15) ⌝ }
+    requires { ⌜ (1 ≤ call) × (call ≤ 16) ⌝ }
     ensures { λ r. ⌜ Replied (now (words .entry)) (take count (now (bytes .entry))) call (now (stored .entry)) r ⌝ }
 {
     if call == 4 {
@@ -66,7 +67,7 @@ fn replies(call: u64, stored: &[u64], words: &[u32], bytes: &mut [u8], count: us
 }
 
 fn replies_to(call: u64, stored: &[u64], words: &[u32], bytes: &[u8]) -> bool
-    requires { ⌜ (1 ≤ call) × (call ≤ 15) × (call ≡ 4 → ⊥) ⌝ }
+    requires { ⌜ (1 ≤ call) × (call ≤ 16) × (call ≡ 4 → ⊥) ⌝ }
     ensures { λ r. ⌜ Replied (now (words .entry)) (now (bytes .entry)) call (now (stored .entry)) r ⌝ }
 {
     match call {
@@ -83,6 +84,7 @@ fn replies_to(call: u64, stored: &[u64], words: &[u32], bytes: &[u8]) -> bool
         12 => sets::accepts_alpha(stored, words, bytes),
         13 => sets::alpha_cross_set(stored, words, bytes),
         14 => files::to_macondo(stored, words, bytes),
-        _ => files::to_lxd(stored, words),
+        15 => files::to_lxd(stored, words),
+        _ => pages::write_page(stored, words, bytes),
     }
 }

@@ -122,4 +122,5 @@ fn print_calls(cases: [u64; CALLS]) {
     print_cases(b"alpha cross set: ", cases[13]);
     print_cases(b"Macondo: ", cases[14]);
     print_cases(b"LXD: ", cases[15]);
+    print_cases(b"pages: ", cases[16]);
 }

@@ -69,6 +69,49 @@ pub fn ascend(nodes: &mut [Fields]) {
     }
 }
 
+// A graph without a loop, and the number of words from each node.
+pub struct Graph {
+    pub words: Vec<u32>,
+    pub nodes: Vec<Fields>,
+    // The Rust's own.
+    pub counts: Vec<u32>,
+}
+
+impl Graph {
+    pub fn new(words: Vec<u32>) -> Self {
+        let nodes = nodes_of(&words);
+        let counts = kwg_of(&words)
+            .count_words_alloc()
+            .expect("the graph has no loop");
+        Self {
+            words,
+            nodes,
+            counts: counts.into_vec(),
+        }
+    }
+
+    pub fn of_nodes(nodes: &[Fields]) -> Self {
+        Self::new(pack_all(nodes))
+    }
+
+    // The node with the most words, but for node 0.
+    pub fn richest(&self) -> usize {
+        (1..self.counts.len())
+            .max_by_key(|&place| self.counts[place])
+            .unwrap_or(0)
+    }
+}
+
+// A graph of so many nodes: of few tiles, of a few in ascending runs, or of any.
+pub fn random_graph(random: &mut Random, len: usize, kind: u32) -> Graph {
+    let tiles = [3, 5, 64][kind as usize];
+    let mut nodes = random_nodes(random, len, tiles);
+    if kind == 1 {
+        ascend(&mut nodes);
+    }
+    Graph::of_nodes(&nodes)
+}
+
 // Runs of up to four nodes, which lead to one of the three runs after it, at
 // times into its middle. Without a numbering they stand in any order. Nodes 0
 // and 1 lead to the first two.

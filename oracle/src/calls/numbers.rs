@@ -1,10 +1,10 @@
 // Calls 6 to 8: the words counted, the number of a word, the word of a number.
 
-mod in_range;
+pub mod in_range;
 mod requests;
 
 use super::graphs::kwg_of;
-use super::outcome::{ABSENT, DONE, FOUND, LOOP, TOO_MANY, named_in, unknown};
+use super::outcome::{ABSENT, DONE, FOUND, LOOP, TOO_MANY, fewer_words, named_in, unknown};
 use super::{Case, Family};
 use crate::numbers::{Inputs, Unreadable};
 
@@ -82,9 +82,7 @@ fn word_of_number(words: &[u32], inputs: &mut Inputs) -> Result<Case, Unreadable
         kwg_of(words).get_word_by_index(&counts, start, number, |tile| word.push(tile.into()));
     let mut answer = match found {
         Ok(()) => vec![DONE, FOUND, word.len() as u64],
-        Err(refusal) if refusal.to_string() == "the word graph has fewer words than the index" => {
-            ABSENT.to_vec()
-        }
+        Err(refusal) if fewer_words(&refusal) => ABSENT.to_vec(),
         Err(refusal) => return Err(unknown(&refusal)),
     };
     // Where there is no such word, what was put before the walk ended.

@@ -17,11 +17,19 @@ pub const LABEL_COUNT: u64 = 18;
 pub const TOO_LONG: u64 = 19;
 pub const NOT_LATIN_1: u64 = 20;
 pub const NOT_ONE_CODE_POINT: u64 = 23;
+// Of a page: a tile has no label; a title or a label is not printable.
+pub const NO_LABEL: u64 = 21;
+pub const NOT_PRINTABLE: u64 = 26;
 
 // Of a lookup: whether there is such a word or node; where there is not, the
 // whole answer.
 pub const FOUND: u64 = 1;
 pub const ABSENT: [u64; 3] = [DONE, 0, 0];
+
+// Whether the Rust refused a number because there are fewer words.
+pub fn fewer_words(refusal: &error::BoxAnyError) -> bool {
+    refusal.to_string() == "the word graph has fewer words than the index"
+}
 
 // A written file: its length, and its bytes.
 pub fn file(bytes: &[u8]) -> Vec<u64> {

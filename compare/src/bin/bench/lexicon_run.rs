@@ -28,6 +28,7 @@ pub fn print() {
     bench.count();
     bench.words_to_numbers(&words);
     bench.numbers_to_words(&words);
+    bench.pages(&mut Random::new(23));
     bench.seek_along("`seek`, along all words", &words, 1);
     bench.seek_anywhere(&mut random);
     let few: Words = words.iter().step_by(WORDS / FEW).cloned().collect();

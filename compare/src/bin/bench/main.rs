@@ -8,6 +8,7 @@ mod hostile;
 mod lexicon_run;
 mod loads;
 mod lookups;
+mod pages;
 mod sets;
 
 fn main() {

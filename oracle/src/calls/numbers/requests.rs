@@ -1,6 +1,6 @@
 // The list `numbers`.
 
-use super::super::graphs::{ascend, kwg_of, nodes_of, pack_all, random_nodes};
+use super::super::graphs::{Graph, pack_all, random_graph, random_nodes};
 use super::super::layout::{Fields, Layout};
 use super::super::samples::{doubled_chain, empty_graph, graph, words_of};
 use super::{COUNT, NUMBER_TO_WORD, WORD_TO_NUMBER, in_range};
@@ -12,38 +12,6 @@ const LONGEST: usize = 15;
 
 // How many words or numbers are all asked; of more, some.
 const ASK_ALL: usize = 8;
-
-struct Graph {
-    words: Vec<u32>,
-    nodes: Vec<Fields>,
-    // The Rust's own.
-    counts: Vec<u32>,
-}
-
-impl Graph {
-    fn new(words: Vec<u32>) -> Self {
-        let nodes = nodes_of(&words);
-        let counts = kwg_of(&words)
-            .count_words_alloc()
-            .expect("the graph has no loop");
-        Self {
-            words,
-            nodes,
-            counts: counts.into_vec(),
-        }
-    }
-
-    fn of_nodes(nodes: &[Fields]) -> Self {
-        Self::new(pack_all(nodes))
-    }
-
-    // The node with the most words, but for node 0.
-    fn richest(&self) -> usize {
-        (1..self.counts.len())
-            .max_by_key(|&place| self.counts[place])
-            .unwrap_or(0)
-    }
-}
 
 pub fn requests(requests: &mut Requests) {
     requests.comment("calls 6 to 8: the words counted, the number of a word, the word of a number");
@@ -152,15 +120,6 @@ fn sample_graphs(requests: &mut Requests) {
             ask_from(requests, &graph, &graph.counts, start);
         }
     }
-}
-
-fn random_graph(random: &mut Random, len: usize, kind: u32) -> Graph {
-    let tiles = [3, 5, 64][kind as usize];
-    let mut nodes = random_nodes(random, len, tiles);
-    if kind == 1 {
-        ascend(&mut nodes);
-    }
-    Graph::of_nodes(&nodes)
 }
 
 // Of some only the count; of others also lookups from node 0, from where it

@@ -1,7 +1,8 @@
 -- `lines::put_line` meets its contract: a line is its four parts, put one after the other.
 use native.Mathlib.Omega.{arith}
+use Rattle.endian.specs.Puts.{put-size}
 use Rattle.listing.proofs.LinesLaws.{line-parts}
-use Rattle.listing.proofs.PutLaws.{put-size, put-parts}
+use Rattle.listing.proofs.PutLaws.{put-parts}
 use borrow.Author.Needs.{needs}
 use Rattle.listing.proofs.lines.put_line.Statement.{statement}
 use Rattle.listing.proofs.lines.put_line.Tie as tie

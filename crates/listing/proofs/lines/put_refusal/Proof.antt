@@ -4,10 +4,9 @@ use mathlib.Core.Path.{refl, ap}
 use Prim.Native.Nat.{_+_}
 use lib.ListN.{length}
 use lib.Seq.{length-sets}
+use Rattle.endian.specs.Puts.{Puts, put-size, put-both}
 use Rattle.listing.specs.Lines.{refusedTab, refusalLine}
 use Rattle.listing.proofs.LinesLaws.{refusal-parts}
-use Rattle.listing.proofs.PutLaws.{put-size, put-both}
-use Rattle.listing.specs.Said.{Puts}
 use borrow.Author.Needs.{needs}
 use Rattle.listing.proofs.lines.put_refusal.Statement.{statement}
 use Rattle.listing.proofs.lines.put_refusal.Tie as tie

@@ -6,9 +6,10 @@ use mathlib.Core.Path.{refl}
 use Prim.Native.Nat.{_+_, _-_, _≤_, _<_}
 use lib.ListN.{length, getD, drop}
 use Rattle.endian.specs.Putting.{Putting, put-start}
+use Rattle.endian.specs.Puts.{put-none, put-size, next-put, all-put}
 use Rattle.listing.specs.Lines.{spaced}
 use Rattle.listing.proofs.LinesLaws.{parted-none, first-parts, next-parts, spaced-next, spaced-done}
-use Rattle.listing.proofs.PutLaws.{put-none, put-size, next-put, all-put, put-parted, put-spaced}
+use Rattle.listing.proofs.PutLaws.{put-parted, put-spaced}
 use Rattle.listing.proofs.lines.put_tiles.Statement.{statement}
 use Rattle.listing.proofs.lines.put_tiles.Tie as tie
 

@@ -47,6 +47,9 @@ to-macondo-requires c κs = search needs
 to-lxd-requires : tie.Need-to-lxd-requires
 to-lxd-requires c κs = search needs
 
+write-page-requires : tie.Need-write-page-requires
+write-page-requires c κs = search needs
+
 returns : tie.Need-returns
 returns c = replies-as 1 (c .before .match .keys1) R.node-fields (c .node-fields .ensures)
 
@@ -87,15 +90,18 @@ returns-13 : tie.Need-returns-13
 returns-13 c = replies-as 14 (c .before .match .keys13) R.macondo (c .to-macondo .ensures)
 
 returns-14 : tie.Need-returns-14
-returns-14 c =
+returns-14 c = replies-as 15 (c .before .match .keys14) R.lxd (c .to-lxd .ensures)
+
+returns-15 : tie.Need-returns-15
+returns-15 c =
     let start = c .before .before .before .before .before in
     let rest = c .before .match .rest in
     let asked = start .pre in
-    let is = last-call (start .args .call) (asked .0) (asked .1) (asked .2) (rest .0 .0 .0 .0 .0 .0 .0 .0 .0 .0 .0 .0 .1)
-    (rest .0 .0 .0 .0 .0 .0 .0 .0 .0 .0 .0 .1) (rest .0 .0 .0 .0 .0 .0 .0 .0 .0 .0 .1) (rest .0 .0 .0 .0 .0 .0 .0 .0 .0 .1)
-    (rest .0 .0 .0 .0 .0 .0 .0 .0 .1) (rest .0 .0 .0 .0 .0 .0 .0 .1) (rest .0 .0 .0 .0 .0 .0 .1) (rest .0 .0 .0 .0 .0 .1) (rest .0 .0 .0 .0 .1)
-    (rest .0 .0 .0 .1) (rest .0 .0 .1) (rest .0 .1) (rest .1) in
-    replies-as 15 is R.lxd (c .to-lxd .ensures)
+    let is = last-call (start .args .call) (asked .0) (asked .1) (asked .2) (rest .0 .0 .0 .0 .0 .0 .0 .0 .0 .0 .0 .0 .0 .1)
+    (rest .0 .0 .0 .0 .0 .0 .0 .0 .0 .0 .0 .0 .1) (rest .0 .0 .0 .0 .0 .0 .0 .0 .0 .0 .0 .1) (rest .0 .0 .0 .0 .0 .0 .0 .0 .0 .0 .1)
+    (rest .0 .0 .0 .0 .0 .0 .0 .0 .0 .1) (rest .0 .0 .0 .0 .0 .0 .0 .0 .1) (rest .0 .0 .0 .0 .0 .0 .0 .1) (rest .0 .0 .0 .0 .0 .0 .1)
+    (rest .0 .0 .0 .0 .0 .1) (rest .0 .0 .0 .0 .1) (rest .0 .0 .0 .1) (rest .0 .0 .1) (rest .0 .1) (rest .1) in
+    replies-as 16 is R.pages (c .write-page .ensures)
 
 pub replies-to-spec : {M : Type 1} → statement M
 replies-to-spec =
@@ -115,6 +121,7 @@ replies-to-spec =
     alpha-cross-set-requires
     to-macondo-requires
     to-lxd-requires
+    write-page-requires
     returns
     returns-2
     returns-3
@@ -128,4 +135,5 @@ replies-to-spec =
     returns-11
     returns-12
     returns-13
-    returns-14)
+    returns-14
+    returns-15)

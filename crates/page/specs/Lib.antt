@@ -1,0 +1,11 @@
+pub mod Rows
+pub mod Shown
+pub mod Page
+pub mod Held
+pub mod Said
+pub mod RowsLaws
+pub mod ShownLaws
+pub mod Columns
+pub mod ColumnsLaws
+pub mod Shows
+pub mod ShowsLaws
