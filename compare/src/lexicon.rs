@@ -28,10 +28,10 @@ pub fn made_up_words(random: &mut Random, count: usize) -> Words {
     while words.len() < count {
         let mut stem = Vec::new();
         for _ in 0..random.within(1, 5) {
-            stem.push(CONSONANTS[random.within(0, CONSONANTS.len() as u64) as usize]);
-            stem.push(VOWELS[random.within(0, VOWELS.len() as u64) as usize]);
+            stem.push(random.pick(CONSONANTS));
+            stem.push(random.pick(VOWELS));
             if random.within(0, 3) == 0 {
-                stem.push(CONSONANTS[random.within(0, CONSONANTS.len() as u64) as usize]);
+                stem.push(random.pick(CONSONANTS));
             }
         }
         for ending in ENDINGS {

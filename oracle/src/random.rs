@@ -35,4 +35,8 @@ impl Random {
     pub fn within(&mut self, low: u64, high: u64) -> u64 {
         low + self.next() % (high - low)
     }
+
+    pub fn pick<T: Copy>(&mut self, list: &[T]) -> T {
+        list[self.within(0, list.len() as u64) as usize]
+    }
 }

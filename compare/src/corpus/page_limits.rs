@@ -3,8 +3,8 @@
 use super::Size;
 use super::all_calls::foreign;
 use super::pages::{
-    LAST_FIRSTS, ODD_BYTES, ODD_LABELS, PAGE, PAGE_LENGTHS, TITLE_LENGTHS, first, pick,
-    plain_labels, titled, two_pages,
+    LAST_FIRSTS, ODD_BYTES, ODD_LABELS, PAGE, PAGE_LENGTHS, TITLE_LENGTHS, first, plain_labels,
+    titled, two_pages,
 };
 use crate::checker::{Checker, Graph};
 use crate::engine::PageOf;
@@ -269,7 +269,7 @@ fn changed_lines(checker: &mut Checker, random: &mut Random) {
     let mut nodes = line(&lengths);
     for _ in 0..random.within(0, 4) {
         let at = random.within(2, nodes.len() as u64) as usize;
-        nodes[at] ^= pick(random, &[0x80, 0x40, 0x100, 0x3f]);
+        nodes[at] ^= random.pick(&[0x80, 0x40, 0x100, 0x3f]);
     }
     let graph = Graph::new(nodes);
     let mut counts = match &graph.counts {
@@ -286,7 +286,7 @@ fn changed_lines(checker: &mut Checker, random: &mut Random) {
             .for_each(|count| *count ^= 1),
         _ => {}
     }
-    let start = pick(random, &[2, 2, 2, 0, 5]);
+    let start = random.pick(&[2, 2, 2, 0, 5]);
     let first = first(random, lengths.len() as u32);
     two_pages(checker, random, &graph, &counts, start, first);
 }

@@ -43,10 +43,6 @@ pub const LAST_FIRSTS: [u32; 8] = [
     u32::MAX,
 ];
 
-pub fn pick<T: Copy>(random: &mut Random, list: &[T]) -> T {
-    list[random.within(0, list.len() as u64) as usize]
-}
-
 /// So many printable labels: a question mark for tile 0, then A, B and on.
 pub fn plain_labels(count: usize) -> Vec<u32> {
     let printable = [0x3f].into_iter().chain(0x41..=0x7e).chain([0x20]);
@@ -83,7 +79,7 @@ pub fn pages(checker: &mut Checker, random: &mut Random, graph: &Graph) {
     }
     for _ in 0..2 {
         let counts = foreign(random, graph);
-        let (start, first) = (pick(random, &starts), first(random, 2));
+        let (start, first) = (random.pick(&starts), first(random, 2));
         two_pages(checker, random, graph, &counts, start, first);
     }
 }
@@ -126,7 +122,7 @@ pub fn first(random: &mut Random, many: u32) -> u32 {
         7 => many.saturating_sub(1),
         8 => many,
         9 => many.wrapping_add(1),
-        10 => pick(random, &LAST_FIRSTS),
+        10 => random.pick(&LAST_FIRSTS),
         _ => random.word(),
     }
 }
@@ -134,7 +130,7 @@ pub fn first(random: &mut Random, many: u32) -> u32 {
 // The same page with other labels, another title and another buffer, each mostly such as are not refused.
 fn any_page(checker: &mut Checker, random: &mut Random, graph: &Graph, asked: &PageOf) {
     let page_len = match random.within(0, 3) {
-        0 => pick(random, &PAGE_LENGTHS),
+        0 => random.pick(&PAGE_LENGTHS),
         _ => PAGE,
     };
     let asked = PageOf {
@@ -155,19 +151,19 @@ fn any_labels(random: &mut Random, labels: &[u32]) -> Vec<u32> {
     }
     if !labels.is_empty() && random.within(0, 4) == 0 {
         let at = random.within(0, labels.len() as u64) as usize;
-        labels[at] = pick(random, &ODD_LABELS);
+        labels[at] = random.pick(&ODD_LABELS);
     }
     labels
 }
 
 fn any_title(random: &mut Random) -> Vec<u8> {
     let len = match random.within(0, 6) {
-        0 => pick(random, &TITLE_LENGTHS),
+        0 => random.pick(&TITLE_LENGTHS),
         _ => random.within(0, 41) as usize,
     };
     let mut title: Vec<u8> = (0..len).map(|_| random.within(0x20, 0x7f) as u8).collect();
     if len > 0 && random.within(0, 6) == 0 {
-        title[random.within(0, len as u64) as usize] = pick(random, &ODD_BYTES);
+        title[random.within(0, len as u64) as usize] = random.pick(&ODD_BYTES);
     }
     title
 }

@@ -16,12 +16,9 @@ fn labels(random: &mut Random, len: usize) -> Vec<u32> {
         7 => 0xf8 + own.within(0, 9) as u32,
         8 => 0x100 - tile,
         9 => own.within(0x21, 0x300) as u32,
-        _ => *pick(
-            &mut own,
-            &[
-                0x20, 0x41, 0xd7ff, 0xd800, 0xdfff, 0xe000, 0x10ffff, 0x110000, !0,
-            ],
-        ),
+        _ => own.pick(&[
+            0x20, 0x41, 0xd7ff, 0xd800, 0xdfff, 0xe000, 0x10ffff, 0x110000, !0,
+        ]),
     };
     let mut labels: Vec<u32> = (0..len as u32).map(&mut label).collect();
     if let Some(blank) = labels.first_mut().filter(|_| kind < 8) {
@@ -30,16 +27,12 @@ fn labels(random: &mut Random, len: usize) -> Vec<u32> {
     labels
 }
 
-fn pick<'a, T>(random: &mut Random, list: &'a [T]) -> &'a T {
-    &list[random.within(0, list.len() as u64) as usize]
-}
-
 /// Mostly a label for each tile, at times one too few, and at times a number near a limit.
 pub fn label_count(random: &mut Random, tiles: usize) -> usize {
     match random.within(0, 16) {
         0 => tiles - 1,
         1 => tiles + 1,
-        2 => *pick(random, &[0, 1, 49, 50, 51, 64, 65, 300]),
+        2 => random.pick(&[0, 1, 49, 50, 51, 64, 65, 300]),
         _ => tiles,
     }
 }
@@ -63,7 +56,7 @@ pub fn macondo(random: &mut Random, label_count: usize) -> Texts {
         name: (0..len)
             .map(|_| random.byte() & if plain { 0x7f } else { 0xff })
             .collect(),
-        format: *pick(random, &[0, 0, 0, 1, 1, 1, 7, u32::MAX]),
+        format: random.pick(&[0, 0, 0, 1, 1, 1, 7, u32::MAX]),
     })
 }
 
@@ -72,7 +65,7 @@ fn text(random: &mut Random, limit: usize) -> Vec<u32> {
     let mut text: Vec<u32> = (0..len).map(|_| random.within(0, 0x100) as u32).collect();
     if len > 0 && random.within(0, 12) == 0 {
         let at = random.within(0, len as u64) as usize;
-        text[at] = *pick(random, &[0xff, 0x100, 0x101, 0xd800, 0x10ffff, !0]);
+        text[at] = random.pick(&[0xff, 0x100, 0x101, 0xd800, 0x10ffff, !0]);
     }
     text
 }

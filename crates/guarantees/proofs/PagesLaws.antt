@@ -1,8 +1,7 @@
 -- Pages hold. The idea: they are laws of the crate that owns pages; here is only that a graph that loads and counts has what these ask.
-use lib.Dec.{lit<}
 use Rattle.page.specs.Rows.{Widths, pageWidths}
 use Rattle.page.specs.Columns.{WideEnough}
-use Rattle.page.specs.ColumnsLaws.{columns}
+use Rattle.page.specs.ColumnsLaws.{page-wide, columns}
 use Rattle.page.specs.ShowsLaws.{page-shows}
 use Rattle.guarantees.specs.Demand3.{loadedGraph}
 use Rattle.guarantees.specs.Pages.{Pages}
@@ -20,4 +19,4 @@ pages w wide =
 
 -- the page of 24 rows of 40 bytes
 pub pages-written : Pages pageWidths
-pages-written = pages pageWidths (lit< tt, lit< tt)
+pages-written = pages pageWidths page-wide

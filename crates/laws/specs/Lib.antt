@@ -6,6 +6,7 @@ pub mod Firsts
 pub mod Lists
 pub mod Members
 pub mod NoRepeats
+pub mod Searching
 pub mod ListWrites
 pub mod Sorting
 pub mod Without

@@ -5,7 +5,8 @@ use mathlib.Core.Logic.{⊎-elim}
 use mathlib.Core.List.{List, [], _∷_, _++_, map, List·Memᴰ, List·Memᴰ·head, List·Memᴰ·tail, List·Memᴰ·not-nil, List·Memᴰ·cases-cons}
 use Prim.Native.Nat.{ℕ, zero, suc}
 use lib.Dec.{eqb}
-use lib.ListN.{drop}
+use native.Mathlib.Omega.{arith}
+use lib.ListN.{length, drop}
 
 abbrev pub All {ℓ κ} : {A : Type ℓ} → (A → Type κ) → List A → Type κ
 All P [] = Unit
@@ -44,6 +45,10 @@ someOf f (x ∷ xs) = f x || someOf f xs
 abbrev pub joinAll : {A : Type 0} → List (List A) → List A
 joinAll [] = []
 joinAll (x ∷ xs) = x ++ joinAll xs
+
+pub none-left : {A : Type 0} (l : List A) → length l ≡ 0 → l ≡ []
+none-left [] e = refl
+none-left (x ∷ l) e = absurd (omega arith)
 
 pub drop-map : (f : ℕ → ℕ) (n : ℕ) (l : List ℕ) → drop n (map f l) ≡ map f (drop n l)
 drop-map f zero l = refl

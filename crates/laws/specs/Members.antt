@@ -4,13 +4,11 @@ use mathlib.Core.Bool.{Bool, true, false, true≢false}
 use mathlib.Core.Logic.{⊎-elim}
 use mathlib.Core.List.{List, [], _∷_, map, List·Memᴰ}
 use mathlib.Core.List.{List·Memᴰ·head, List·Memᴰ·tail, List·Memᴰ·not-nil, List·Memᴰ·cases-cons, List·Memᴰ·append-cases, Memᴰ·append-left, Memᴰ·append-right}
-use Prim.Native.Nat.{ℕ, zero, suc, zero-le, _+_, _≤_, _<_}
-use native.Mathlib.Numerals.{add-one}
+use Prim.Native.Nat.{ℕ, zero, suc, zero-le, _≤_, _<_}
 use native.Mathlib.Omega.{arith}
 use lib.Dec.{eqb}
 use borrow.Author.Tests.{eqb-true, eqb-false}
-use lib.ListN.{length, getD, drop, drop-of-length-le}
-use lib.Seq.{drop-cons}
+use lib.ListN.{length, getD, drop}
 use Rattle.laws.specs.Cases.{split}
 use Rattle.laws.specs.Lists.{filtered, member, someOf, joinAll}
 
@@ -123,17 +121,6 @@ module _ {A B : Type 0} (f : A → List B) where
       (λ i. Memᴰ·append-left (joinAll (map f l)) (rw i at n))
       (λ k. Memᴰ·append-right (f z) (join-in l x y k n))
       (List·Memᴰ·cases-cons m)
-
--- a search along a list: what is left of it decides
-module _ {A : Type 0} (f : A → Bool) (l : List A) (z : A) (i : ℕ) where
-  pub some-here : i < length l → f (getD l i z) ≡ true → someOf f (drop i l) ≡ true
-  some-here h e = rw (drop-cons l i z h) (rw e)
-
-  pub some-next : i < length l → f (getD l i z) ≡ false → someOf f (drop i l) ≡ someOf f (drop (i + 1) l)
-  some-next h e = rw (drop-cons l i z h) (rw (e, add-one))
-
-  pub some-past : length l ≤ i → someOf f (drop i l) ≡ false
-  some-past h = rw (drop-of-length-le l h)
 
 -- a weaker test keeps more
 module _ {A : Type 0} (f h : A → Bool) (weaker : (x : A) → f x ≡ true → h x ≡ true) where

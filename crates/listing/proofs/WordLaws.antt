@@ -4,14 +4,13 @@ use mathlib.Core.Bool.{true, false}
 use mathlib.Core.List.{List, [], _∷_}
 use Prim.Native.Nat.{ℕ, _≤_, _<_}
 use native.Mathlib.Omega.{arith}
-use lib.ListN.{length, take, drop}
-use lib.Seq.{take-at}
+use lib.ListN.{length, take}
 use Rattle.answers.specs.Answers.{Answer, gives, nothing, refused}
 use Rattle.endian.specs.Puts.{Puts, put-none}
 use Rattle.graph.specs.Words.{Word}
 use Rattle.lookup.specs.Said.{saidWord, WordPut}
 use Rattle.lookup.specs.Walks.{wordByIndex}
-use Rattle.lookup.specs.WalkedLaws.{WalkLeaves}
+use Rattle.lookup.specs.WalkedLaws.{WalkLeaves, tiles-front}
 use Rattle.lookup.specs.declared.by_number.WordByIndex.{WordByIndex}
 use Rattle.lookup.specs.declared.by_number.WordByIndex.the-variants.{Tiles}
 use Rattle.listing.specs.Lines.{line, refusalLine}
@@ -47,7 +46,7 @@ word-in {walked} {after} {r} {n} w t e =
     let s : n ≡ length (walked .0) = w .given n a ∙ omega arith in
     record {
       answer = a;
-      word = ap (take n) (t .put .tiles) ∙ take-at (walked .0) (drop (length (walked .0)) (t .before)) n (sym s);
+      word = tiles-front (t .put) n s;
       size = s;
       few = omega (arith, w .fits);
     }

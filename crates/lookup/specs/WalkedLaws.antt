@@ -1,12 +1,13 @@
 -- The walk by number, whatever it is lent: it answers how many tiles it put, each is below 64, it is refused by 16 only where they fill
 -- the buffer, and a shorter buffer cuts it there.
-use mathlib.Core.Path.{_≡_, refl, sym, ap}
+use mathlib.Core.Path.{_≡_, refl, sym, ap, _∙_}
 use mathlib.Core.Bool.{_&&_}
 use mathlib.Core.List.{List, [], _∷_}
 use Prim.Native.Nat.{ℕ, zero, suc, zero-le, _+_, _-_, _≤_, _<_}
 use native.Mathlib.Omega.{arith}
 use lib.Dec.{eqb, ltb, leb}
 use lib.ListN.{length, take, drop}
+use lib.Seq.{take-at}
 use Rattle.laws.specs.Cases.{split}
 use Rattle.laws.specs.Lists.{All}
 use Rattle.answers.specs.Answers.{Answer, gives, nothing, refused}
@@ -15,33 +16,34 @@ use Rattle.node.specs.Nodes.{KBWG, arc, accepts, isEnd}
 use Rattle.graph.specs.Runs.{Graph}
 use Rattle.graph.specs.Words.{Word}
 use Rattle.lookup.specs.Steps.{Try, on, stop, _>>=_, lent, difference, lentPart}
+use Rattle.lookup.specs.StepsLaws.{Comes, then-comes}
+use Rattle.lookup.specs.Said.{WordPut}
+use Rattle.lookup.specs.declared.by_number.WordByIndex.{WordByIndex}
 use Rattle.lookup.specs.Walks.{Turn, last, down, wordsHere, turnIn, wordFrom, wordByIndex}
 
 -- ---- no step ends the walk with a value or by 16
-StepEnds : {A : Type 0} → Try A → Type 0
-StepEnds (on a) = Unit
-StepEnds (stop (gives vs)) = ⊥
-StepEnds (stop nothing) = Unit
-StepEnds (stop (refused n vs)) = n < 16
+Stops : Answer → Type 0
+Stops (gives vs) = ⊥
+Stops nothing = Unit
+Stops (refused n vs) = n < 16
+
+abbrev StepEnds : {A : Type 0} → Try A → Type 0
+StepEnds x = Comes (λ _. Unit) Stops x
 
 then-ends : {A B : Type 0} (x : Try A) (f : A → Try B) → StepEnds x → ((a : A) → StepEnds (f a)) → StepEnds (x >>= f)
-unfolding StepEnds
-then-ends (on a) f h k = k a
-then-ends (stop (gives vs)) f h k = h
-then-ends (stop nothing) f h k = tt
-then-ends (stop (refused n vs)) f h k = h
+then-ends x f h k = then-comes (λ _. Unit) (λ _. Unit) Stops x f h (λ a _ _. k a)
 
 lent-ends : (l : List ℕ) (i : ℕ) → StepEnds (lent l i)
-unfolding StepEnds lent
+unfolding Stops lent
 lent-ends l i = split (ltb i (length l)) (λ t. rw (t, lent) tt) (λ t. rw (t, lent) (omega arith))
 
 difference-ends : (a b : ℕ) → StepEnds (difference a b)
-unfolding StepEnds difference
+unfolding Stops difference
 difference-ends a b = split (leb b a) (λ t. rw (t, difference) tt) (λ t. rw (t, difference) (omega arith))
 
 module _ (counts : List ℕ) where
   here-ends : (v p : ℕ) → StepEnds (wordsHere counts v p)
-  unfolding StepEnds wordsHere
+  unfolding Stops wordsHere
   here-ends v p =
       then-ends (lent counts p) _ (lent-ends counts p)
       (λ c. split (isEnd KBWG v)
@@ -49,7 +51,7 @@ module _ (counts : List ℕ) where
       (λ t. rw t (then-ends (lent counts (suc p)) _ (lent-ends counts (suc p)) (λ d. difference-ends c d))))
 
   turn-ends : (g : Graph) (p idx : ℕ) → StepEnds (turnIn counts g p idx)
-  unfolding StepEnds turnIn
+  unfolding Stops turnIn
   turn-ends [] p idx = omega arith
   turn-ends (v ∷ g) p idx =
       split (eqb idx 0 && accepts KBWG v)
@@ -74,7 +76,7 @@ pub record WalkLeaves (room n : ℕ) (x : Word × Answer) : Type 0 where
 
 -- a walk that puts nothing
 stopped : (room n : ℕ) (r : Answer) → StepEnds {A = Turn} (stop r) → WalkLeaves room n ([], r)
-unfolding StepEnds
+unfolding Stops
 stopped room n (gives vs) h = absurd h
 stopped room n nothing h = record { fits = zero-le; tiles = tt; given = λ m e. cc; full = λ e. cc }
 stopped room n (refused k vs) h =
@@ -87,7 +89,7 @@ stopped room n (refused k vs) h =
 
 module _ (counts : List ℕ) (g : Graph) where
   filled : (n p idx : ℕ) (t : Try Turn) → turnIn counts (drop p g) p idx ≡ t → StepEnds t → WalkLeaves 0 n (wordFrom counts g 0 n p idx)
-  unfolding wordFrom StepEnds
+  unfolding wordFrom Stops
   filled n p idx (on t) e h =
       rw (e, wordFrom) (record { fits = zero-le; tiles = tt; given = λ m i. gives≢refused (sym i); full = λ i. refl })
   filled n p idx (stop r) e h = rw (e, wordFrom) (stopped 0 n r h)
@@ -155,3 +157,8 @@ module _ (counts : List ℕ) (nodes : Graph) (room p idx : ℕ) where
       → wordByIndex counts nodes room p idx ≡ (take room (wordByIndex counts nodes big p idx .0), refused 16 [])
   unfolding wordByIndex Cut
   by-index-cut big h = cut (lentPart counts) (lentPart nodes) room big 0 p idx h
+
+-- the tiles of a word that is put stand at the front of the buffer
+pub tiles-front : {walk : Word × Answer} {before after : List ℕ} {r : WordByIndex} → WordPut walk before after r → (n : ℕ) → n ≡ length (walk .0)
+    → take n after ≡ walk .0
+tiles-front {walk} {before} p n e = ap (take n) (p .tiles) ∙ take-at (walk .0) (drop (length (walk .0)) before) n (sym e)

@@ -1,17 +1,17 @@
 -- Every file that the writer accepts spells the words from the start, each tile renamed to its label. The idea: the runs stand in the
 -- file as copies, and no chain of runs is longer than the file.
 use mathlib.Core.Path.{_≡_, refl, sym, ap, _∙_}
-use mathlib.Core.List.{List, [], _∷_, _++_, map, map-append, List·Memᴰ}
+use mathlib.Core.List.{List, _∷_, _++_, map, map-append, List·Memᴰ}
 use mathlib.Core.Option.{none}
 use Prim.Native.Nat.{ℕ, suc}
 use native.Mathlib.Omega.{arith}
 use lib.ListN.{length, getD, drop, length-map}
-use Rattle.laws.specs.Lists.{drop-map}
+use Rattle.laws.specs.Lists.{none-left, drop-map}
 use Rattle.laws.specs.Members.{join-in}
 use Rattle.answers.specs.Answers.{firstOf}
 use Rattle.node.specs.Nodes.{KBWG, arc}
 use Rattle.graph.specs.Runs.{Graph, run, startNode}
-use Rattle.graph.specs.Words.{Word, inOrder, spelled, wordsWithin, words}
+use Rattle.graph.specs.Words.{inOrder, spelled, wordsWithin, words}
 use Rattle.graph.specs.ChecksLaws.{start-inside}
 use Rattle.export.specs.Starts.{runOf}
 use Rattle.export.specs.BlocksLaws.{block-at}
@@ -26,10 +26,6 @@ use Rattle.lxd_file.specs.FileLaws.{file-nodes, file-node-count, file-wo
 use Rattle.lxd_file.specs.RunsLaws.{no-child, child-place, start-place, start-in-runs, ends-from}
 use Rattle.lxd_file.specs.RunsLaws.{runs-inside, runs-within, runs-end, arc-in-runs, place-within}
 use Rattle.lxd_file.specs.NodesLaws.{words-or-none, nodes-none, nodes-some, node-fields, lxd-nodes-below, lxd-nodes-few}
-
-none-left : (ws : List Word) → length ws ≡ 0 → ws ≡ []
-none-left [] e = refl
-none-left (w ∷ ws) e = absurd (omega arith)
 
 module _ (g : Graph) (labels : List ℕ) (ok : LxdAccepted g labels) where
   abbrev label : ℕ → ℕ

@@ -6,10 +6,11 @@ use native.Mathlib.Numerals.{add-one}
 use native.Mathlib.Omega.{arith}
 use lib.ListN.{length, getD, take, drop, length-take, length-drop, take-append-drop, drop-of-length-le}
 use lib.Seq.{drop-cons, drop-drop}
-use Rattle.laws.specs.Lists.{All, joinAll}
-use Rattle.decimal.specs.Decimal.{decimal}
+use Rattle.laws.specs.Lists.{All, joinAll, none-left}
 use Rattle.page.specs.Rows.{Widths, rowOf}
 use Rattle.page.specs.RowsLaws.{HasRoom}
+use Rattle.page.specs.Columns.{WideEnough}
+use Rattle.page.specs.ColumnsLaws.{digits-fit}
 use Rattle.page.specs.Page.{shownTiles}
 use Rattle.page.specs.Held.{heldWord, held, heldTiles, heldRows}
 
@@ -49,18 +50,13 @@ held-length columns n tiles [] = refl
 held-length columns n tiles (s ∷ sizes) = ap suc (held-length columns (suc n) (drop (min s columns) tiles) sizes)
 
 -- each has room in its row, where no number is too large
-pub held-room : (w : Widths) → ((n : ℕ) → n ≤ w .greatest → length (decimal n) ≤ w .number) → (n : ℕ) (tiles sizes : List ℕ)
-    → n + length sizes ≤ w .greatest + 1 → All (HasRoom w) (held (w .word) n tiles sizes)
+pub held-room : (w : Widths) → WideEnough w → (n : ℕ) (tiles sizes : List ℕ) → n + length sizes ≤ w .greatest + 1 → All (HasRoom w) (held (w .word) n tiles sizes)
 unfolding held
-held-room w digits n tiles [] h = tt
-held-room w digits n tiles (s ∷ sizes) h = (
-  record { digits = digits n (omega arith); tiles = omega (arith, length-take (min s (w .word)) tiles) },
-  held-room w digits (suc n) (drop (min s (w .word)) tiles) sizes (omega arith),
+held-room w wide n tiles [] h = tt
+held-room w wide n tiles (s ∷ sizes) h = (
+  record { digits = digits-fit w wide n (omega arith); tiles = omega (arith, length-take (min s (w .word)) tiles) },
+  held-room w wide (suc n) (drop (min s (w .word)) tiles) sizes (omega arith),
 )
-
-pub none-left : (l : List ℕ) → length l ≡ 0 → l ≡ []
-none-left [] h = refl
-none-left (x ∷ l) h = absurd (omega arith)
 
 -- their tiles are all that are held
 pub held-tiles : (columns n : ℕ) (tiles sizes : List ℕ) → heldTiles columns sizes ≡ length tiles

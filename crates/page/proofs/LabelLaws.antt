@@ -4,15 +4,15 @@ use mathlib.Core.Bool.{Bool, false}
 use mathlib.Core.List.{List, List·Memᴰ, Memᴰ·append-left}
 use Prim.Native.Nat.{ℕ, _<_}
 use native.Mathlib.Omega.{arith}
-use lib.Dec.{ltb, leb}
-use borrow.Author.Tests.{ltb-false, leb-false}
+use lib.Dec.{leb}
+use borrow.Author.Tests.{leb-false}
 use lib.ListN.{length, getD, take, drop, take-append-drop}
-use Rattle.laws.specs.Cases.{or-false-right}
 use Rattle.laws.specs.Lists.{someOf, all-mem, all-members}
 use Rattle.laws.specs.Members.{at-in, in-drop, none-of}
 use Rattle.graph.specs.Words.{Word}
 use Rattle.page.specs.Rows.{labelOf}
 use Rattle.page.specs.Page.{outside}
+use Rattle.page.specs.ColumnsLaws.{inside}
 use Rattle.page.specs.Said.{Labelled}
 
 -- the two checks
@@ -33,9 +33,8 @@ module _ (labels : List ℕ) (tiles : Word) where
     pub all-labelled : someOf (unshown labels) tiles ≡ false → Labelled labels tiles
     all-labelled e =
         all-members _ tiles (λ t m.
-        let inside = or-false-right (ltb (labelOf labels t) 0x20) _ (none-of (unshown labels) tiles e t m) in
-        let h = ltb-false 0x7E (labelOf labels t) inside in
-        (there t m, omega arith))
+        let shown = inside (labelOf labels t) (none-of (unshown labels) tiles e t m) in
+        (there t m, omega (arith, shown .1)))
 
   -- the tile at a place
   pub label-at : Labelled labels tiles → (i : ℕ) → i < length tiles

@@ -1,5 +1,4 @@
 -- What the proofs of several functions use.
-mod SearchLaws
 mod LabelLaws
 mod PutLaws
 mod HeldLaws

@@ -9,6 +9,7 @@ use native.Mathlib.Omega.{arith}
 use borrow.Author.Tests.{lt-ltb, le-ltb}
 use lib.ListN.{length, set, take, drop, length-drop, length-append, length-set}
 use lib.Seq.{take-at, take-append-add, take-append-le, drop-append-le, take-suc-set, take-take, length-take-le}
+use Rattle.laws.specs.Lists.{none-left}
 use Rattle.lookup.specs.Steps.{Try, on, stop, _>>=_}
 use Rattle.lookup.specs.Walks.{wordByIndex}
 use Rattle.page.specs.Rows.{Widths, ShownWord, pageWidths, wordRows, tileRoom}
@@ -18,7 +19,6 @@ use Rattle.page.specs.Said.{RowsHeld}
 use Rattle.page.specs.declared.walking.RowFound.{RowFound}
 use Rattle.page.specs.declared.walking.RowFound.the-variants as F
 use Rattle.page.specs.declared.walking.RowsWalked.the-variants as W
-use Rattle.page.proofs.HeldLaws.{none-left}
 
 -- ---- one word more is held
 module _ (columns : ℕ) where
@@ -49,9 +49,9 @@ module _ (columns : ℕ) where
   tiles-most [] = zero-le
   tiles-most (s ∷ sizes) = omega (arith, tiles-most sizes, suc-mul (length sizes) columns)
 
-then-on : {A : Type 0} (t : Try A) → (t >>= λ a. on a) ≡ t
-then-on (on a) = refl
-then-on (stop r) = refl
+then-same : {A : Type 0} (t : Try A) → (t >>= λ a. on a) ≡ t
+then-same (on a) = refl
+then-same (stop r) = refl
 
 -- a word found and then those left, or the word held and then those left
 held-on : (left : Try (List ShownWord)) (before : List ShownWord) (e : ShownWord)
@@ -96,7 +96,7 @@ module _ (k : Walks) where
   unfolding held heldTiles
   none-yet are =
       let e : k .first + 0 ≡ k .first = omega arith in
-      record { sizes-are = are; rows = zero-le; tally = refl; whole = rw e (then-on walksAll) }
+      record { sizes-are = are; rows = zero-le; tally = refl; whole = rw e (then-same walksAll) }
 
   -- ---- the next number's walk decides
   -- a row more: the word found and those after it, or nothing

@@ -5,12 +5,11 @@ use Prim.Native.Nat.{ℕ, suc, min}
 use native.Mathlib.Omega.{arith}
 use lib.Dec.{ltb}
 use borrow.Author.Tests.{lt-ltb, le-ltb}
-use lib.ListN.{length, take, drop, length-append, length-drop}
-use lib.Seq.{take-at}
+use lib.ListN.{length, drop, length-append, length-drop}
 use Rattle.answers.specs.Answers.{Answer}
 use Rattle.graph.specs.Words.{Word}
 use Rattle.lookup.specs.Said.{saidWord, WordPut}
-use Rattle.lookup.specs.WalkedLaws.{WalkLeaves}
+use Rattle.lookup.specs.WalkedLaws.{WalkLeaves, tiles-front}
 use Rattle.lookup.specs.declared.by_number.WordByIndex.{WordByIndex}
 use Rattle.lookup.specs.declared.by_number.WordByIndex.the-variants as T
 use Rattle.page.specs.Shown.{shownBy}
@@ -39,8 +38,7 @@ module _ {columns : ℕ} {walk : Word × Answer} {before after : List ℕ} {r : 
   held-is : (n tiles : ℕ) → min tiles columns ≡ length (walk .0)
       → heldWord (length after) n after tiles ≡ record { number = n; tiles = walk .0; more = ltb columns tiles }
   held-is n tiles e =
-      let m = min tiles columns in
-      let front : take m after ≡ walk .0 = ap (take m) (w .put .tiles) ∙ take-at (walk .0) _ m (sym e) in
+      let front = tiles-front (w .put) (min tiles columns) e in
       rw (long, front)
 
   row-put : {n : ℕ} {f : RowFound} → foundTry n f after ≡ shownBy n walk → RowPut n walk before after f

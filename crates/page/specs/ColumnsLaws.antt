@@ -7,17 +7,18 @@ use mathlib.Core.List.{List, [], _∷_, _++_, map}
 use Prim.Native.Nat.{ℕ, zero, suc, _+_, _-_, _^_, _≤_, _<_}
 use native.Mathlib.Nat.{add-zero}
 use native.Mathlib.Omega.{arith}
-use lib.Dec.{ltb}
+use lib.Dec.{ltb, lit<}
 use borrow.Author.Tests.{ltb-false}
 use lib.ListN.{length, getD, drop, replicate, length-map}
 use lib.Seq.{take-at}
 use Rattle.laws.specs.Cases.{or-false-left, or-false-right}
-use Rattle.laws.specs.Lists.{All, all-append, all-weaken, someOf}
+use Rattle.laws.specs.Lists.{All, all-append, all-weaken, all-members, someOf}
+use Rattle.laws.specs.Members.{none-of}
 use Rattle.answers.specs.Answers.{gives}
 use Rattle.decimal.specs.Decimal.{decimal}
 use Rattle.decimal.specs.DecimalLaws.{decimal-length, decimal-digits, decimal-value}
 use Rattle.lookup.specs.Steps.{on}
-use Rattle.page.specs.Rows.{Widths, ShownWord, wordRows, blank, blanks, leftAligned, rightAligned, moreMark, labelOf, rowLength, pageLength}
+use Rattle.page.specs.Rows.{Widths, ShownWord, pageWidths, wordRows, blank, blanks, leftAligned, rightAligned, moreMark, labelOf, rowLength, pageLength}
 use Rattle.page.specs.Rows.{numberColumn, wordColumn, rowOf, blankRow, pageRows, pageText}
 use Rattle.page.specs.Page.{shownTiles, outside, pageWritten, pageWords, writePage}
 use Rattle.page.specs.RowsLaws.{all-replicate, all-joined, HasRoom, row-length, word-row, blank-row, page-length, page-row}
@@ -29,11 +30,18 @@ digits-within : (k n : ℕ) → 0 < k → n < 10 ^ k → length (decimal n) ≤ 
 digits-within zero n z h = absurd (omega arith)
 digits-within (suc k) n z h = decimal-length k n h
 
+-- the page's own columns hold every number
+pub page-wide : WideEnough pageWidths
+page-wide = (lit< tt, lit< tt)
+
 module _ (w : Widths) (wide : WideEnough w) where
+  pub digits-fit : (n : ℕ) → n ≤ w .greatest → length (decimal n) ≤ w .number
+  digits-fit n h = digits-within (w .number) n (wide .0) (omega (arith, wide .1))
+
   has-room : (n : ℕ) (e : ShownWord) → OfNumber w n e → HasRoom w e
   has-room n e h =
       record {
-        digits = rw (h .number) (digits-within (w .number) n (wide .0) (omega (arith, h .narrow, wide .1)));
+        digits = rw (h .number) (digits-fit n (h .narrow));
         tiles = h .tiles;
       }
 
@@ -80,18 +88,14 @@ numbered-at w n (e ∷ es) h (suc r) z k =
     subst (λ i. OfNumber w i (getD es r z)) at (numbered-at w (suc n) es (h .1) r z (omega arith))
 
 -- ---- bytes that can be shown
-inside : (b : ℕ) → outside b ≡ false → Printable b
+pub inside : (b : ℕ) → outside b ≡ false → Printable b
 inside b e = (
   ltb-false b 0x20 (or-false-left (ltb b 0x20) (ltb 0x7E b) e),
   ltb-false 0x7E b (or-false-right (ltb b 0x20) (ltb 0x7E b) e),
 )
 
 all-inside : (f : ℕ → ℕ) (ts : List ℕ) → someOf (λ t. outside (f t)) ts ≡ false → All (λ t. Printable (f t)) ts
-all-inside f [] e = tt
-all-inside f (t ∷ ts) e = (
-  inside (f t) (or-false-left (outside (f t)) _ e),
-  all-inside f ts (or-false-right (outside (f t)) _ e),
-)
+all-inside f ts e = all-members _ ts (λ t m. inside (f t) (none-of (λ u. outside (f u)) ts e t m))
 
 all-map : (f : ℕ → ℕ) (ts : List ℕ) → All (λ t. Printable (f t)) ts → All Printable (map f ts)
 all-map f [] h = tt

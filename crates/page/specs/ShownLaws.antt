@@ -15,6 +15,7 @@ use Rattle.answers.specs.Answers.{Answer, gives, nothing, refused, Row, firstOf
 use Rattle.answers.specs.RowLaws.{row-passed, row-refusal, gives≢refused}
 use Rattle.graph.specs.Words.{Word}
 use Rattle.lookup.specs.Steps.{Try, on, stop, _>>=_}
+use Rattle.lookup.specs.StepsLaws.{Comes, then-comes}
 use Rattle.lookup.specs.Walks.{wordByIndex}
 use Rattle.lookup.specs.WalkedLaws.{WalkLeaves, by-index-walked}
 use Rattle.page.specs.Rows.{Widths, ShownWord, wordRows, rowLength, labelOf}
@@ -22,18 +23,17 @@ use Rattle.page.specs.Shown.{shownBy, shownAt, shownFrom}
 use Rattle.page.specs.Page.{shownTiles, outside, checking, lentRow, labelRow, pageWritten, pageWords, writePage}
 
 -- ---- what goes on has the property, and what stops is a refusal
-abbrev OnOrRefused : {A : Type 0} → (A → Type 0) → Try A → Type 0
-OnOrRefused P (on a) = P a
-OnOrRefused P (stop (gives vs)) = ⊥
-OnOrRefused P (stop nothing) = ⊥
-OnOrRefused P (stop (refused n vs)) = Unit
+abbrev IsRefusal : Answer → Type 0
+IsRefusal (gives vs) = ⊥
+IsRefusal nothing = ⊥
+IsRefusal (refused n vs) = Unit
 
-then-on : {A B : Type 0} (P : A → Type 0) (Q : B → Type 0) (x : Try A) (f : A → Try B) → OnOrRefused P x
-    → ((a : A) → x ≡ on a → P a → OnOrRefused Q (f a)) → OnOrRefused Q (x >>= f)
-then-on P Q (on a) f h k = k a refl h
-then-on P Q (stop (gives vs)) f h k = h
-then-on P Q (stop nothing) f h k = h
-then-on P Q (stop (refused n vs)) f h k = tt
+abbrev OnOrRefused : {A : Type 0} → (A → Type 0) → Try A → Type 0
+OnOrRefused P x = Comes P IsRefusal x
+
+then-on : {A B : Type 0} (P : A → Type 0) (R : B → Type 0) (x : Try A) (f : A → Try B) → OnOrRefused P x
+    → ((a : A) → x ≡ on a → P a → OnOrRefused R (f a)) → OnOrRefused R (x >>= f)
+then-on P R = then-comes P R IsRefusal
 
 checking-on : (row : Row) (o : Option Answer) → firstOf row ≡ o → OnOrRefused (λ _. firstOf row ≡ none) (checking o)
 checking-on row none e = e
@@ -66,15 +66,15 @@ module _ (w : Widths) where
   shown-by n (tiles, nothing) h l = tt
   shown-by n (tiles, refused r vs) h l =
       split (eqb r 16)
-      (λ t. rw (t, OnOrRefused) (record { number = refl; narrow = h; tiles = l .fits; full = λ e. l .full (ap (λ k. refused k vs) (eqb-true r 16 t)) }))
-      (λ t. rw (t, OnOrRefused) tt)
+      (λ t. rw (t, shownBy) (record { number = refl; narrow = h; tiles = l .fits; full = λ e. l .full (ap (λ k. refused k vs) (eqb-true r 16 t)) }))
+      (λ t. rw (t, shownBy) tt)
 
   module _ (nodes counts : List ℕ) (p : ℕ) where
     shown-at : (n : ℕ) → OnOrRefused (IfSome (OfNumber w n)) (shownAt w nodes counts p n)
     shown-at n =
         split (ltb (w .greatest) n)
-        (λ t. rw (t, OnOrRefused) tt)
-        (λ t. rw (t, OnOrRefused) (shown-by n (wordByIndex counts nodes (w .word) p n) (ltb-false (w .greatest) n t) (by-index-walked counts nodes (w .word) p n)))
+        (λ t. rw (t, shownAt) tt)
+        (λ t. rw (t, shownAt) (shown-by n (wordByIndex counts nodes (w .word) p n) (ltb-false (w .greatest) n t) (by-index-walked counts nodes (w .word) p n)))
 
     shown-next : (rows n : ℕ) → OnOrRefused (AtMost rows (suc n)) (shownFrom w nodes counts p rows (suc n))
         → (o : Option ShownWord) → IfSome (OfNumber w n) o

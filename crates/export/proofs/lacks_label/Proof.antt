@@ -1,14 +1,13 @@
 -- `lacks_label` meets its contract: what is left of the nodes answers for all of them.
 use native.Mathlib.Omega.{arith}
-use mathlib.Core.Path.{_≡_, refl, sym, _∙_}
+use mathlib.Core.Path.{refl}
 use mathlib.Core.Bool.{Bool}
 use mathlib.Core.List.{List}
 use Prim.Native.Nat.{ℕ, _-_}
 use lib.Dec.{leb}
-use lib.ListN.{length, drop}
+use lib.ListN.{length}
 use borrow.Author.Tests.{le-leb, lt-leb}
-use Rattle.laws.specs.Lists.{someOf}
-use Rattle.laws.specs.Members.{some-here, some-next, some-past}
+use Rattle.laws.specs.Searching.{Searching, Tested, search-begins, search-finds, search-passes, search-ends}
 use Rattle.node.specs.Nodes.{KBWG, tile}
 use Rattle.graph.specs.Runs.{node}
 use borrow.Author.Needs.{needs}
@@ -19,21 +18,30 @@ abbrev lacks : List ℕ → ℕ → Bool
 lacks labels v = leb (length labels) (tile KBWG v)
 
 abbrev Inv-loop : tie.InvT-loop
-Inv-loop nodes labels i₀ i = someOf (lacks labels) (drop i nodes) ≡ someOf (lacks labels) nodes
+Inv-loop nodes labels i₀ i = Searching (lacks labels) nodes 0 i
 
 abbrev μ-loop : tie.MeasureT-loop
 μ-loop nodes labels i₀ i = length nodes - i
 
--- a turn of the loop
-module _ (c : tie.At-loop Inv-loop μ-loop) where
+-- a turn of the loop, its node's tile read
+module _ (s : tie.After-tile Inv-loop μ-loop) where
+  abbrev turn : tie.At-loop Inv-loop μ-loop
+  turn = s .before .before .before
+
   abbrev g : List ℕ
-  g = c .before .before .before .args .nodes .now
+  g = turn .before .before .before .args .nodes .now
 
   abbrev labels : List ℕ
-  labels = c .before .before .before .args .labels .now
+  labels = turn .before .before .before .args .labels .now
+
+  abbrev here : ℕ
+  here = node g (turn .loop .i)
+
+  tested : Tested (lacks labels) g 0 (turn .loop .i) (lacks labels here)
+  tested = record { left = turn .loop .inv; there = s .before .before .loop-test .taken; test = refl }
 
 loop-holds : tie.Need-loop-holds Inv-loop μ-loop
-loop-holds c = refl
+loop-holds c = search-begins
 
 mul-t7 : tie.Need-mul-t7 Inv-loop μ-loop
 mul-t7 c = search needs
@@ -49,9 +57,8 @@ cast-if1 c = search needs
 
 returns : tie.Need-returns Inv-loop μ-loop
 returns c =
-    let w = c .before .before .before .before in
-    let here = le-leb (length (labels w)) (tile KBWG (node (g w) (w .loop .i))) (omega (arith, c .before .tile .ensures, c .if1 .taken)) in
-    sym (some-here (lacks (labels w)) (g w) 0 (w .loop .i) (c .before .before .before .loop-test .taken) here) ∙ w .loop .inv
+    let s = c .before in
+    search-finds (tested s) (le-leb (length (labels s)) (tile KBWG (here s)) (omega (arith, s .tile .ensures, c .if1 .taken)))
 
 add-i : tie.Need-add-i Inv-loop μ-loop
 add-i c = search needs
@@ -61,14 +68,11 @@ loop-less c = search needs
 
 loop-again : tie.Need-loop-again Inv-loop μ-loop
 loop-again c =
-    let w = c .before .before .before .before in
-    let not-here = lt-leb (length (labels w)) (tile KBWG (node (g w) (w .loop .i))) (omega (arith, c .before .tile .ensures, c .if1 .left)) in
-    sym (some-next (lacks (labels w)) (g w) 0 (w .loop .i) (c .before .before .before .loop-test .taken) not-here) ∙ w .loop .inv
+    let s = c .before in
+    search-passes (tested s) (lt-leb (length (labels s)) (tile KBWG (here s)) (omega (arith, s .tile .ensures, c .if1 .left)))
 
 returns-2 : tie.Need-returns-2 Inv-loop μ-loop
-returns-2 c =
-    let w = c .before in
-    sym (some-past (lacks (labels w)) (g w) 0 (w .loop .i) (omega (arith, c .loop-test .left))) ∙ w .loop .inv
+returns-2 c = search-ends (c .before .loop .inv) (c .loop-test .left)
 
 pub lacks-label-spec : {M : Type 1} → statement M
 lacks-label-spec =

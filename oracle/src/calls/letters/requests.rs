@@ -247,7 +247,7 @@ fn walk(random: &mut Random, graph: &Graph, longest: usize) -> Vec<u8> {
         if among.is_empty() {
             among.extend(run);
         }
-        let node = among[random.within(0, among.len() as u64) as usize];
+        let node = random.pick(&among);
         tiles.push(node.tile);
         run = graph.run_after(node);
     }

@@ -251,9 +251,7 @@ fn random_labels(random: &mut Random, count: usize, kind: u64) -> Vec<u32> {
         3 => (0..count)
             .map(|_| random.within(0x5c, 0x61) as u32)
             .collect(),
-        4 => (0..count)
-            .map(|_| EDGES[random.within(0, EDGES.len() as u64) as usize])
-            .collect(),
+        4 => (0..count).map(|_| random.pick(&EDGES)).collect(),
         _ => (0..count)
             .map(|_| random.within(0x21, 0x7f) as u32)
             .collect(),

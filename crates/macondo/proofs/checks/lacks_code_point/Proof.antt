@@ -1,35 +1,28 @@
 -- `lacks_code_point` meets its contract: what is left of the labels decides.
 use borrow.Author.Needs.{needs}
-use native.Mathlib.Omega.{arith}
-use mathlib.Core.Path.{_≡_, refl, sym, _∙_}
-use mathlib.Core.List.{List}
-use Prim.Native.Nat.{ℕ, _-_, _<_}
-use lib.ListN.{length, drop}
-use Rattle.laws.specs.Lists.{someOf}
+use Prim.Native.Nat.{_-_}
+use lib.ListN.{length}
+use Rattle.laws.specs.Searching.{Searching, Tested, search-begins, search-finds, search-passes, search-ends}
 use Rattle.macondo_file.specs.Row.{noCodePoint}
-use Rattle.laws.specs.Members.{some-here, some-next, some-past}
 use Rattle.macondo.proofs.checks.lacks_code_point.Statement.{statement}
 use Rattle.macondo.proofs.checks.lacks_code_point.Tie as tie
 
 abbrev Inv-loop : tie.InvT-loop
-Inv-loop labels i₀ i = someOf noCodePoint (drop i labels) ≡ someOf noCodePoint (drop 1 labels)
+Inv-loop labels i₀ i = Searching noCodePoint labels 1 i
 
 abbrev μ-loop : tie.MeasureT-loop
 μ-loop labels i₀ i = length labels - i
 
 -- at each label, its test made
-module _ (c : tie.After-no-code-point Inv-loop μ-loop) where
-  abbrev here : tie.At-loop Inv-loop μ-loop
-  here = c .before .before .before
+module _ (s : tie.After-no-code-point Inv-loop μ-loop) where
+  abbrev test : tie.In-loop Inv-loop μ-loop
+  test = s .before .before
 
-  abbrev labels : List ℕ
-  labels = here .before .before .args .labels .now
-
-  inside : here .loop .i < length labels
-  inside = c .before .before .loop-test .taken
+  tested : Tested noCodePoint (test .before .before .before .args .labels .now) 1 (test .before .loop .i) (s .no-code-point .result)
+  tested = record { left = test .before .loop .inv; there = test .loop-test .taken; test = s .no-code-point .ensures }
 
 loop-holds : tie.Need-loop-holds Inv-loop μ-loop
-loop-holds c = refl
+loop-holds c = search-begins
 
 mul-no-code-point : tie.Need-mul-no-code-point Inv-loop μ-loop
 mul-no-code-point c = search needs
@@ -41,10 +34,7 @@ no-code-point-requires : tie.Need-no-code-point-requires Inv-loop μ-loop
 no-code-point-requires c κs = search needs
 
 returns : tie.Need-returns Inv-loop μ-loop
-returns c =
-    let t = c .before in
-    let i = here t .loop in
-    sym (some-here noCodePoint (labels t) 0 (i .i) (inside t) (sym (t .no-code-point .ensures) ∙ c .if1 .taken)) ∙ i .inv
+returns c = search-finds (tested (c .before)) (c .if1 .taken)
 
 add-i : tie.Need-add-i Inv-loop μ-loop
 add-i c = search needs
@@ -53,15 +43,10 @@ loop-less : tie.Need-loop-less Inv-loop μ-loop
 loop-less c = search needs
 
 loop-again : tie.Need-loop-again Inv-loop μ-loop
-loop-again c =
-    let t = c .before in
-    let i = here t .loop in
-    sym (some-next noCodePoint (labels t) 0 (i .i) (inside t) (sym (t .no-code-point .ensures) ∙ c .if1 .left)) ∙ i .inv
+loop-again c = search-passes (tested (c .before)) (c .if1 .left)
 
 returns-2 : tie.Need-returns-2 Inv-loop μ-loop
-returns-2 c =
-    let i = c .before .loop in
-    sym (some-past noCodePoint (c .before .before .before .args .labels .now) 0 (i .i) (omega (arith, c .loop-test .left))) ∙ i .inv
+returns-2 c = search-ends (c .before .loop .inv) (c .loop-test .left)
 
 pub lacks-code-point-spec : {M : Type 1} → statement M
 lacks-code-point-spec =

@@ -6,12 +6,12 @@ use Prim.Native.Nat.{ℕ, _-_}
 use lib.ListN.{length}
 use Rattle.page.specs.Page.{outside}
 use Rattle.page.proofs.LabelLaws.{unshown, label-there}
-use Rattle.page.proofs.SearchLaws.{Searching, Tested, search-begins, search-finds, search-passes, search-ends}
+use Rattle.laws.specs.Searching.{Searching, Tested, search-begins, search-finds, search-passes, search-ends}
 use Rattle.page.proofs.checks.label_outside.Statement.{statement}
 use Rattle.page.proofs.checks.label_outside.Tie as tie
 
 abbrev Inv-loop : tie.InvT-loop
-Inv-loop tiles labels i₀ i = Searching (unshown labels) tiles i
+Inv-loop tiles labels i₀ i = Searching (unshown labels) tiles 0 i
 
 abbrev μ-loop : tie.MeasureT-loop
 μ-loop tiles labels i₀ i = length tiles - i
@@ -42,7 +42,7 @@ is-outside-requires c κs = search needs
 
 -- once the tile's label is tested
 tested : (s : tie.After-is-outside Inv-loop μ-loop) → let turn = s .before .before .before in
-    Tested (unshown (labels turn)) (tiles turn) (turn .before .loop .i) (s .is-outside .result)
+    Tested (unshown (labels turn)) (tiles turn) 0 (turn .before .loop .i) (s .is-outside .result)
 tested s = let turn = s .before .before .before in
     record {
       left = turn .before .loop .inv;

@@ -3,12 +3,12 @@ use borrow.Author.Needs.{needs}
 use Prim.Native.Nat.{_-_}
 use lib.ListN.{length}
 use Rattle.page.proofs.LabelLaws.{lacksLabel}
-use Rattle.page.proofs.SearchLaws.{Searching, Tested, search-begins, search-finds, search-passes, search-ends}
+use Rattle.laws.specs.Searching.{Searching, Tested, search-begins, search-finds, search-passes, search-ends}
 use Rattle.page.proofs.checks.some_unlabelled.Statement.{statement}
 use Rattle.page.proofs.checks.some_unlabelled.Tie as tie
 
 abbrev Inv-loop : tie.InvT-loop
-Inv-loop tiles labels i₀ i = Searching (lacksLabel labels) tiles i
+Inv-loop tiles labels i₀ i = Searching (lacksLabel labels) tiles 0 i
 
 abbrev μ-loop : tie.MeasureT-loop
 μ-loop tiles labels i₀ i = length tiles - i
@@ -30,7 +30,7 @@ module _ (s : tie.After-is-unlabelled Inv-loop μ-loop) where
   abbrev start : tie.Start Inv-loop μ-loop
   start = turn .before .before .before .before
 
-  tested : Tested (lacksLabel (start .args .labels .now)) (start .args .tiles .now) (turn .before .loop .i) (s .is-unlabelled .result)
+  tested : Tested (lacksLabel (start .args .labels .now)) (start .args .tiles .now) 0 (turn .before .loop .i) (s .is-unlabelled .result)
   tested = record { left = turn .before .loop .inv; there = turn .loop-test .taken; test = s .is-unlabelled .ensures }
 
 returns : tie.Need-returns Inv-loop μ-loop

@@ -4,12 +4,12 @@ use mathlib.Core.Path.{ap, _∙_}
 use Prim.Native.Nat.{_-_}
 use lib.ListN.{length}
 use Rattle.page.specs.Page.{outside}
-use Rattle.page.proofs.SearchLaws.{Searching, Tested, search-begins, search-finds, search-passes, search-ends}
+use Rattle.laws.specs.Searching.{Searching, Tested, search-begins, search-finds, search-passes, search-ends}
 use Rattle.page.proofs.checks.text_outside.Statement.{statement}
 use Rattle.page.proofs.checks.text_outside.Tie as tie
 
 abbrev Inv-loop : tie.InvT-loop
-Inv-loop text i₀ i = Searching outside text i
+Inv-loop text i₀ i = Searching outside text 0 i
 
 abbrev μ-loop : tie.MeasureT-loop
 μ-loop text i₀ i = length text - i
@@ -34,7 +34,7 @@ module _ (s : tie.After-is-outside Inv-loop μ-loop) where
   abbrev start : tie.Start Inv-loop μ-loop
   start = turn .before .before .before
 
-  tested : Tested outside (start .args .text .now) (turn .before .loop .i) (s .is-outside .result)
+  tested : Tested outside (start .args .text .now) 0 (turn .before .loop .i) (s .is-outside .result)
   tested =
       record {
         left = turn .before .loop .inv;

@@ -4,15 +4,15 @@ use native.Mathlib.Omega.{arith}
 use Prim.Native.Nat.{_≤_}
 use lib.ListN.{length}
 use Rattle.decimal.specs.Decimal.{decimal}
-use Rattle.decimal.specs.DecimalLaws.{decimal-length}
 use Rattle.endian.specs.Puts.{put-size}
 use Rattle.page.specs.Rows.{pageWidths}
+use Rattle.page.specs.ColumnsLaws.{page-wide, digits-fit}
 use Rattle.page.proofs.PutLaws.{row-put}
 use Rattle.page.proofs.writing.put_row.Statement.{statement}
 use Rattle.page.proofs.writing.put_row.Tie as tie
 
-digits-fit : (s : tie.Start) → length (decimal (s .args .number)) ≤ 10
-digits-fit s = decimal-length 9 (s .args .number) (omega arith)
+digits-room : (s : tie.Start) → length (decimal (s .args .number)) ≤ pageWidths .number
+digits-room s = digits-fit pageWidths page-wide (s .args .number) (omega arith)
 
 put-blanks-requires : tie.Need-put-blanks-requires
 put-blanks-requires c κs = search needs
@@ -24,7 +24,7 @@ put-digits-requires : tie.Need-put-digits-requires
 put-digits-requires c κs =
     let blanked = c .before .before .before in
     let s = blanked .before .before .before .before .before in
-    (omega (arith, digits-fit s), omega (arith, s .pre .0 .0, put-size (blanked .put-blanks .ensures)))
+    (omega (arith, digits-room s), omega (arith, s .pre .0 .0, put-size (blanked .put-blanks .ensures)))
 
 add-put-labels : tie.Need-add-put-labels
 add-put-labels c = search needs
@@ -54,7 +54,7 @@ returns c =
     let s = blanked .before .before .before .before .before in
     row-put pageWidths (s .args .labels .now)
     (record { number = s .args .number; tiles = s .args .tiles .now; more = s .args .more })
-    (record { digits = digits-fit s; tiles = s .pre .0 .1 })
+    (record { digits = digits-room s; tiles = s .pre .0 .1 })
     (blanked .put-blanks .ensures)
     (numbered .put-digits .ensures)
     (labelled .put-labels .ensures)

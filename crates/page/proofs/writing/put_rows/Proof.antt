@@ -6,7 +6,6 @@ use mathlib.Core.List.{List, _++_}
 use Prim.Native.Nat.{ℕ, _+_, _-_, _≤_, _<_, min}
 use lib.Dec.{ltb}
 use lib.ListN.{length, getD, take, drop, length-take}
-use Rattle.decimal.specs.DecimalLaws.{decimal-length}
 use Rattle.endian.specs.Putting.{Putting, put-start, put-room}
 use Rattle.endian.specs.Puts.{next-put, all-put}
 use Rattle.page.specs.Rows.{pageWidths, ShownWord, rowLength, rowOf}
@@ -14,6 +13,7 @@ use Rattle.page.specs.Held.{heldWord, heldTiles, heldRows}
 use Rattle.page.proofs.LabelLaws.{part-labelled}
 use Rattle.page.proofs.HeldLaws.{tiles-next, rows-next, rows-done}
 use Rattle.page.specs.RowsLaws.{row-length}
+use Rattle.page.specs.ColumnsLaws.{page-wide, digits-fit}
 use Rattle.page.proofs.writing.put_rows.Statement.{statement}
 use Rattle.page.proofs.writing.put_rows.Tie as tie
 
@@ -79,7 +79,7 @@ module _ (s : tie.After-shown-tiles Inv-loop μ-loop) where
 
   long : length (rowOf pageWidths labels next) ≡ rowLength pageWidths
   long =
-      let digits = decimal-length 9 number (omega (arith, there, start .pre .1 .0 .1)) in
+      let digits = digits-fit pageWidths page-wide number (omega (arith, there, start .pre .1 .0 .1)) in
       row-length pageWidths labels next (record { digits = digits; tiles = fits })
 
   -- its row, and those after it

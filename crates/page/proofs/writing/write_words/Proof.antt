@@ -5,11 +5,11 @@ use mathlib.Core.List.{List, [], _++_, append-nil}
 use Prim.Native.Nat.{ℕ, _+_, _-_, _*_, _≤_}
 use lib.ListN.{length, drop, length-replicate}
 use Rattle.laws.specs.ListWrites.{sets-front}
-use Rattle.decimal.specs.DecimalLaws.{decimal-length}
 use Rattle.endian.specs.Putting.{Putting, put-start, put-next, put-room, put-done}
 use Rattle.endian.specs.Puts.{next-put}
 use Rattle.page.specs.Rows.{pageWidths, ShownWord, blank, blanks, pageText, wordRows, rowLength, pageLength}
 use Rattle.page.specs.RowsLaws.{page-length}
+use Rattle.page.specs.ColumnsLaws.{page-wide}
 use Rattle.page.specs.Held.{held, heldRows}
 use Rattle.page.proofs.HeldLaws.{held-length, held-room}
 use Rattle.page.proofs.PutLaws.{afterTitle, afterRows, page-parts}
@@ -45,7 +45,7 @@ module _ (s : tie.Start) where
       page-length pageWidths labels title es
       (omega (arith, held-length (pageWidths .word) first tiles sizes, s .pre .1 .0 .0))
       (s .pre .0 .0)
-      (held-room pageWidths (λ n h. decimal-length 9 n (omega arith)) first tiles sizes (s .pre .1 .0 .1))
+      (held-room pageWidths page-wide first tiles sizes (s .pre .1 .0 .1))
 
   room : 0 + length text ≤ length (s .args .page .now)
   room = omega (arith, long, s .pre .0 .1)
