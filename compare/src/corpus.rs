@@ -2,6 +2,7 @@
 
 mod all_calls;
 mod big;
+mod headers;
 mod lexicons;
 mod limits;
 mod loads;
@@ -48,4 +49,5 @@ pub fn run(checker: &mut Checker, size: Size, seed: u64) {
     if size == Size::Full {
         big::run(checker, &mut random());
     }
+    headers::run(checker, size, &mut random());
 }

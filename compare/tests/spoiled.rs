@@ -50,11 +50,14 @@ fn entry<T>(list: &mut [T], place: isize) -> &mut T {
 }
 
 fn run(spoiled: Call, change: Option<Change>) -> Report {
-    let spoil = move |call, outcome: &mut Outcome| {
+    run_where(move |call, outcome| {
         if call == spoiled && outcome.answer.refusal == 0 {
             change.iter().for_each(|&change| spoil(change, outcome));
         }
-    };
+    })
+}
+
+fn run_where(spoil: impl Fn(Call, &mut Outcome) + 'static) -> Report {
     let mut checker = Checker::spoiled(1, Box::new(spoil));
     corpus::run(&mut checker, Size::Tiny, 1);
     checker.report
@@ -113,5 +116,23 @@ fn every_error_is_found() {
                 );
             }
         }
+    }
+}
+
+// The last byte of an LXD header, changed by a call that refuses.
+#[test]
+fn a_header_written_before_a_refusal_is_found() {
+    for refusal in [11, 13, 19, 20, 21, 22, 23] {
+        let report = run_where(move |call, outcome| {
+            let file_len = match outcome.buffers.get(1) {
+                Some(Buffer::Bytes(file)) => file.len(),
+                _ => 0,
+            };
+            let has_header = file_len as isize >= FIRST + 64 - GUARD_AFTER;
+            if call == Call::ToLxd && outcome.answer.refusal == refusal && has_header {
+                spoil(Entry(1, FIRST + 63), outcome);
+            }
+        });
+        assert!(held(&report, Call::ToLxd, "01"), "{refusal}");
     }
 }

@@ -15,10 +15,16 @@ pub enum Fit {
     Around,
 }
 
+// A call that is refused is lent less than so many bytes, of which it must write none.
+const MOST_UNWRITTEN: u64 = 200;
+
 impl Checker {
     pub fn file(&mut self, graph: &Graph, texts: &Texts, fit: Fit) {
         let (_, whole) = judged(graph, texts, usize::MAX, usize::MAX);
         let (mut work_len, mut file_len) = (8 * graph.nodes.len(), whole.len());
+        if whole.is_empty() {
+            file_len = self.random.within(0, MOST_UNWRITTEN) as usize;
+        }
         if fit == Fit::Around {
             (work_len, file_len) = (self.around(work_len), self.around(file_len));
         }

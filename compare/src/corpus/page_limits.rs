@@ -2,6 +2,7 @@
 
 use super::Size;
 use super::all_calls::foreign;
+use super::loads::SAMPLE;
 use super::pages::{
     LAST_FIRSTS, ODD_BYTES, ODD_LABELS, PAGE, PAGE_LENGTHS, TITLE_LENGTHS, first, plain_labels,
     titled, two_pages,
@@ -52,7 +53,7 @@ impl Thinned<'_> {
 
 // Document 01's five nodes with every kind of labels, title and page buffer, from each node and a few numbers.
 fn texts(pages: &mut Thinned) {
-    let graph = Graph::new(vec![0x240, 0x40, 0x481, 0x442, 0xc2]);
+    let graph = Graph::new(SAMPLE.to_vec());
     let counts = graph.counts.as_ref().expect("the five nodes count");
     let (every_labels, every_title) = (every_labels(3), every_title());
     for start in 0..6 {
