@@ -76,7 +76,6 @@ function without_items(rest,    kept, item, size) {
     while (match(rest, /[^A-Za-z0-9_](const[ \n]+[A-Za-z0-9_]+[ \n]*:|use[ \n])/)) {
         kept = kept substr(rest, 1, RSTART)
         rest = substr(rest, RSTART + 1)
-        at = length(line_ends(kept))
         size = item_size(rest)
         item = substr(rest, 1, size)
         kept = kept line_ends(item)
@@ -149,7 +148,6 @@ function without_texts(rest,    kept, begins, size) {
         kept = kept substr(rest, 1, RSTART - 1)
         rest = substr(rest, RSTART + RLENGTH)
         kept = kept line_ends(begins) (begins ~ /^b.*"/ ? "b\"\"" : " ")
-        at = length(line_ends(kept))
         size = text_size(begins, rest)
         kept = kept line_ends(substr(rest, 1, size))
         rest = substr(rest, size + 1)
@@ -206,7 +204,7 @@ function nested_size(rest, opens, closes,    size, depth) {
 
 # The rest of the file is not searched.
 function cannot_read(rest) {
-    print file[f] ":" at ": cannot read on from here"
+    print file[f] ":" length(line_ends(source[f])) - length(line_ends(rest)) ": cannot read on from here"
     return length(rest)
 }
 

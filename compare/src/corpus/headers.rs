@@ -3,14 +3,11 @@
 
 use super::Size;
 use super::loads::SAMPLE;
+use super::texts::{LONGEST_DATE, LONGEST_TITLE, letters, with_each};
 use crate::checker::{Checker, Fit, Graph};
 use crate::engine::{LxdTexts, Texts};
 use crate::graphs::{chain, with_words, without_words};
 use crate::random::Random;
-
-const LONGEST_TITLE: usize = 31;
-const LONGEST_DATE: usize = 19;
-const LABELS: [u32; 3] = [0x3f, 0x41, 0x42];
 
 // Around the last of ASCII and of ISO/IEC 8859-1, the first and last of its control codes, a letter that it lacks, and no code points.
 const ODD: [u32; 12] = [
@@ -31,12 +28,12 @@ fn text(random: &mut Random, len: usize) -> Vec<u32> {
 }
 
 fn lxd(title: Vec<u32>, date: Vec<u32>) -> Texts {
-    labelled(&LABELS, title, date)
+    labelled(letters(3), title, date)
 }
 
-fn labelled(labels: &[u32], title: Vec<u32>, date: Vec<u32>) -> Texts {
+fn labelled(labels: Vec<u32>, title: Vec<u32>, date: Vec<u32>) -> Texts {
     Texts::Lxd(LxdTexts {
-        labels: labels.to_vec(),
+        labels,
         title,
         date,
     })
@@ -58,15 +55,13 @@ fn lengths(checker: &mut Checker, random: &mut Random, every: usize) {
 // A text of the greatest length, or one too long, with an odd code point at each of its places.
 fn places(checker: &mut Checker, random: &mut Random, every: usize) {
     let graph = Graph::new(SAMPLE.to_vec());
-    for (odd, more) in ODD.into_iter().flat_map(|odd| [(odd, 0), (odd, 1)]) {
-        for place in (0..LONGEST_TITLE + more).step_by(every) {
-            let mut title = text(random, LONGEST_TITLE + more);
-            title[place] = odd;
+    for more in 0..2 {
+        let titles = with_each(&text(random, LONGEST_TITLE + more), &ODD);
+        for title in titles.into_iter().step_by(every) {
             checker.file(&graph, &lxd(title, text(random, LONGEST_DATE)), Fit::Just);
         }
-        for place in (0..LONGEST_DATE + more).step_by(every) {
-            let mut date = text(random, LONGEST_DATE + more);
-            date[place] = odd;
+        let dates = with_each(&text(random, LONGEST_DATE + more), &ODD);
+        for date in dates.into_iter().step_by(every) {
             checker.file(&graph, &lxd(text(random, LONGEST_TITLE), date), Fit::Just);
         }
     }
@@ -80,7 +75,7 @@ fn refused_after_the_texts(checker: &mut Checker, random: &mut Random) {
     let words = Graph::new(with_words(u64::from(u32::MAX)));
     for len in [0, 1, LONGEST_DATE, LONGEST_TITLE] {
         let (title, date) = (text(random, len), text(random, len.min(LONGEST_DATE)));
-        for labels in [&LABELS[..2], &[0x3f, 0x41, 0x100]] {
+        for labels in [letters(2), vec![0x3f, 0x41, 0x100]] {
             let texts = labelled(labels, title.clone(), date.clone());
             checker.file(&sample, &texts, Fit::Just);
         }

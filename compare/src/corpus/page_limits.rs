@@ -7,6 +7,7 @@ use super::pages::{
     LAST_FIRSTS, ODD_BYTES, ODD_LABELS, PAGE, PAGE_LENGTHS, TITLE_LENGTHS, first, plain_labels,
     titled, two_pages,
 };
+use super::texts::with_each;
 use crate::checker::{Checker, Graph};
 use crate::engine::PageOf;
 use crate::graphs::line;
@@ -76,13 +77,7 @@ fn texts(pages: &mut Thinned) {
 // Label lists for so many tiles: too short by some or long enough, and with an odd label in each place.
 fn every_labels(tiles: usize) -> Vec<Vec<u32>> {
     let mut all: Vec<Vec<u32>> = (0..tiles + 2).map(plain_labels).collect();
-    for at in 0..tiles {
-        for odd in ODD_LABELS {
-            let mut labels = plain_labels(tiles);
-            labels[at] = odd;
-            all.push(labels);
-        }
-    }
+    all.extend(with_each(&plain_labels(tiles), &ODD_LABELS));
     all
 }
 

@@ -3,6 +3,9 @@
 use crate::engine::{LxdTexts, MacondoTexts, Texts};
 use crate::random::Random;
 
+pub const LONGEST_TITLE: usize = 31;
+pub const LONGEST_DATE: usize = 19;
+
 // So many labels of one of several kinds. There are few lists of each kind, so that the Rust's alphabets are made once each.
 fn labels(random: &mut Random, len: usize) -> Vec<u32> {
     let kind = random.within(0, 11);
@@ -74,13 +77,26 @@ fn text(random: &mut Random, limit: usize) -> Vec<u32> {
 pub fn lxd(random: &mut Random, label_count: usize) -> Texts {
     Texts::Lxd(LxdTexts {
         labels: labels(random, label_count),
-        title: text(random, 31),
-        date: text(random, 19),
+        title: text(random, LONGEST_TITLE),
+        date: text(random, LONGEST_DATE),
     })
 }
 
-// A question mark for the blank, then the letters A, B and on.
-fn letters(count: usize) -> Vec<u32> {
+/// The list with each of these entries at each of its places, one at a time.
+pub fn with_each<T: Copy>(list: &[T], entries: &[T]) -> Vec<Vec<T>> {
+    let mut all = Vec::new();
+    for at in 0..list.len() {
+        for &entry in entries {
+            let mut changed = list.to_vec();
+            changed[at] = entry;
+            all.push(changed);
+        }
+    }
+    all
+}
+
+/// A question mark for the blank, then the letters A, B and on.
+pub fn letters(count: usize) -> Vec<u32> {
     [0x3f].into_iter().chain(0x41..).take(count).collect()
 }
 
