@@ -1,5 +1,6 @@
 pub mod Bits
 pub mod BitSets
+pub mod Buffers
 pub mod Cases
 pub mod Cleared
 pub mod Firsts

@@ -42,7 +42,7 @@ pub record WordIn (walked : Word × Answer) (n : ℕ) (buffer : List ℕ) : Type
 pub word-in : {walked : Word × Answer} {after : List ℕ} {r : WordByIndex} {n : ℕ} → WalkLeaves mostTiles 0 walked → Tiled walked r after
     → r ≡ Tiles n → WordIn walked n after
 word-in {walked} {after} {r} {n} w t e =
-    let a : walked .1 ≡ gives (n ∷ []) = sym (t .put .said) ∙ ap saidWord e in
+    let a : walked .1 ≡ gives (n ∷ []) = sym (t .put .answer) ∙ ap saidWord e in
     let s : n ≡ length (walked .0) = w .given n a ∙ omega arith in
     record {
       answer = a;
@@ -68,11 +68,11 @@ module _ (number : ℕ) (walked : Word × Answer) {out out′ : List ℕ} {at en
   pub word-refused : (n : ℕ) {after vs : List ℕ} {r : WordByIndex} → n < 4_294_967_296 → Tiled walked r after
       → saidWord r ≡ refused n vs → Puts (refusalLine n) out at out′ end → PutWord number walked out at out′ (record { end = end; more = false })
   word-refused n h t e p =
-      let a = sym (t .put .said) ∙ e in
+      let a = sym (t .put .answer) ∙ e in
       record { more = sym (ap goesOn a); puts = rw a p; within = omega (arith, p .place, refusal-length n h) }
 
 pub word-none : (number : ℕ) (walked : Word × Answer) {out after : List ℕ} {at : ℕ} {r : WordByIndex} → Tiled walked r after
     → saidWord r ≡ nothing → PutWord number walked out at out (record { end = at; more = false })
 word-none number walked t e =
-    let a = sym (t .put .said) ∙ e in
+    let a = sym (t .put .answer) ∙ e in
     record { more = sym (ap goesOn a); puts = rw a put-none; within = omega arith }

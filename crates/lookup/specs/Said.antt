@@ -1,8 +1,7 @@
 -- What the answers of the calls say, and those of the walks' parts.
-use mathlib.Core.Path.{_≡_}
-use mathlib.Core.List.{List, [], _∷_, _++_}
+use mathlib.Core.List.{List, [], _∷_}
 use Prim.Native.Nat.{ℕ}
-use lib.ListN.{length, drop}
+use Rattle.laws.specs.Buffers.{Filled}
 use Rattle.answers.specs.Answers.{Answer, gives, nothing, refused}
 use Rattle.lookup.specs.Steps.{Try, on, stop}
 use Rattle.lookup.specs.declared.run.RunSearch.{RunSearch}
@@ -37,9 +36,8 @@ saidWord T.OutOfRange = refused 15 []
 saidWord T.BufferFull = refused 16 []
 
 -- "After a refusal or none the tiles already put stay, the rest of the buffer as before."
-pub record WordPut (walk : List ℕ × Answer) (before after : List ℕ) (r : WordByIndex) : Type 0 where
-  pub said : saidWord r ≡ walk .1
-  pub tiles : after ≡ walk .0 ++ drop (length (walk .0)) before
+abbrev pub WordPut : List ℕ × Answer → List ℕ → List ℕ → WordByIndex → Type 0
+WordPut walk before after r = Filled walk before after (saidWord r)
 
 -- ---- parts of a walk
 abbrev pub searchTry : RunSearch → Try ℕ

@@ -8,6 +8,7 @@ use native.Mathlib.Omega.{arith}
 use lib.Dec.{eqb, ltb, leb}
 use lib.ListN.{length, take, drop}
 use lib.Seq.{take-at}
+use Rattle.laws.specs.Buffers.{Filled}
 use Rattle.laws.specs.Cases.{split}
 use Rattle.laws.specs.Lists.{All}
 use Rattle.answers.specs.Answers.{Answer, gives, nothing, refused}
@@ -17,8 +18,6 @@ use Rattle.graph.specs.Runs.{Graph}
 use Rattle.graph.specs.Words.{Word}
 use Rattle.lookup.specs.Steps.{Try, on, stop, _>>=_, lent, difference, lentPart}
 use Rattle.lookup.specs.StepsLaws.{Comes, then-comes}
-use Rattle.lookup.specs.Said.{WordPut}
-use Rattle.lookup.specs.declared.by_number.WordByIndex.{WordByIndex}
 use Rattle.lookup.specs.Walks.{Turn, last, down, wordsHere, turnIn, wordFrom, wordByIndex}
 
 -- ---- no step ends the walk with a value or by 16
@@ -159,6 +158,6 @@ module _ (counts : List ℕ) (nodes : Graph) (room p idx : ℕ) where
   by-index-cut big h = cut (lentPart counts) (lentPart nodes) room big 0 p idx h
 
 -- the tiles of a word that is put stand at the front of the buffer
-pub tiles-front : {walk : Word × Answer} {before after : List ℕ} {r : WordByIndex} → WordPut walk before after r → (n : ℕ) → n ≡ length (walk .0)
+pub tiles-front : {walk : Word × Answer} {before after : List ℕ} {r : Answer} → Filled walk before after r → (n : ℕ) → n ≡ length (walk .0)
     → take n after ≡ walk .0
-tiles-front {walk} {before} p n e = ap (take n) (p .tiles) ∙ take-at (walk .0) (drop (length (walk .0)) before) n (sym e)
+tiles-front {walk} {before} p n e = ap (take n) (p .front) ∙ take-at (walk .0) (drop (length (walk .0)) before) n (sym e)

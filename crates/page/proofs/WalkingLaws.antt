@@ -26,13 +26,13 @@ pub record Walked (columns : ℕ) (walk : Word × Answer) (before after : List �
 
 module _ {columns : ℕ} {walk : Word × Answer} {before after : List ℕ} {r : WordByIndex} (w : Walked columns walk before after r) where
   answered : {v : WordByIndex} → r ≡ v → walk .1 ≡ saidWord v
-  answered e = sym (w .put .said) ∙ ap saidWord e
+  answered e = sym (w .put .answer) ∙ ap saidWord e
 
   long : length after ≡ columns
   long =
       let tiles = walk .0 in
       let rest = drop (length tiles) before in
-      ap length (w .put .tiles) ∙ omega (arith, w .size, length-append tiles rest, length-drop (length tiles) before, w .leaves .fits)
+      ap length (w .put .front) ∙ omega (arith, w .size, length-append tiles rest, length-drop (length tiles) before, w .leaves .fits)
 
   -- the first tiles of the buffer are the walk's
   held-is : (n tiles : ℕ) → min tiles columns ≡ length (walk .0)
@@ -42,7 +42,7 @@ module _ {columns : ℕ} {walk : Word × Answer} {before after : List ℕ} {r : 
       rw (long, front)
 
   row-put : {n : ℕ} {f : RowFound} → foundTry n f after ≡ shownBy n walk → RowPut n walk before after f
-  row-put e = record { size = long ∙ sym (w .size); found = e; tiles = w .put .tiles }
+  row-put e = record { size = long ∙ sym (w .size); found = e; tiles = w .put .front }
 
   module _ {n : ℕ} where
     pub row-found : (count : ℕ) → r ≡ T.Tiles count → RowPut n walk before after (F.Word count)

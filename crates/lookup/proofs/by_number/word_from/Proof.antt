@@ -8,6 +8,7 @@ use native.Mathlib.Omega.{arith}
 use borrow.Author.Needs.{needs}
 use lib.Dec.{eqb}
 use lib.ListN.{length, drop, set, length-set}
+use Rattle.laws.specs.Buffers.{Left}
 use Rattle.laws.specs.Tests.{measure-falls}
 use Rattle.answers.specs.Answers.{Answer}
 use Rattle.node.specs.Nodes.{accepts, KBWG}
@@ -19,7 +20,7 @@ use Rattle.lookup.specs.declared.by_number.WordByIndex.the-variants as T
 use Rattle.lookup.specs.declared.by_number.Here.{Here}
 use Rattle.lookup.specs.Said.{hereTry, saidWord, WordPut}
 use Rattle.lookup.proofs.WordByIndexLaws.{past-own, HasWords, turn-out, turn-last, turn-stop, turn-down, turn-none, turn-next}
-use Rattle.lookup.proofs.Buffer.{Left, left-start, by-stop, by-full, by-last, by-down, by-next}
+use Rattle.lookup.proofs.Buffer.{left-start, by-stop, by-full, by-last, by-down, by-next}
 use Rattle.lookup.proofs.by_number.word_from.Statement.{statement}
 use Rattle.lookup.proofs.by_number.word_from.Tie as tie
 

@@ -15,7 +15,7 @@ same-length c = search needs
 
 returns : tie.Need-returns
 returns c = let put = c .before .before .before .get-word-by-index .ensures in
-    record { said = c .flat-word .ensures .0 ∙ put .said; tiles = put .tiles; flat = c .flat-word .ensures .1 }
+    record { said = c .flat-word .ensures .0 ∙ put .answer; tiles = put .front; flat = c .flat-word .ensures .1 }
 
 pub machirsun-word-by-index-spec : {M : Type 1} → statement M
 machirsun-word-by-index-spec =

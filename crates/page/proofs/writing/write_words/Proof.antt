@@ -50,8 +50,8 @@ module _ (s : tie.Start) where
   room : 0 + length text ≤ length (s .args .page .now)
   room = omega (arith, long, s .pre .0 .1)
 
-  abbrev Left : List ℕ → List ℕ → ℕ → Type 0
-  Left rest page at = Putting text (s .args .page .now) 0 rest page at
+  abbrev PageLeft : List ℕ → List ℕ → ℕ → Type 0
+  PageLeft rest page at = Putting text (s .args .page .now) 0 rest page at
 
   abbrev after-title : List ℕ
   after-title = afterTitle pageWidths labels title es
@@ -64,7 +64,7 @@ module _ (s : tie.After-put-blanks) where
   abbrev begun : tie.Start
   begun = s .before .before .before .before .before .before .before .before .before .before .before
 
-  title-put : Left begun (after-title begun) (s .put-blanks .last .1 .0) (s .put-blanks .result)
+  title-put : PageLeft begun (after-title begun) (s .put-blanks .last .1 .0) (s .put-blanks .result)
   title-put =
       let b = begun in
       let from : length (title b) ≡ 0 + length (title b) = omega arith in
@@ -84,7 +84,7 @@ module _ (s : tie.After-put-rows) where
   abbrev end : ℕ
   end = s .put-rows .result
 
-  rows-put : Left start (after-rows start) (s .put-rows .last .1 .1 .1 .1 .0) end
+  rows-put : PageLeft start (after-rows start) (s .put-rows .last .1 .1 .1 .1 .0) end
   rows-put = next-put (after-rows start) (title-put titled) refl (s .put-rows .ensures)
 
   end-left : pageLength pageWidths - end ≡ (wordRows - length (es start)) * rowLength pageWidths
