@@ -10,6 +10,8 @@ pub mod NoRepeats
 pub mod Searching
 pub mod ListWrites
 pub mod Sorting
+pub mod Insertion
+pub mod Ordering
 pub mod Without
 pub mod Tests
 pub mod Tables

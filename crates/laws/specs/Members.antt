@@ -34,6 +34,14 @@ at-in [] i z h = absurd (omega arith)
 at-in (x ∷ l) zero z h = List·Memᴰ·head refl
 at-in (x ∷ l) (suc i) z h = List·Memᴰ·tail (at-in l i z (omega arith))
 
+pub mem-at : {A : Type 0} (l : List A) (x z : A) → List·Memᴰ x l → (i : ℕ) × (i < length l) × (getD l i z ≡ x)
+mem-at [] x z m = absurd (List·Memᴰ·not-nil m)
+mem-at (y ∷ l) x z m =
+    ⊎-elim
+    (λ i. (0, omega arith, sym i))
+    (λ k. let r = mem-at l x z k in let h = r .1 in (suc (r .0), omega arith, r .2))
+    (List·Memᴰ·cases-cons m)
+
 pub in-drop : {A : Type 0} (x : A) (n : ℕ) (l : List A) → List·Memᴰ x (drop n l) → List·Memᴰ x l
 in-drop x zero l m = m
 in-drop x (suc n) [] m = m

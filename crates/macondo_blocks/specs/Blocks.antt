@@ -26,11 +26,6 @@ use Rattle.macondo_blocks.specs.declared.blocks.BlockNumbering.the-varia
 abbrev pub AllLabelled : List ℕ → List ℕ → Type 0
 AllLabelled labels vs = All (λ v. tile KBWG v < length labels) vs
 
--- the arc order: no entry precedes one that stands before it
-abbrev pub Ordered : List ℕ → List ℕ → Type 0
-Ordered labels [] = Unit
-Ordered labels (v ∷ vs) = All (λ w. byTile labels w v ≡ false) vs × Ordered labels vs
-
 -- where an entry goes among the first `count` of the list: the place of the first that it precedes, or `count`
 pub record Slot (labels list : List ℕ) (count v r : ℕ) : Type 0 where
   pub within : r ≤ count
