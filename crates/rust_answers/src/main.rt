@@ -86,9 +86,9 @@ fn add_bytes(progress: Progress, bytes: &[u8], numbers: &mut [u64]) -> Progress 
 
 fn end_line(line: Line, tally: CaseTally, numbers: &mut [u64]) -> CaseTally {
     match stored::end(line, numbers) {
-        Ended::Comment => tally.next_line(),
-        Ended::Malformed => tally.malformed().next_line(),
-        Ended::Case(count) => judge_line(tally, numbers, count).next_line(),
+        Ended::Comment => tally.begin_line(),
+        Ended::Malformed => tally.malformed().begin_line(),
+        Ended::Case(count) => judge_line(tally, numbers, count).begin_line(),
     }
 }
 

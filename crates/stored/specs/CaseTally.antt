@@ -14,8 +14,8 @@ oneMoreCapped count = pick (ltb (count + 1) (2 ^ 64)) (count + 1) count
 abbrev pub newTally : CaseTally
 newTally = record { line = 1; cases = replicate 32 0; malformed = 0; differences = 0 }
 
-abbrev pub withLine : CaseTally → CaseTally
-withLine t = record { line = oneMoreCapped (t .line); cases = t .cases; malformed = t .malformed; differences = t .differences }
+abbrev pub withNextLine : CaseTally → CaseTally
+withNextLine t = record { line = oneMoreCapped (t .line); cases = t .cases; malformed = t .malformed; differences = t .differences }
 
 abbrev pub withMalformed : CaseTally → CaseTally
 withMalformed t = record { line = t .line; cases = t .cases; malformed = oneMoreCapped (t .malformed); differences = t .differences }

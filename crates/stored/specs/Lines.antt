@@ -11,12 +11,12 @@ use Rattle.stored.specs.declared.lines.Part.the-variants.{Start, Number,
 use Rattle.stored.specs.declared.lines.Ended.{Ended}
 use Rattle.stored.specs.declared.lines.Ended.the-variants.{Case, Malformed}
 
-abbrev pub lineOf : ℕ → Part → Line
-lineOf count part = record { count = count; part = part }
+abbrev pub partialLine : ℕ → Part → Line
+partialLine count part = record { count = count; part = part }
 
 -- the line of which no byte has come yet
 abbrev pub emptyLine : Line
-emptyLine = lineOf 0 Start
+emptyLine = partialLine 0 Start
 
 abbrev pub isStart : Part → Bool
 isStart Start = true
@@ -40,15 +40,15 @@ firstPart byte = pick (eqb byte 35) Part.Comment (withDigit 0 byte)
 
 -- after a number and a blank, where there is room for the number
 abbrev pub afterBlank : ℕ → ℕ → Line
-afterBlank room count = pick (ltb count room) (lineOf (count + 1) Blank) (lineOf count Spoilt)
+afterBlank room count = pick (ltb count room) (partialLine (count + 1) Blank) (partialLine count Spoilt)
 
 -- the line of so many numbers and a part, with one byte more; byte 32 is a blank
 abbrev pub withByte : ℕ → ℕ → Part → ℕ → Line
-withByte room count Start byte = lineOf count (firstPart byte)
-withByte room count (Number value) byte = pick (eqb byte 32) (afterBlank room count) (lineOf count (withDigit value byte))
-withByte room count Blank byte = lineOf count (withDigit 0 byte)
-withByte room count Part.Comment byte = lineOf count Part.Comment
-withByte room count Spoilt byte = lineOf count Spoilt
+withByte room count Start byte = partialLine count (firstPart byte)
+withByte room count (Number value) byte = pick (eqb byte 32) (afterBlank room count) (partialLine count (withDigit value byte))
+withByte room count Blank byte = partialLine count (withDigit 0 byte)
+withByte room count Part.Comment byte = partialLine count Part.Comment
+withByte room count Spoilt byte = partialLine count Spoilt
 
 -- what the whole line is: a case ends in a number that there is room for
 abbrev pub lineEnded : ℕ → ℕ → Part → Ended

@@ -3,7 +3,7 @@ use crate::answers::Verdict;
 use libc::STDOUT_FILENO;
 ghost use mathlib.Core.Path.{_≡_};
 ghost use Prim.Native.Nat.{_<_};
-ghost use Rattle.stored.specs.CaseTally.{oneMoreCapped, newTally, withLine, withMalformed, withDifference, withCase, withVerdict};
+ghost use Rattle.stored.specs.CaseTally.{oneMoreCapped, newTally, withNextLine, withMalformed, withDifference, withCase, withVerdict};
 
 // One more than the highest number that a call may have.
 pub const CALLS: usize = 32;
@@ -29,8 +29,8 @@ impl CaseTally {
         }
     }
 
-    pub fn next_line(mut self) -> CaseTally
-        ensures { λ r. ⌜ r ≡ withLine self ⌝ }
+    pub fn begin_line(mut self) -> CaseTally
+        ensures { λ r. ⌜ r ≡ withNextLine self ⌝ }
     {
         self.line = one_more(self.line);
         self

@@ -10,8 +10,8 @@ end-requires c κs = search needs
 enum-told : tie.Need-enum-told
 enum-told c = search needs
 
-next-line-requires : tie.Need-next-line-requires
-next-line-requires c κs = search needs
+begin-line-requires : tie.Need-begin-line-requires
+begin-line-requires c κs = search needs
 
 enum-told-2 : tie.Need-enum-told-2
 enum-told-2 c = search needs
@@ -19,8 +19,8 @@ enum-told-2 c = search needs
 malformed-requires : tie.Need-malformed-requires
 malformed-requires c κs = search needs
 
-next-line-requires-2 : tie.Need-next-line-requires-2
-next-line-requires-2 c κs = search needs
+begin-line-requires-2 : tie.Need-begin-line-requires-2
+begin-line-requires-2 c κs = search needs
 
 enum-known-count : tie.Need-enum-known-count
 enum-known-count c = search needs
@@ -32,8 +32,8 @@ judge-line-requires c κs =
     let a = whole .before .before .before .args in
     rw (told .count .given .1) at (ended-fills (a .line) (a .numbers .now) (whole .end .ensures .0) (whole .end .ensures .1))
 
-next-line-requires-3 : tie.Need-next-line-requires-3
-next-line-requires-3 c κs = search needs
+begin-line-requires-3 : tie.Need-begin-line-requires-3
+begin-line-requires-3 c κs = search needs
 
 same-length : tie.Need-same-length
 same-length c = search needs
@@ -59,13 +59,13 @@ end-line-spec =
     (tie.spec
     end-requires
     enum-told
-    next-line-requires
+    begin-line-requires
     enum-told-2
     malformed-requires
-    next-line-requires-2
+    begin-line-requires-2
     enum-known-count
     judge-line-requires
-    next-line-requires-3
+    begin-line-requires-3
     same-length
     returns
     same-length-2

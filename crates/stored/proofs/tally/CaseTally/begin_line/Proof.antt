@@ -1,7 +1,7 @@
--- `CaseTally::next_line` meets its contract: the line's number is the one that `one_more` gives.
+-- `CaseTally::begin_line` meets its contract: the line's number is the one that `one_more` gives.
 use borrow.Author.Needs.{needs}
-use Rattle.stored.proofs.tally.CaseTally.next_line.Statement.{statement}
-use Rattle.stored.proofs.tally.CaseTally.next_line.Tie as tie
+use Rattle.stored.proofs.tally.CaseTally.begin_line.Statement.{statement}
+use Rattle.stored.proofs.tally.CaseTally.begin_line.Tie as tie
 
 one-more-requires : tie.Need-one-more-requires
 one-more-requires c κs = search needs
@@ -9,5 +9,5 @@ one-more-requires c κs = search needs
 returns : tie.Need-returns
 returns c = rw (c .one-more .ensures)
 
-pub next-line-spec : {M : Type 1} → statement M
-next-line-spec = tie.close (tie.spec one-more-requires returns)
+pub begin-line-spec : {M : Type 1} → statement M
+begin-line-spec = tie.close (tie.spec one-more-requires returns)
