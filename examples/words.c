@@ -1,5 +1,5 @@
-/* Loads a lexicon in pieces, looks a word up, names a number and shows the page of words from that number on: words FILE WORD NUMBER. Its
- * letters are A to Z, tiles 1 to 26. */
+/* Loads a lexicon in pieces, looks a word up, names a number, reads words as viewers type them and shows the page of words from that number
+ * on: words FILE WORD NUMBER. Its letters are A to Z, tiles 1 to 26. */
 #include <stdio.h>
 #include <stdlib.h>
 #include <string.h>
@@ -11,6 +11,12 @@ enum { PIECE = 7, LETTERS = 26, LONGEST = 64 };
 
 /* A page of the text service. */
 enum { ROWS = 24, COLUMNS = 40 };
+
+/* What viewers typed: small letters, a letter of two bytes, an empty line, more than the word. */
+static const char TYPED[] = "lexicon\r\nLÉTTER\n\ntiles of wood\n";
+
+/* The most bytes of a label file of 53 lines here. */
+enum { LABEL_FILE = 53 * 5 };
 
 static int refused(const char *call, uint32_t refusal)
 {
@@ -125,6 +131,57 @@ static int name(const uint32_t *nodes, const uint32_t *counts, size_t n, uint32_
     return 0;
 }
 
+/* Writes the label file, and answers its length: each letter, large and small, is its tile, and É is the tile of E. */
+static size_t label_file(char file[LABEL_FILE + 1])
+{
+    char *end = file;
+    int tile;
+
+    for (tile = 1; tile <= LETTERS; tile++)
+        end += sprintf(end, "%d\t%c\n%d\t%c\n", tile, 'A' - 1 + tile, tile, 'a' - 1 + tile);
+    end += sprintf(end, "5\tÉ\n");
+    return (size_t)(end - file);
+}
+
+/* Shows a line that was read, and looks its word up in nodes that are counted. */
+static int show_typed(const uint32_t *nodes, const uint32_t *counts, size_t n, machirsun_typed typed, const uint8_t *tiles)
+{
+    machirsun_index index = machirsun_word_index(nodes, n, counts, n, nodes[0] >> 8, tiles, typed.tiles);
+    size_t i;
+
+    if (index.refusal != 0)
+        return refused("word_index", index.refusal);
+    printf("typed \"%.*s\": tiles", (int)(typed.end - typed.start), TYPED + typed.start);
+    for (i = 0; i < typed.tiles; i++)
+        printf(" %u", tiles[i]);
+    if (index.found)
+        printf(", word %u\n", index.number);
+    else
+        printf(", no word\n");
+    return 0;
+}
+
+/* Reads what viewers typed, line by line. */
+static int read_typed(const uint32_t *nodes, const uint32_t *counts, size_t n)
+{
+    char labels[LABEL_FILE + 1];
+    size_t labels_len = label_file(labels), at = 0;
+    uint8_t tiles[LONGEST];
+    int status = 0;
+
+    while (status == 0) {
+        machirsun_typed typed = machirsun_next_word((const uint8_t *)labels, labels_len, (const uint8_t *)TYPED, sizeof TYPED - 1, at, tiles,
+                                                    LONGEST);
+        if (typed.refusal != 0)
+            return refused("next_word", typed.refusal);
+        if (!typed.found)
+            break;
+        status = show_typed(nodes, counts, n, typed, tiles);
+        at = typed.after;
+    }
+    return status;
+}
+
 /* Shows the page of words from the number on, in nodes that are counted. */
 static int show_page(const uint32_t *nodes, const uint32_t *counts, size_t n, uint32_t number)
 {
@@ -189,6 +246,8 @@ int main(int argc, char **argv)
     status = look_up(nodes, counts, n, argv[2], tiles, letters);
     if (status == 0)
         status = name(nodes, counts, n, number);
+    if (status == 0)
+        status = read_typed(nodes, counts, n);
     if (status == 0)
         status = show_page(nodes, counts, n, number);
     free(nodes);

@@ -1,4 +1,4 @@
-/* Machirsun: word graphs loaded, counted, looked up and exported.
+/* Machirsun: word graphs loaded, counted, looked up and exported, and words read from text.
  *
  * Link with libmachirsun.a, which `rt staticlib machirsun` writes to target/staticlib/ (x86-64 Linux).
  *
@@ -13,7 +13,7 @@
  *
  * Answers. Every answer has `refusal`: 0, or a number from the table below. The answer of machirsun_load_in_pieces has two of them,
  * `begun` and `finished.refusal`. A refused call has done nothing but what its comment says. Fields that an answer has no value for
- * are 0: `arc`, `node` and `tile` are filled by the refusals that carry them, the other fields where nothing is refused.
+ * are 0: `arc`, `node`, `tile` and `bad` are filled by the refusals that carry them, the other fields where nothing is refused.
  *
  * Nodes. The loaded table is 32-bit nodes: arc bits 8-31, accepts 7, end 6, tile 0-5. A place is the number of a node, from 0. The run from
  * a place is the nodes from there up to the first with the end bit, whatever leads to them: two runs may share their last nodes. Arc 0
@@ -61,7 +61,7 @@ extern "C" {
  *                                                                                      write_page
  *  15   a difference is below 0, or a sum above 4,294,967,295: the counts are not      word_index, word_by_index, write_page
  *       the graph's
- *  16   the word buffer is full                                                        word_by_index
+ *  16   the word buffer is full; read_words: tiles or sizes has no more room           word_by_index, next_word, read_words
  *  17   the tally has over 64 entries                                                  accepts_alpha, alpha_cross_set
  *  18   no label, or over 50                                                           to_macondo
  *  19   a text is too long: a name over 255 bytes, a title over 31, a date over 19;    to_macondo, to_lxd, write_page
@@ -75,6 +75,8 @@ extern "C" {
  *  24   runs do not ascend                                                             to_macondo
  *  25   the file would have too many nodes: over 2^24 (to_lxd: 2^22)                   to_macondo, to_lxd
  *  26   a byte of the title or a shown label is outside 20 to 7E hexadecimal           write_page
+ *  27   a line of the label file is bad; carries its number, from 1, as bad            next_word, read_words
+ *  28   the text cannot be read: no label matches; carries the byte's place as bad     next_word, read_words
  *
  * Where several apply, the first in the order that the call's comment gives is answered.
  */
@@ -104,7 +106,9 @@ enum {
     MACHIRSUN_BAD_LETTER = 23,
     MACHIRSUN_NOT_ASCENDING = 24,
     MACHIRSUN_TOO_MANY_NODES = 25,
-    MACHIRSUN_NOT_PRINTABLE = 26
+    MACHIRSUN_NOT_PRINTABLE = 26,
+    MACHIRSUN_BAD_LABEL_LINE = 27,
+    MACHIRSUN_UNREADABLE = 28
 };
 
 /* ---- Layouts and formats: 0 is the first, every other number the second -------------------------------------------------------- */
@@ -320,6 +324,71 @@ machirsun_file machirsun_to_lxd(const uint32_t *nodes, size_t nodes_len, const u
 uint32_t machirsun_write_page(const uint32_t *nodes, size_t nodes_len, const uint32_t *counts, size_t counts_len,
                               const uint32_t *labels, size_t labels_len, const uint8_t *title, size_t title_len, uint32_t start,
                               uint32_t first, uint8_t *page, size_t page_len);
+
+/* ---- Words as viewers type them --------------------------------------------------------------------------------------------------
+ *
+ * A text has one word a line. Lines end at 0A, at 0D 0A or at a lone 0D (bytes are hexadecimal here), the last with or without an ending. A
+ * place is the number of a byte of the text, from 0; what is before it does not count, so that a place inside a line, or between 0D and
+ * 0A, is where a line begins.
+ *
+ * The label file says which bytes are which tile. Its lines end in the same way, and each is one label: the tile, 1 to 63 in decimal without a
+ * leading zero, a tab, and 1 to 15 bytes, which are the label, whatever they are; blanks, tabs and bytes over 7F are bytes like the others. A
+ * tile may have several lines. There are at most 256; an empty line is bad, and an empty file has no labels.
+ *
+ * A line is read label by label, from its first byte on: of those that match at a place, the longest is taken, and of several as long, the
+ * one with the lowest tile. The word ends where the line ends, or at the first byte of 20 or less that no label matches; what follows that
+ * byte is not read. Every other byte that no label matches is unreadable (28), and so is one of 20 or less as the first of its line: no word
+ * is empty. An empty line is no word, and is passed over.
+ */
+
+/* found: a line was read. Where it is false and nothing is refused, this is the end: no line is left. bad: for 27 the number of the label
+ * file's line, for 28 the place of the byte in the text, which may be 0. The whole line, without its ending, is in the caller's own text: the
+ * end - start bytes from text + start. after: the place after its ending. tiles: how many were put. */
+typedef struct machirsun_typed {
+    uint32_t refusal;
+    bool found;
+    size_t bad;
+    size_t start;
+    size_t end;
+    size_t after;
+    size_t tiles;
+} machirsun_typed;
+
+/* Reads the next line that is not empty, from a place on, and puts the tiles of its word. At a place at or past the text's end there is
+ * none. A call from `after` reads the line after it. 16 means that a tile has no room; a word that just fits is read.
+ *
+ * Order: 27, for the first bad line of the label file, a 257th included, and also where no line is left; then 28 or 16, whichever comes first in
+ * the text. After these two the tiles already put stay; the rest of the word buffer is as before, after 27 and at the end all of it. To
+ * leave out the line of an unreadable byte, go on from the first 0A or 0D after it, or from the text's end. */
+machirsun_typed machirsun_next_word(const uint8_t *labels, size_t labels_len, const uint8_t *text, size_t text_len, size_t at,
+                                    uint8_t *word, size_t word_len);
+
+/* found: at least one line was read. bad: as above. words: how many were read. tiles: how many tiles these have in all. after: the place
+ * after the ending of the last line read. */
+typedef struct machirsun_typed_list {
+    uint32_t refusal;
+    bool found;
+    size_t bad;
+    size_t words;
+    size_t tiles;
+    size_t after;
+} machirsun_typed_list;
+
+/* Reads line after line as machirsun_next_word does, each with what is left of tiles as its word buffer, and puts the number of tiles of
+ * each word into sizes. The label file is taken once for all of them, so for many lines this is the faster call. It stops at the end, at the
+ * first line for which sizes has no room (16; the line is not read), or at the first line that is refused (28, or 16 where tiles has
+ * no room).
+ *
+ * Where a word was read, the answer is the words, with refusal 0, whatever stopped the call. The next call, from `after`, begins with the
+ * line that stopped this one: with the buffers anew it may have room for it; an unreadable one is refused there. So go on from `after`, with
+ * the buffers anew, as long as found is true. Where none was read, the answer is what stopped the call: the end, 16 or 28; 16 then says that
+ * the buffers are too short for the next line as far as it was read; call again from the same place with longer ones. Order: 27, the end, 16
+ * for sizes, then 28 or 16 as above.
+ *
+ * The words' tiles stand one after the other from the front of tiles, and those that a refused line had put, after them. Everything past them
+ * stays, and so do the entries of sizes past the words. */
+machirsun_typed_list machirsun_read_words(const uint8_t *labels, size_t labels_len, const uint8_t *text, size_t text_len, size_t at,
+                                          uint8_t *tiles, size_t tiles_len, size_t *sizes, size_t sizes_len);
 
 #ifdef __cplusplus
 }

@@ -13,6 +13,13 @@ pub struct Answer {
     pub flag: bool,
     /// The one number that the call answers: nodes, a place, tiles, a set, bytes written.
     pub value: u64,
+    /// Of a text that is read: the line or the place that a refusal carries, where the line read starts and ends, the place after its
+    /// ending, and how many words were read.
+    pub bad: u64,
+    pub start: u64,
+    pub end: u64,
+    pub after: u64,
+    pub words: u64,
     /// The load's state after begin and feed, and after the last feed of a whole load.
     pub state: Option<Loader>,
     /// The number of begin's refusal in a whole load; the other fields are then finish's.
@@ -63,6 +70,7 @@ pub enum Buffer {
     Bytes(Vec<u8>),
     Numbers(Vec<u32>),
     Sets(Vec<u64>),
+    Sizes(Vec<usize>),
 }
 
 /// What a call answered, and what then stands in each buffer that it may write.

@@ -6,8 +6,11 @@ mod loading;
 mod numbers;
 mod pages;
 mod sets;
+mod typed;
+mod whole_texts;
 
 pub use files::Fit;
+pub use typed::{Labels, Reading};
 
 use crate::answer::{Answer, Buffer, Outcome};
 use crate::paper::counting::{TOO_MANY, counts, size_and_shape};
@@ -63,6 +66,7 @@ pub struct Checker {
     random: Random,
     alphabets: Alphabets,
     spoil: Option<Spoil>,
+    reading: Reading,
 }
 
 impl Checker {
@@ -72,6 +76,7 @@ impl Checker {
             random: Random::new(seed),
             alphabets: Alphabets::default(),
             spoil: None,
+            reading: Reading::default(),
         }
     }
 
@@ -79,6 +84,14 @@ impl Checker {
     pub fn spoiled(seed: u64, spoil: Spoil) -> Self {
         Self {
             spoil: Some(spoil),
+            ..Self::new(seed)
+        }
+    }
+
+    /// For the tests: a checker of an engine that reads texts in its own way.
+    pub fn reading(seed: u64, reading: Reading) -> Self {
+        Self {
+            reading,
             ..Self::new(seed)
         }
     }

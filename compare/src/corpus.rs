@@ -3,6 +3,7 @@
 mod all_calls;
 mod big;
 mod headers;
+mod label_files;
 mod lexicons;
 mod limits;
 mod loads;
@@ -11,6 +12,7 @@ mod page_limits;
 mod pages;
 mod small;
 mod texts;
+pub mod typed;
 
 use crate::checker::Checker;
 use crate::random::Random;
@@ -50,4 +52,5 @@ pub fn run(checker: &mut Checker, size: Size, seed: u64) {
         big::run(checker, &mut random());
     }
     headers::run(checker, size, &mut random());
+    typed::run(checker, size, &mut random());
 }

@@ -1,6 +1,10 @@
 //! The calls of the static library, each with its answer in the common form. Each pointer and its length come from one slice, and written
 //! buffers from `&mut` slices, so that each `unsafe` block keeps what the header asks for.
 
+mod typed;
+
+pub use typed::{next_word, read_words};
+
 use crate::answer::Answer;
 use machirsun::ffi::{self, Loader};
 
@@ -33,6 +37,14 @@ pub struct PageOf<'a> {
     pub title: &'a [u8],
     pub start: u32,
     pub first: u32,
+}
+
+/// A label file, and the text that is read from a place on.
+#[derive(Clone, Copy, Debug)]
+pub struct TextOf<'a> {
+    pub labels: &'a [u8],
+    pub text: &'a [u8],
+    pub at: usize,
 }
 
 fn misfit(refusal: u32, node: usize, tile: u8, arc: u32) -> Answer {

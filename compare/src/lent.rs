@@ -58,6 +58,12 @@ impl Lent<u64> {
     }
 }
 
+impl Lent<usize> {
+    pub fn sizes(random: &mut Random, len: usize) -> Self {
+        Self::filled(len, || random.next() as usize)
+    }
+}
+
 impl From<Lent<u8>> for Buffer {
     fn from(lent: Lent<u8>) -> Self {
         Self::Bytes(lent.0)
@@ -73,5 +79,11 @@ impl From<Lent<u32>> for Buffer {
 impl From<Lent<u64>> for Buffer {
     fn from(lent: Lent<u64>) -> Self {
         Self::Sets(lent.0)
+    }
+}
+
+impl From<Lent<usize>> for Buffer {
+    fn from(lent: Lent<usize>) -> Self {
+        Self::Sizes(lent.0)
     }
 }

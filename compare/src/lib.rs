@@ -1,4 +1,4 @@
-//! Holds the engine to the Rust it is ported from and to document 01, and has what the benchmark shares with that: lexicons and random
+//! Holds the engine to the Rust it is ported from and to documents 01 and 02, and has what the benchmark shares with that: lexicons and random
 //! numbers that are the same on every run.
 //!
 //! A call is put together in `checker` from an input of `corpus`. It is asked of the engine (`engine`), of 01 as read in `paper`, and of

@@ -9,6 +9,7 @@ pub mod macondo;
 pub mod nodes;
 pub mod pages;
 pub mod runs;
+pub mod typed;
 pub mod walks;
 pub mod words;
 

@@ -23,11 +23,13 @@ pub enum Call {
     ToMacondo,
     ToLxd,
     WritePage,
+    NextWord,
+    ReadWords,
 }
 
 use Call::*;
 
-pub const CALLS: [Call; 17] = [
+pub const CALLS: [Call; 19] = [
     Begin,
     Feed,
     Finish,
@@ -45,6 +47,8 @@ pub const CALLS: [Call; 17] = [
     ToMacondo,
     ToLxd,
     WritePage,
+    NextWord,
+    ReadWords,
 ];
 
 #[derive(Clone, Copy, Default)]
@@ -57,8 +61,8 @@ pub struct Line {
     pub refusals: [u64; REFUSALS],
 }
 
-/// 0, and the refusals 1 to 26.
-pub const REFUSALS: usize = 27;
+/// 0, and the refusals 1 to 28.
+pub const REFUSALS: usize = 29;
 
 /// Where the engine and what it is held to differ.
 pub struct Difference {
@@ -157,7 +161,7 @@ impl Report {
             let line = self.line(call);
             let _ = writeln!(
                 text,
-                "{:<13} {:>9} calls, {:>9} compared with the Rust, {:>9} held to 01 alone, {} differences; refusals {}",
+                "{:<13} {:>9} calls, {:>9} compared with the Rust, {:>9} held to the documents alone, {} differences; refusals {}",
                 format!("{call:?}"),
                 grouped(line.calls),
                 grouped(line.with_rust),
@@ -220,6 +224,7 @@ fn entries(buffer: &Buffer) -> Vec<u64> {
         Buffer::Bytes(list) => list.iter().map(|&entry| entry.into()).collect(),
         Buffer::Numbers(list) => list.iter().map(|&entry| entry.into()).collect(),
         Buffer::Sets(list) => list.clone(),
+        Buffer::Sizes(list) => list.iter().map(|&entry| entry as u64).collect(),
     }
 }
 

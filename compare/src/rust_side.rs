@@ -4,6 +4,8 @@
 //! nodes without words again and again, and the program's thread has a stack that its deepest recursion fits. A panic is caught; as
 //! none is to be expected where it is asked, it comes out as the refusal `PANICKED`, which no other answer equals.
 
+pub mod typed;
+
 use crate::engine::{LxdTexts, MacondoTexts, PageOf};
 use crate::paper::counting::steps;
 use std::collections::HashMap;

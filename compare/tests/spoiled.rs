@@ -16,6 +16,12 @@ enum Change {
     Taken,
     /// What begin refused by, in a whole load.
     Begun,
+    /// Of a text that is read.
+    Bad,
+    Start,
+    End,
+    After,
+    Words,
     /// One bit of an entry of a buffer: which buffer, and the entry counted from the front or, where negative, from the back.
     Entry(usize, isize),
 }
@@ -35,11 +41,17 @@ fn spoil(change: Change, outcome: &mut Outcome) {
         Value => answer.value ^= 1,
         Flag => answer.flag ^= true,
         Begun => answer.begun ^= 1,
+        Bad => answer.bad ^= 1,
+        Start => answer.start ^= 1,
+        End => answer.end ^= 1,
+        After => answer.after ^= 1,
+        Words => answer.words ^= 1,
         Taken => answer.state.iter_mut().for_each(|state| state.taken ^= 1),
         Entry(buffer, place) => match &mut outcome.buffers[buffer] {
             Buffer::Bytes(list) => *entry(list, place) ^= 1,
             Buffer::Numbers(list) => *entry(list, place) ^= 1,
             Buffer::Sets(list) => *entry(list, place) ^= 1,
+            Buffer::Sizes(list) => *entry(list, place) ^= 1,
         },
     }
 }
@@ -77,6 +89,8 @@ fn changes(call: Call) -> Vec<Change> {
         Call::AcceptsAlpha => (&[Flag], 0),
         Call::AlphaCrossSet => (&[Value], 0),
         Call::ToMacondo | Call::ToLxd => (&[Value], 2),
+        Call::NextWord => (&[Value, Flag, Bad, Start, End, After], 1),
+        Call::ReadWords => (&[Value, Flag, Bad, Words, After], 2),
     };
     let places = [FIRST, LAST, GUARD_BEFORE, GUARD_AFTER];
     let entries = (0..buffers).flat_map(|buffer| places.map(|place| Entry(buffer, place)));

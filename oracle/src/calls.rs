@@ -13,6 +13,7 @@ mod outcome;
 mod pages;
 mod samples;
 mod trial;
+mod typed;
 
 use crate::numbers::{Inputs, Unreadable, join, parse};
 use crate::requests::Requests;
@@ -66,6 +67,7 @@ const FAMILIES: &[Family] = &[
     macondo::FAMILY,
     lxd::FAMILY,
     pages::FAMILY,
+    typed::FAMILY,
 ];
 
 pub fn find_list(name: &str) -> Option<&'static Family> {

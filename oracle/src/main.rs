@@ -8,7 +8,7 @@ mod requests;
 mod worker;
 
 use std::process::ExitCode;
-use wolges::{alphabet, error, kwg, lexport};
+use wolges::{alphabet, bites, error, kwg, lexport, text, word_list};
 
 const USAGE: &str = "usage: oracle requests LIST... | oracle answers";
 

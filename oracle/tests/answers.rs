@@ -337,6 +337,107 @@ fn a_refused_page_says_why() {
     }
 }
 
+// The bytes of a label file and of a text, as numbers.
+fn listed(text: &str) -> String {
+    let bytes: Vec<String> = text.bytes().map(|byte| byte.to_string()).collect();
+    bytes.join(" ")
+}
+
+// The answer to a request of call 17 or 18: the place and the rooms, a label file,
+// a text. The case's words and bytes are checked here.
+fn typed(call: u32, inputs: &str, labels: &str, text: &str) -> String {
+    let (file, line) = (listed(labels), listed(text));
+    let (labels, text) = (labels.len(), text.len());
+    let request = format!("{call} {inputs} {labels} {file} {text} {line}");
+    let (list, _) = answers(&(request.trim_end().to_string() + "\n"));
+    let bytes = format!("{file} {line}");
+    let asked = case(call, &format!("{inputs} {labels}"), bytes.trim(), "");
+    let answer = list.strip_prefix(asked.trim_end_matches('\n'));
+    answer
+        .expect("a case of the request")
+        .trim_end()
+        .to_string()
+}
+
+// A and AB have tiles 1 and 3, B has 2; and there are two lower tiles for é.
+const LABELS: &str = "1\tA\n2\tB\r3\tAB\r\n9\té\n7\té\n8\té";
+
+#[test]
+fn a_line_is_read_with_its_places_and_tiles() {
+    for (inputs, text, answer) in [
+        ("0 9", "ABBA", "0 1 0 0 4 4 3 3 2 1"),
+        ("1 9", "ABBA", "0 1 0 1 4 4 3 2 2 1"),
+        ("0 9", "\n\rAé B\r\nA", "0 1 0 2 7 9 2 1 7"),
+        ("8 9", "\n\rAé B\r\nA", "0 1 0 9 10 10 1 1"),
+        // The text's end, and past it; no line that is not empty.
+        ("4 9", "ABBA", "0 0 0 0 0 0 0"),
+        ("4294967295 9", "ABBA", "0 0 0 0 0 0 0"),
+        ("0 9", "\r\n\n", "0 0 0 0 0 0 0"),
+        // A blank at the start, an unreadable byte, and too little room.
+        ("0 9", "\n A", "28 0 1 0 0 0 0"),
+        ("0 2", "BA?B", "28 0 2 0 0 0 0 2 1"),
+        ("0 2", "BAA?", "16 0 0 0 0 0 0 2 1"),
+        ("0 2", "BA\tA", "0 1 0 0 4 4 2 2 1"),
+    ] {
+        assert_eq!(typed(17, inputs, LABELS, text), answer, "{inputs} {text:?}");
+    }
+}
+
+#[test]
+fn lines_are_read_up_to_what_stops_the_reading() {
+    let text = "AA\n\nB é\r?";
+    for (inputs, answer) in [
+        ("0 9 9", "0 1 0 2 3 9 2 1 1 1 2"),
+        ("0 9 1", "0 1 0 1 2 3 2 1 1"),
+        ("0 2 9", "0 1 0 1 2 3 2 1 1"),
+        ("2 9 9", "0 1 0 1 1 9 1 2"),
+        ("9 9 9", "28 0 9 0 0 0"),
+        ("9 9 0", "16 0 0 0 0 0"),
+        ("0 1 9", "16 0 0 0 0 0"),
+        ("10 0 0", "0 0 0 0 0 0"),
+    ] {
+        assert_eq!(typed(18, inputs, LABELS, text), answer, "{inputs}");
+    }
+}
+
+#[test]
+fn a_bad_label_file_is_refused_before_all() {
+    for (labels, line) in [
+        ("\n", 1),
+        ("1\tA\n01\tB\n?", 2),
+        ("1\tA\r\r2\tB", 2),
+        ("63\tA\n64\tA", 2),
+        (&"1\tA\n".repeat(257), 257),
+    ] {
+        assert_eq!(
+            typed(17, "9 0", labels, "?"),
+            format!("27 0 {line} 0 0 0 0")
+        );
+        assert_eq!(
+            typed(18, "9 0 0", labels, "?"),
+            format!("27 0 {line} 0 0 0")
+        );
+    }
+}
+
+#[test]
+fn what_lines_of_the_rust_cannot_hold_is_not_asked() {
+    // Call 17 takes such bytes in one line, call 18 does not.
+    for request in [
+        "17 0 9 0 2 255 10",
+        "18 0 9 9 0 1 255",
+        "17 0 65 0 0",
+        "18 0 0 17 0 0",
+    ] {
+        let output = oracle(&["answers"], &format!("{request}\n"));
+        assert!(!output.status.success(), "{request}");
+    }
+    assert_eq!(
+        answers("17 0 9 0 1 255\n").0,
+        case(17, "0 9 0", "255", "28 0 0 0 0 0 0")
+    );
+}
+
 #[test]
 fn what_an_alphabet_or_a_text_cannot_hold_is_not_asked() {
     let graph = "5 576 64 1153 1090 194";
@@ -385,7 +486,7 @@ fn an_unreadable_request_stops_the_run() {
 #[test]
 fn the_lists_are_the_same_each_time_and_fully_answered() {
     let asked = [
-        "requests", "nodes", "loading", "numbers", "letters", "macondo", "lxd", "pages",
+        "requests", "nodes", "loading", "numbers", "letters", "macondo", "lxd", "pages", "typed",
     ];
     let requests = text(oracle(&asked, "").stdout);
     assert_eq!(requests, text(oracle(&asked, "").stdout));

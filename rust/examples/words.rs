@@ -1,7 +1,9 @@
-//! Loads a lexicon in pieces, looks a word up, names a number and shows the page of words from that number on: words FILE WORD NUMBER. Its
-//! letters are A to Z, tiles 1 to 26.
+//! Loads a lexicon in pieces, looks a word up, names a number, reads words as viewers type them and shows the page of words from that number
+//! on: words FILE WORD NUMBER. Its letters are A to Z, tiles 1 to 26.
 
-use machirsun::{count_words, word_by_index, word_index, write_page, Layout, Loader, PAGE};
+use machirsun::{
+    count_words, word_by_index, word_index, write_page, Layout, Loader, TypedText, PAGE,
+};
 use std::error::Error;
 use std::fs::File;
 use std::io::Read;
@@ -15,6 +17,9 @@ const LONGEST: usize = 64;
 
 /// The columns of a page of the text service.
 const COLUMNS: usize = 40;
+
+/// What viewers typed: small letters, a letter of two bytes, an empty line, more than the word.
+const TYPED: &str = "lexicon\r\nLÉTTER\n\ntiles of wood\n";
 
 fn load(path: &str) -> Result<Vec<u32>, Box<dyn Error>> {
     let mut file = File::open(path)?;
@@ -67,6 +72,31 @@ fn letters(number: u32, tiles: &[u8]) -> Result<String, String> {
     tiles.iter().map(letter).collect()
 }
 
+/// The label file: each letter, large and small, is its tile, and É is the tile of E.
+fn label_file() -> String {
+    let letters = (1..).zip('A'..='Z').chain((1..).zip('a'..='z'));
+    letters
+        .chain([(5, 'É')])
+        .map(|(tile, letter)| format!("{tile}\t{letter}\n"))
+        .collect()
+}
+
+/// Reads what viewers typed, line by line, and looks each word up.
+fn read_typed(nodes: &[u32], counts: &[u32]) -> Result<(), Box<dyn Error>> {
+    let labels = label_file();
+    let mut room = [0; TYPED.len()];
+    for read in TypedText::at(labels.as_bytes(), TYPED.as_bytes(), 0, &mut room) {
+        let (typed, tiles) = read?;
+        print!("typed {:?}: tiles", std::str::from_utf8(typed.line)?);
+        tiles.iter().for_each(|tile| print!(" {tile}"));
+        match word_index(nodes, counts, nodes[0] >> 8, tiles)? {
+            Some(number) => println!(", word {number}"),
+            None => println!(", no word"),
+        }
+    }
+    Ok(())
+}
+
 fn run(arguments: &[String]) -> Result<(), Box<dyn Error>> {
     let [_, path, word, number] = arguments else {
         return Err("usage: words FILE WORD NUMBER".into());
@@ -89,6 +119,8 @@ fn run(arguments: &[String]) -> Result<(), Box<dyn Error>> {
         Some(tiles) => println!("word {number} is {}", letters(number, &put[..tiles])?),
         None => println!("there is no word {number}"),
     }
+
+    read_typed(&nodes, &counts)?;
 
     let labels: Vec<u32> = "?ABCDEFGHIJKLMNOPQRSTUVWXYZ"
         .chars()

@@ -111,6 +111,27 @@ pub struct File {
     pub written: usize,
 }
 
+#[repr(C)]
+pub struct Typed {
+    pub refusal: u32,
+    pub found: bool,
+    pub bad: usize,
+    pub start: usize,
+    pub end: usize,
+    pub after: usize,
+    pub tiles: usize,
+}
+
+#[repr(C)]
+pub struct TypedList {
+    pub refusal: u32,
+    pub found: bool,
+    pub bad: usize,
+    pub words: usize,
+    pub tiles: usize,
+    pub after: usize,
+}
+
 extern "C" {
     pub fn machirsun_begin(
         announced: usize,
@@ -246,4 +267,26 @@ extern "C" {
         page: *mut u8,
         page_len: usize,
     ) -> u32;
+
+    pub fn machirsun_next_word(
+        labels: *const u8,
+        labels_len: usize,
+        text: *const u8,
+        text_len: usize,
+        at: usize,
+        word: *mut u8,
+        word_len: usize,
+    ) -> Typed;
+
+    pub fn machirsun_read_words(
+        labels: *const u8,
+        labels_len: usize,
+        text: *const u8,
+        text_len: usize,
+        at: usize,
+        tiles: *mut u8,
+        tiles_len: usize,
+        sizes: *mut usize,
+        sizes_len: usize,
+    ) -> TypedList;
 }

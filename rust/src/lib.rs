@@ -1,12 +1,14 @@
-//! Machirsun: word graphs loaded, counted, looked up and exported, over the proved library `libmachirsun.a`.
+//! Machirsun: word graphs loaded, counted, looked up and exported, and words read from text, over the proved library `libmachirsun.a`.
 //!
 //! The calls are those of `include/machirsun.h`, with slices for buffers and [`Refusal`] for the refusals' numbers. Nothing is
 //! allocated here: the caller lends every buffer. Each function only hands its buffers on, and so is inlined.
 
 pub mod ffi;
 mod refusal;
+mod typed;
 
 pub use refusal::Refusal;
+pub use typed::{next_word, read_words, TypedText, TypedWord, TypedWords};
 
 /// The layout of a file's nodes.
 #[derive(Clone, Copy, Debug, PartialEq, Eq)]

@@ -37,7 +37,7 @@ pub enum Refusal {
     NotLent,
     /// 15: a difference is below 0, or a sum above 4,294,967,295: the counts are not the graph's.
     OutOfRange,
-    /// 16: the word buffer is full.
+    /// 16: the word buffer is full; for a list of words, there is no room for a tile or a size.
     BufferFull,
     /// 17: the tally has over 64 entries.
     TallyTooLong,
@@ -59,6 +59,10 @@ pub enum Refusal {
     TooManyNodes,
     /// 26: a byte of the title or a shown label is outside 20 to 7E hexadecimal.
     NotPrintable,
+    /// 27: this line of the label file is bad, counted from 1.
+    BadLabelLine { line: usize },
+    /// 28: no label matches at this place of the text.
+    Unreadable { place: usize },
     /// A number that this crate does not know: the library linked is a later one.
     Unknown(u32),
 }
@@ -96,6 +100,15 @@ impl Refusal {
         }
     }
 
+    /// A refusal of a call that reads a text, with the line or the place that is bad.
+    pub(crate) fn of_text(number: u32, bad: usize) -> Refusal {
+        match number {
+            27 => Refusal::BadLabelLine { line: bad },
+            28 => Refusal::Unreadable { place: bad },
+            other => Refusal::of(other, 0, 0, 0),
+        }
+    }
+
     /// The refusal's number.
     pub fn number(self) -> u32 {
         match self {
@@ -125,6 +138,8 @@ impl Refusal {
             Refusal::NotAscending => 24,
             Refusal::TooManyNodes => 25,
             Refusal::NotPrintable => 26,
+            Refusal::BadLabelLine { .. } => 27,
+            Refusal::Unreadable { .. } => 28,
             Refusal::Unknown(number) => number,
         }
     }
@@ -164,6 +179,8 @@ impl fmt::Display for Refusal {
             Refusal::NotAscending => write!(f, "runs do not ascend"),
             Refusal::TooManyNodes => write!(f, "the file would have too many nodes"),
             Refusal::NotPrintable => write!(f, "the title or a shown label is outside 20 to 7E"),
+            Refusal::BadLabelLine { line } => write!(f, "line {line} of the label file is bad"),
+            Refusal::Unreadable { place } => write!(f, "no label matches at place {place}"),
             Refusal::Unknown(number) => write!(f, "refusal {number}"),
         }
     }

@@ -91,6 +91,23 @@ FIELD(machirsun_file, arc, 4, 4);
 FIELD(machirsun_file, written, 8, 8);
 WHOLE(machirsun_file, 16);
 
+FIELD(machirsun_typed, refusal, 0, 4);
+FIELD(machirsun_typed, found, 4, 1);
+FIELD(machirsun_typed, bad, 8, 8);
+FIELD(machirsun_typed, start, 16, 8);
+FIELD(machirsun_typed, end, 24, 8);
+FIELD(machirsun_typed, after, 32, 8);
+FIELD(machirsun_typed, tiles, 40, 8);
+WHOLE(machirsun_typed, 48);
+
+FIELD(machirsun_typed_list, refusal, 0, 4);
+FIELD(machirsun_typed_list, found, 4, 1);
+FIELD(machirsun_typed_list, bad, 8, 8);
+FIELD(machirsun_typed_list, words, 16, 8);
+FIELD(machirsun_typed_list, tiles, 24, 8);
+FIELD(machirsun_typed_list, after, 32, 8);
+WHOLE(machirsun_typed_list, 40);
+
 /* ---- What is compared ------------------------------------------------------------------------------------------------------------ */
 
 static unsigned compared, differences;
@@ -685,6 +702,176 @@ static void refuses_pages(void)
     }
 }
 
+/* ---- Words as viewers type them ---------------------------------------------------------------------------------------------------- */
+
+/* Tile 1 has two labels, tile 3 has one of two bytes, tiles 4 and 5 begin as tile 2 does; tiles 6 and 7 share a label. The lines end in
+ * each of the ways. */
+static const char LABEL_FILE[] = "1\tA\n1\ta\r\n2\tC\r3\t\303\211\n5\tCHA\n4\tCH\n7\t-\n6\t-\n63\t+";
+
+static uint8_t typed[8];
+static size_t sizes[4];
+
+static void blank_typed(void)
+{
+    size_t i;
+
+    memset(typed, 99, sizeof typed);
+    for (i = 0; i < LENGTH(sizes); i++)
+        sizes[i] = 77;
+}
+
+/* Whether the word buffer has these tiles, and is as before past them. */
+static bool typed_is(const char *tiles)
+{
+    uint8_t expected[sizeof typed];
+
+    memset(expected, 99, sizeof expected);
+    memcpy(expected, tiles, strlen(tiles));
+    return memcmp(typed, expected, sizeof expected) == 0;
+}
+
+static machirsun_typed next(const char *labels, const char *text, size_t at, size_t room)
+{
+    blank_typed();
+    return machirsun_next_word((const uint8_t *)labels, strlen(labels), (const uint8_t *)text, strlen(text), at, typed, room);
+}
+
+static void same_typed(int line, machirsun_typed word, machirsun_typed expected, const char *tiles)
+{
+    compare(word.refusal == expected.refusal && word.found == expected.found && word.bad == expected.bad &&
+                word.start == expected.start && word.end == expected.end && word.after == expected.after &&
+                word.tiles == expected.tiles && typed_is(tiles),
+            "a typed word", line);
+}
+
+/* The tiles are a string, for want of a tile 0. */
+#define READ(word, start, end, after, tiles) \
+    same_typed(__LINE__, word, (machirsun_typed){0, true, 0, start, end, after, strlen(tiles)}, tiles)
+#define UNREAD(word, refusal, bad, tiles) same_typed(__LINE__, word, (machirsun_typed){refusal, false, bad, 0, 0, 0, 0}, tiles)
+
+static void reads_words(void)
+{
+    static const char *const text = "\r\nCHAaC -\n\303\211+\rCH\r\n\nA";
+
+    READ(next(LABEL_FILE, text, 0, 8), 2, 9, 10, "\5\1\2");
+    READ(next(LABEL_FILE, text, 10, 8), 10, 13, 14, "\3\77");
+    READ(next(LABEL_FILE, text, 14, 8), 14, 16, 18, "\4");
+    READ(next(LABEL_FILE, text, 18, 8), 19, 20, 20, "\1");
+    UNREAD(next(LABEL_FILE, text, 20, 8), 0, 0, "");
+    UNREAD(next(LABEL_FILE, text, 21, 8), 0, 0, "");
+    UNREAD(next(LABEL_FILE, text, SIZE_MAX, 0), 0, 0, "");
+
+    /* A place inside a line, at its ending, and inside that. */
+    READ(next(LABEL_FILE, text, 4, 8), 4, 9, 10, "\1\1\2");
+    READ(next(LABEL_FILE, text, 16, 8), 19, 20, 20, "\1");
+    READ(next(LABEL_FILE, text, 17, 8), 19, 20, 20, "\1");
+    READ(next(LABEL_FILE, text, 8, 8), 8, 9, 10, "\6");
+
+    /* A blank with a label, and letters that only begin as one does. */
+    READ(next("1\tA\n2\t \n3\tA\tB", " A\tB\tA", 0, 8), 0, 6, 6, "\2\3");
+    READ(next("1\tA\n2\tABCDEFGHIJKLMNO", "ABCDEFGHIJKLMNO", 0, 1), 0, 15, 15, "\2");
+    UNREAD(next("1\tA\n2\tABCDEFGHIJKLMNO", "ABCDEFGHIJKLMN", 0, 8), MACHIRSUN_UNREADABLE, 1, "\1");
+    UNREAD(next("", "\n\r\n", 0, 8), 0, 0, "");
+    UNREAD(next("", "\nA", 0, 8), MACHIRSUN_UNREADABLE, 1, "");
+}
+
+static void refuses_words(void)
+{
+    /* What comes first in the text. */
+    READ(next(LABEL_FILE, "\nAC ?", 0, 2), 1, 5, 5, "\1\2");
+    UNREAD(next(LABEL_FILE, "\nAC?", 0, 2), MACHIRSUN_UNREADABLE, 3, "\1\2");
+    UNREAD(next(LABEL_FILE, "\nAC?", 0, 1), MACHIRSUN_BUFFER_FULL, 0, "\1");
+    UNREAD(next(LABEL_FILE, "A", 0, 0), MACHIRSUN_BUFFER_FULL, 0, "");
+    UNREAD(next(LABEL_FILE, "?", 0, 0), MACHIRSUN_UNREADABLE, 0, "");
+    UNREAD(next(LABEL_FILE, "A A", 1, 8), MACHIRSUN_UNREADABLE, 1, "");
+    UNREAD(next(LABEL_FILE, "A\303", 0, 8), MACHIRSUN_UNREADABLE, 1, "\1");
+    UNREAD(next(LABEL_FILE, "A!", 0, 8), MACHIRSUN_UNREADABLE, 1, "\1");
+}
+
+static void refuses_label_files(void)
+{
+    static const char *const bad[14] = {"", "A", "1", "1\t", "1 A", "\tA", "0\tA", "01\tA", "64\tA", "100\tA", "+1\tA", " 1\tA", "1 \tA",
+                                        "1\tABCDEFGHIJKLMNOP"};
+    char labels[4 * 258 + 1], file[64];
+    size_t i;
+
+    for (i = 0; i < LENGTH(bad); i++) {
+        snprintf(file, sizeof file, "1\tA\r\n2\tB\r%s\n0\tA", bad[i]);
+        UNREAD(next(file, "A", 0, 8), MACHIRSUN_BAD_LABEL_LINE, 3, "");
+        UNREAD(next(file, "?", 0, 0), MACHIRSUN_BAD_LABEL_LINE, 3, "");
+        UNREAD(next(file, "", 9, 8), MACHIRSUN_BAD_LABEL_LINE, 3, "");
+    }
+    for (i = 0; i < 258; i++)
+        memcpy(labels + 4 * i, "1\tA\n", 4);
+    labels[4 * 258] = '\0';
+    UNREAD(next(labels, "", 0, 8), MACHIRSUN_BAD_LABEL_LINE, 257, "");
+    labels[4 * 257] = '\0';
+    UNREAD(next(labels, "A", 0, 8), MACHIRSUN_BAD_LABEL_LINE, 257, "");
+    labels[4 * 256] = '\0';
+    READ(next(labels, "A", 0, 8), 0, 1, 1, "\1");
+    labels[4 * 255] = 'A';
+    UNREAD(next(labels, "A", 0, 8), MACHIRSUN_BAD_LABEL_LINE, 256, "");
+}
+
+static machirsun_typed_list list(const char *labels, const char *text, size_t at, size_t room, size_t size_room)
+{
+    blank_typed();
+    return machirsun_read_words((const uint8_t *)labels, strlen(labels), (const uint8_t *)text, strlen(text), at, typed, room, sizes,
+                                size_room);
+}
+
+static void same_list(int line, machirsun_typed_list words, machirsun_typed_list expected, const char *tiles, const size_t *expected_sizes)
+{
+    compare(words.refusal == expected.refusal && words.found == expected.found && words.bad == expected.bad &&
+                words.words == expected.words && words.tiles == expected.tiles && words.after == expected.after && typed_is(tiles) &&
+                memcmp(sizes, expected_sizes, sizeof sizes) == 0,
+            "a list of typed words", line);
+}
+
+/* The tiles put may be more than those of the words. */
+#define LISTED(answer, words, tiles, after, put, ...) \
+    same_list(__LINE__, answer, (machirsun_typed_list){0, true, 0, words, tiles, after}, put, (size_t[LENGTH(sizes)]){__VA_ARGS__})
+#define UNLISTED(answer, refusal, bad, put) \
+    same_list(__LINE__, answer, (machirsun_typed_list){refusal, false, bad, 0, 0, 0}, put, (size_t[LENGTH(sizes)]){77, 77, 77, 77})
+
+static void reads_lists(void)
+{
+    static const char *const text = "A\n\nCHAa\r\nAC?\n\303\211";
+
+    /* The end, and where it is met first. */
+    LISTED(list(LABEL_FILE, "A\n\nCHAa\n\n", 0, 8, 4), 2, 3, 8, "\1\5\1", 1, 2, 77, 77);
+    UNLISTED(list(LABEL_FILE, "A\n\nCHAa\n\n", 8, 8, 4), 0, 0, "");
+    UNLISTED(list(LABEL_FILE, "A\n\nCHAa\n\n", 9, 0, 0), 0, 0, "");
+    UNLISTED(list(LABEL_FILE, "A\n\nCHAa\n\n", SIZE_MAX, 8, 4), 0, 0, "");
+
+    /* An unreadable line is refused by the call that begins with it. */
+    LISTED(list(LABEL_FILE, text, 0, 8, 4), 2, 3, 9, "\1\5\1\1\2", 1, 2, 77, 77);
+    UNLISTED(list(LABEL_FILE, text, 9, 8, 4), MACHIRSUN_UNREADABLE, 11, "\1\2");
+    LISTED(list(LABEL_FILE, text, 12, 8, 4), 1, 1, 15, "\3", 1, 77, 77, 77);
+
+    /* No room for a tile: the next call has the room anew. */
+    LISTED(list(LABEL_FILE, text, 0, 4, 4), 2, 3, 9, "\1\5\1\1", 1, 2, 77, 77);
+    UNLISTED(list(LABEL_FILE, text, 9, 4, 4), MACHIRSUN_UNREADABLE, 11, "\1\2");
+    LISTED(list(LABEL_FILE, text, 0, 2, 4), 1, 1, 2, "\1\5", 1, 77, 77, 77);
+    LISTED(list(LABEL_FILE, text, 2, 2, 4), 1, 2, 9, "\5\1", 2, 77, 77, 77);
+    LISTED(list("1\tA", "A\nAA", 0, 2, 4), 1, 1, 2, "\1\1", 1, 77, 77, 77);
+    LISTED(list("1\tA", "A\nAA", 2, 2, 4), 1, 2, 4, "\1\1", 2, 77, 77, 77);
+
+    /* A first line is read as far as there is room, and may be no word. */
+    UNLISTED(list("1\tA", "AA?", 0, 1, 4), MACHIRSUN_BUFFER_FULL, 0, "\1");
+    UNLISTED(list("1\tA", "AA?", 0, 2, 4), MACHIRSUN_UNREADABLE, 2, "\1\1");
+
+    /* No room for a size: the line is not read. */
+    LISTED(list(LABEL_FILE, text, 0, 8, 2), 2, 3, 9, "\1\5\1", 1, 2, 77, 77);
+    LISTED(list(LABEL_FILE, text, 0, 8, 1), 1, 1, 2, "\1", 1, 77, 77, 77);
+    UNLISTED(list(LABEL_FILE, text, 0, 8, 0), MACHIRSUN_BUFFER_FULL, 0, "");
+    UNLISTED(list(LABEL_FILE, "?", 0, 8, 0), MACHIRSUN_BUFFER_FULL, 0, "");
+
+    UNLISTED(list("1\tA\n", "?", 0, 8, 4), MACHIRSUN_UNREADABLE, 0, "");
+    UNLISTED(list("1\tA\n0\tA", "A", 0, 8, 4), MACHIRSUN_BAD_LABEL_LINE, 2, "");
+    UNLISTED(list("1\tA\n0\tA", "", 9, 0, 0), MACHIRSUN_BAD_LABEL_LINE, 2, "");
+}
+
 int main(void)
 {
     begins();
@@ -705,6 +892,10 @@ int main(void)
     writes_lxd();
     writes_pages();
     refuses_pages();
+    reads_words();
+    refuses_words();
+    refuses_label_files();
+    reads_lists();
     printf("calls from C: %u compared, %u differences\n", compared, differences);
     return differences == 0 ? 0 : 1;
 }

@@ -1,4 +1,4 @@
-//! The comparison at scale: the engine against the Rust that it is ported from and against document 01.
+//! The comparison at scale: the engine against the Rust that it is ported from and against documents 01 and 02.
 
 use compare::checker::Checker;
 use compare::corpus::{self, Size};

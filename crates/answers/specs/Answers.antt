@@ -3,6 +3,7 @@ use mathlib.Core.Bool.{Bool, true, false}
 use mathlib.Core.List.{List, [], _∷_}
 use mathlib.Core.Option.{Option, none, some}
 use Prim.Native.Nat.{ℕ}
+use lib.ListN.{getD}
 
 pub data Answer : Type 0 where
   gives : List ℕ → Answer
@@ -14,6 +15,12 @@ abbrev pub refusalIn : Answer → ℕ
 refusalIn (gives vs) = 0
 refusalIn nothing = 0
 refusalIn (refused n vs) = n
+
+-- a value of an answer, or 0 where it has none
+abbrev pub valueAt : ℕ → Answer → ℕ
+valueAt i (gives vs) = getD vs i 0
+valueAt i nothing = 0
+valueAt i (refused n vs) = 0
 
 -- A refusal by itself: its number and the values that it carries.
 pub record Refusal : Type 0 where

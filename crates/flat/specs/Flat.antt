@@ -5,7 +5,7 @@ use mathlib.Core.List.{List, [], _∷_}
 use Prim.Native.Nat.{ℕ}
 use lib.Dec.{eqb}
 use lib.ListN.{getD}
-use Rattle.answers.specs.Answers.{Answer, gives, nothing, refused}
+use Rattle.answers.specs.Answers.{Answer, gives, nothing, refused, valueAt}
 use Rattle.node.specs.declared.Layout.{Layout}
 use Rattle.node.specs.declared.Layout.the-variants.{Kwg, Kbwg}
 
@@ -41,9 +41,7 @@ found false v = nothing
 
 -- ---- how an answer fills fields: the refusal's number by `refusalIn`, and 0 where it has no value for one
 abbrev pub valueIn : Answer → ℕ
-valueIn (gives vs) = getD vs 0 0
-valueIn nothing = 0
-valueIn (refused n vs) = 0
+valueIn a = valueAt 0 a
 
 abbrev pub isGiven : Answer → Bool
 isGiven (gives vs) = true

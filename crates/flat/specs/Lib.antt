@@ -7,3 +7,4 @@ pub mod FlatSets
 pub mod PlainLaws
 pub mod StateLaws
 pub mod FlatPages
+pub mod FlatTyped

@@ -5,6 +5,7 @@ mod loading;
 mod lookups;
 mod pages;
 mod sets;
+mod typing;
 
 pub use counting::FlatCounted;
 pub use counting::flat_counted;
@@ -38,3 +39,7 @@ pub use sets::FlatCross;
 pub use sets::bits_refusal;
 pub use sets::flat_accepts;
 pub use sets::flat_cross;
+pub use typing::FlatTyped;
+pub use typing::FlatTypedList;
+pub use typing::flat_typed;
+pub use typing::flat_typed_list;

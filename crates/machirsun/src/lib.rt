@@ -5,6 +5,7 @@ mod loading;
 mod lookups;
 mod pages;
 mod sets;
+mod typing;
 
 // The calls that crate `replay` makes. Every `extern "C"` function is in the static library.
 pub use counting::machirsun_count_words;
@@ -22,3 +23,5 @@ pub use pages::machirsun_write_page;
 pub use sets::machirsun_accepts_alpha;
 pub use sets::machirsun_alpha_cross_set;
 pub use sets::machirsun_letter_bits;
+pub use typing::machirsun_next_word;
+pub use typing::machirsun_read_words;

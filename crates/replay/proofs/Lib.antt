@@ -7,4 +7,5 @@ pub mod CountLaws
 pub mod SetLaws
 pub mod FileLaws
 pub mod PageLaws
+pub mod TypedLaws
 pub mod VerdictLaws

@@ -41,7 +41,7 @@ marks-unmarked zero (suc n) = refl
 marks-unmarked (suc k) zero = refl
 marks-unmarked (suc k) (suc n) = marks-unmarked k n
 
-put-are : (ts : List ℕ) (n : ℕ) → Tiles ts → unmarked (ts ++ drop (length ts) (replicate n 165)) ≡ ts
+pub put-are : (ts : List ℕ) (n : ℕ) → Tiles ts → unmarked (ts ++ drop (length ts) (replicate n 165)) ≡ ts
 put-are ts n h = tiles-unmarked ts (drop (length ts) (replicate n 165)) h ∙ ap (ts ++_) (marks-unmarked (length ts) n) ∙ append-nil ts
 
 -- a word of n 165s is lent

@@ -18,6 +18,7 @@ use Rattle.replay.specs.Lookups.{indexReply, wordReply, seekReply, stepR
 use Rattle.replay.specs.Sets.{bitsReply, acceptsReply, crossReply}
 use Rattle.replay.specs.Files.{macondoReply, lxdReply}
 use Rattle.replay.specs.Pages.{pageReply}
+use Rattle.replay.specs.Typed.{typedReply, typedListReply}
 
 -- ---- what a case holds: its inputs, a list of words and a list of bytes, and the stored answer
 pub record Read : Type 0 where
@@ -55,13 +56,15 @@ pub data Reply (ws bs : List ℕ) : ℕ → List ℕ → Type 0 where
   macondo : Reply ws bs 14 (macondoReply ws bs 4096 (replicate 4096 0))
   lxd : Reply ws bs 15 (lxdReply ws 4096 (replicate 4096 0))
   pages : Reply ws bs 16 (pageReply ws bs (replicate 960 0))
+  next-word : Reply ws bs 17 (typedReply ws bs)
+  read-words : Reply ws bs 18 (typedListReply ws bs)
 
 -- whether the stored answer is a reply of the call
 pub data Replied (ws bs : List ℕ) (call : ℕ) (stored : List ℕ) : Bool → Type 0 where
   by : {a : List ℕ} → Reply ws bs call a → Replied ws bs call stored (same stored a)
 
 pub data Judged (wordRoom byteRoom call : ℕ) (case : List ℕ) : Verdict → Type 0 where
-  no-call : leb 1 call && leb call 16 ≡ false → Judged wordRoom byteRoom call case Verdict.Malformed
+  no-call : leb 1 call && leb call 18 ≡ false → Judged wordRoom byteRoom call case Verdict.Malformed
   unread : readCase wordRoom byteRoom case ≡ none → Judged wordRoom byteRoom call case Verdict.Malformed
   compared : {r : Read} {b : Bool} → readCase wordRoom byteRoom case ≡ some r → Replied (r .words) (r .bytes) call (r .answer) b
       → Judged wordRoom byteRoom call case (verdictOf b)

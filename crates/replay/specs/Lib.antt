@@ -5,4 +5,5 @@ pub mod Counts
 pub mod Sets
 pub mod Files
 pub mod Pages
+pub mod Typed
 pub mod Judged

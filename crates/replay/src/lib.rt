@@ -9,6 +9,7 @@ mod lookups;
 mod nodes;
 mod pages;
 mod sets;
+mod typing;
 mod verdicts;
 
 pub use verdicts::judge;

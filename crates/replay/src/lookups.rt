@@ -43,7 +43,7 @@ pub(crate) fn word_index(stored: &[u64], words: &[u32], word: &[u8]) -> bool
 }
 
 // No tile: what stands in the lent word until a tile is put.
-const NO_TILE: u8 = 165;
+pub(crate) const NO_TILE: u8 = 165;
 
 // P INDEX N, N nodes and the counts.
 pub(crate) fn word_by_index(stored: &[u64], words: &[u32]) -> bool
@@ -74,7 +74,7 @@ fn word_lent(stored: &[u64], words: &[u32], word: &mut [u8]) -> bool
 }
 
 // The tiles that were put into a word.
-fn tiles_put(word: &[u8]) -> &[u8]
+pub(crate) fn tiles_put(word: &[u8]) -> &[u8]
     ensures { λ r. ⌜ now r ≡ unmarked (now (word .entry)) ⌝ }
 {
     let mut i = 0;

@@ -6,6 +6,7 @@ use crate::lookups;
 use crate::nodes;
 use crate::pages;
 use crate::sets;
+use crate::typing;
 use stored::Count;
 use stored::ROOM;
 use stored::Verdict;
@@ -34,7 +35,7 @@ fn judge_lent(call: u64, case: &[u64], words: &mut [u32], bytes: &mut [u8]) -> V
     if call < 1 {
         return Verdict::Malformed;
     }
-    if 16 < call {
+    if 18 < call {
         return Verdict::Malformed;
     }
     let Count::Are(word_count) = words_in(case, words) else {
@@ -57,7 +58,7 @@ fn after_list(case: &[u64], count: usize) -> &[u64]
 
 // The bytes are the first so many.
 fn replies(call: u64, stored: &[u64], words: &[u32], bytes: &mut [u8], count: usize) -> bool
-    requires { ⌜ (1 ≤ call) × (call ≤ 16) ⌝ }
+    requires { ⌜ (1 ≤ call) × (call ≤ 18) ⌝ }
     ensures { λ r. ⌜ Replied (now (words .entry)) (take count (now (bytes .entry))) call (now (stored .entry)) r ⌝ }
 {
     if call == 4 {
@@ -67,7 +68,7 @@ fn replies(call: u64, stored: &[u64], words: &[u32], bytes: &mut [u8], count: us
 }
 
 fn replies_to(call: u64, stored: &[u64], words: &[u32], bytes: &[u8]) -> bool
-    requires { ⌜ (1 ≤ call) × (call ≤ 16) × (call ≡ 4 → ⊥) ⌝ }
+    requires { ⌜ (1 ≤ call) × (call ≤ 18) × (call ≡ 4 → ⊥) ⌝ }
     ensures { λ r. ⌜ Replied (now (words .entry)) (now (bytes .entry)) call (now (stored .entry)) r ⌝ }
 {
     match call {
@@ -85,6 +86,8 @@ fn replies_to(call: u64, stored: &[u64], words: &[u32], bytes: &[u8]) -> bool
         13 => sets::alpha_cross_set(stored, words, bytes),
         14 => files::to_macondo(stored, words, bytes),
         15 => files::to_lxd(stored, words),
-        _ => pages::write_page(stored, words, bytes),
+        16 => pages::write_page(stored, words, bytes),
+        17 => typing::next_word(stored, words, bytes),
+        _ => typing::read_words(stored, words, bytes),
     }
 }

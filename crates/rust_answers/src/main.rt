@@ -123,4 +123,6 @@ fn print_calls(cases: [u64; CALLS]) {
     print_cases(b"Macondo: ", cases[14]);
     print_cases(b"LXD: ", cases[15]);
     print_cases(b"pages: ", cases[16]);
+    print_cases(b"words typed: ", cases[17]);
+    print_cases(b"lists of words typed: ", cases[18]);
 }

@@ -39,7 +39,7 @@ pub fn same_numbers(left: &[u64], right: &[u64]) -> bool
     true
 }
 
-// The same for words and for bytes.
+// The same for words, for bytes and for sizes.
 pub fn same_words(left: &[u64], right: &[u32]) -> bool
     ensures { λ r. ⌜ r ≡ same (now (left .entry)) (now (right .entry)) ⌝ }
 {
@@ -65,6 +65,22 @@ fn same_bytes(left: &[u64], right: &[u8]) -> bool
     let mut i = 0;
     while i < right.len() {
         if left[i] != wide_byte(right[i]) {
+            return false;
+        }
+        i += 1;
+    }
+    true
+}
+
+fn same_sizes(left: &[u64], right: &[usize]) -> bool
+    ensures { λ r. ⌜ r ≡ same (now (left .entry)) (now (right .entry)) ⌝ }
+{
+    if left.len() != right.len() {
+        return false;
+    }
+    let mut i = 0;
+    while i < right.len() {
+        if left[i] != right[i] as u64 {
             return false;
         }
         i += 1;
@@ -108,4 +124,12 @@ pub fn same_then_bytes(stored: &[u64], numbers: &[u64], list: &[u8]) -> bool
     ensures { λ r. ⌜ r ≡ same (now (stored .entry)) (now (numbers .entry) ++ now (list .entry)) ⌝ }
 {
     starts_with(stored, numbers) && same_bytes(numbers_from(stored, numbers.len()), list)
+}
+
+// Whether it is the sizes and then the list, and nothing more.
+pub fn same_sizes_then_bytes(stored: &[u64], sizes: &[usize], list: &[u8]) -> bool
+    ensures { λ r. ⌜ r ≡ same (now (stored .entry)) (now (sizes .entry) ++ now (list .entry)) ⌝ }
+{
+    same_sizes(numbers_to(stored, sizes.len()), sizes)
+        && same_bytes(numbers_from(stored, sizes.len()), list)
 }

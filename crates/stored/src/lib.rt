@@ -8,6 +8,7 @@ mod tally;
 
 pub use answers::Verdict;
 pub use answers::same_numbers;
+pub use answers::same_sizes_then_bytes;
 pub use answers::same_then_bytes;
 pub use answers::same_then_numbers;
 pub use answers::same_then_words;
@@ -29,6 +30,7 @@ pub use parts::bytes_from;
 pub use parts::bytes_to;
 pub use parts::numbers_from;
 pub use parts::numbers_to;
+pub use parts::sizes_to;
 pub use parts::word_at;
 pub use parts::words_from;
 pub use parts::words_to;

@@ -51,6 +51,12 @@ pub fn bytes_from(list: &[u8], start: usize) -> &[u8]
     }
 }
 
+pub fn sizes_to(list: &[usize], end: usize) -> &[usize]
+    ensures { λ r. ⌜ now r ≡ take end (now (list .entry)) ⌝ }
+{
+    if end < list.len() { &list[..end] } else { list }
+}
+
 pub fn word_at(words: &[u32], at: usize) -> u32
     ensures { λ r. ⌜ r ≡ getD (now (words .entry)) at 0 ⌝ }
 {

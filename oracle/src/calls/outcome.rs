@@ -20,6 +20,11 @@ pub const NOT_ONE_CODE_POINT: u64 = 23;
 // Of a page: a tile has no label; a title or a label is not printable.
 pub const NO_LABEL: u64 = 21;
 pub const NOT_PRINTABLE: u64 = 26;
+// Of a text that is read: a word has no room; a line of the label file is bad; no
+// label matches.
+pub const NO_ROOM: u64 = 16;
+pub const BAD_LABEL_LINE: u64 = 27;
+pub const UNREADABLE: u64 = 28;
 
 // Of a lookup: whether there is such a word or node; where there is not, the
 // whole answer.

@@ -1,4 +1,5 @@
-//! Times the engine and the Rust it is ported from on the same lexicon, in turns, and the engine alone on graphs that are made to be slow.
+//! Times the engine and the Rust it is ported from on the same lexicon and the same text, in turns, and the engine alone on graphs and texts that
+//! are made to be slow.
 
 mod behind_a_call;
 mod bench;
@@ -10,8 +11,12 @@ mod loads;
 mod lookups;
 mod pages;
 mod sets;
+mod typed;
 
 fn main() {
     lexicon_run::print();
+    typed::print();
     hostile::print();
+    println!();
+    typed::print_hostile();
 }

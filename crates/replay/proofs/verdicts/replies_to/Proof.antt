@@ -50,6 +50,12 @@ to-lxd-requires c κs = search needs
 write-page-requires : tie.Need-write-page-requires
 write-page-requires c κs = search needs
 
+next-word-requires : tie.Need-next-word-requires
+next-word-requires c κs = search needs
+
+read-words-requires : tie.Need-read-words-requires
+read-words-requires c κs = search needs
+
 returns : tie.Need-returns
 returns c = replies-as 1 (c .before .match .keys1) R.node-fields (c .node-fields .ensures)
 
@@ -93,15 +99,24 @@ returns-14 : tie.Need-returns-14
 returns-14 c = replies-as 15 (c .before .match .keys14) R.lxd (c .to-lxd .ensures)
 
 returns-15 : tie.Need-returns-15
-returns-15 c =
+returns-15 c = replies-as 16 (c .before .match .keys15) R.pages (c .write-page .ensures)
+
+returns-16 : tie.Need-returns-16
+returns-16 c = replies-as 17 (c .before .match .keys16) R.next-word (c .next-word .ensures)
+
+returns-17 : tie.Need-returns-17
+returns-17 c =
     let start = c .before .before .before .before .before in
     let rest = c .before .match .rest in
     let asked = start .pre in
-    let is = last-call (start .args .call) (asked .0) (asked .1) (asked .2) (rest .0 .0 .0 .0 .0 .0 .0 .0 .0 .0 .0 .0 .0 .1)
+    let is = last-call (start .args .call) (asked .0) (asked .1) (asked .2)
+    (rest .0 .0 .0 .0 .0 .0 .0 .0 .0 .0 .0 .0 .0 .0 .0 .1) (rest .0 .0 .0 .0 .0 .0 .0 .0 .0 .0 .0 .0 .0 .0 .1) (rest .0 .0 .0 .0 .0 .0 .0 .0 .0 .0 .0 .0 .0 .1)
     (rest .0 .0 .0 .0 .0 .0 .0 .0 .0 .0 .0 .0 .1) (rest .0 .0 .0 .0 .0 .0 .0 .0 .0 .0 .0 .1) (rest .0 .0 .0 .0 .0 .0 .0 .0 .0 .0 .1)
-    (rest .0 .0 .0 .0 .0 .0 .0 .0 .0 .1) (rest .0 .0 .0 .0 .0 .0 .0 .0 .1) (rest .0 .0 .0 .0 .0 .0 .0 .1) (rest .0 .0 .0 .0 .0 .0 .1)
-    (rest .0 .0 .0 .0 .0 .1) (rest .0 .0 .0 .0 .1) (rest .0 .0 .0 .1) (rest .0 .0 .1) (rest .0 .1) (rest .1) in
-    replies-as 16 is R.pages (c .write-page .ensures)
+    (rest .0 .0 .0 .0 .0 .0 .0 .0 .0 .1) (rest .0 .0 .0 .0 .0 .0 .0 .0 .1) (rest .0 .0 .0 .0 .0 .0 .0 .1)
+    (rest .0 .0 .0 .0 .0 .0 .1) (rest .0 .0 .0 .0 .0 .1) (rest .0 .0 .0 .0 .1)
+    (rest .0 .0 .0 .1) (rest .0 .0 .1) (rest .0 .1)
+    (rest .1) in
+    replies-as 18 is R.read-words (c .read-words .ensures)
 
 pub replies-to-spec : {M : Type 1} → statement M
 replies-to-spec =
@@ -122,6 +137,8 @@ replies-to-spec =
     to-macondo-requires
     to-lxd-requires
     write-page-requires
+    next-word-requires
+    read-words-requires
     returns
     returns-2
     returns-3
@@ -136,4 +153,6 @@ replies-to-spec =
     returns-12
     returns-13
     returns-14
-    returns-15)
+    returns-15
+    returns-16
+    returns-17)

@@ -1,0 +1,5 @@
+-- What the proofs of several functions use.
+mod BatchLaws
+mod EmptyLaws
+mod NextLaws
+mod WordBuffer
