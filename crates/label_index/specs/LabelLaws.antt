@@ -3,7 +3,7 @@ use mathlib.Core.Path.{_≡_, refl, sym, ap, ap₂, _∙_, subst}
 use mathlib.Core.Bool.{_&&_}
 use mathlib.Core.List.{List, [], _∷_, _++_, List·Memᴰ, List·Memᴰ·not-nil, List·Memᴰ·cases-cons}
 use mathlib.Core.Logic.{_≢_, ⊎-elim}
-use mathlib.Core.Option.{none, some}
+use mathlib.Core.Option.{none, some, Option·some-injective}
 use Prim.Native.Nat.{ℕ, suc, _+_, _-_, _≤_, _<_}
 use native.Mathlib.Omega.{arith}
 use native.Mathlib.Numerals.{add-one}
@@ -63,9 +63,6 @@ pub record RecordWritten (line : List ℕ) (l : Label) : Type 0 where
   pub good : GoodLabel l
   pub is : line ≡ decimal (l .0) ++ 0x09 ∷ l .1
 
-same-label : {a b : Label} → some a ≡ some b → a ≡ b
-same-label {a} {b} e = cc
-
 digits-written : (t : ℕ) (s : List ℕ) (l : Label) → 1 ≤ t → t ≤ 63 → afterDigits t s ≡ some l
     → GoodLabel l × (decimal t ++ s ≡ decimal (l .0) ++ 0x09 ∷ l .1)
 unfolding afterDigits
@@ -73,7 +70,7 @@ digits-written t [] l h k e = some≢none (sym e)
 digits-written t (b ∷ label) l h k e =
     split (eqb b 0x09 && (leb 1 (length label) && leb (length label) 15))
     (λ y.
-    let i : (t, label) ≡ l = same-label (rw y at e) in
+    let i : (t, label) ≡ l = Option·some-injective _ _ (rw y at e) in
     let tab = eqb-true b 0x09 (and-left (eqb b 0x09) (leb 1 (length label) && leb (length label) 15) y) in
     let sizes = and-right (eqb b 0x09) (leb 1 (length label) && leb (length label) 15) y in
     let low = leb-true 1 (length label) (and-left (leb 1 (length label)) (leb (length label) 15) sizes) in
@@ -112,7 +109,7 @@ module _ (line : List ℕ) (t from : ℕ) (e : recordOf line ≡ some (t, drop f
   label-size = let g = record-written line (t, drop from line) e .good .few-bytes in let d = length-drop from line in omega arith
 
   pub label-only : (l : Label) → recordOf line ≡ some l → l ≡ (t, drop from line)
-  label-only l q = same-label (sym q ∙ e)
+  label-only l q = Option·some-injective l (t, drop from line) (sym q ∙ e)
 
   pub label-from : (l : Label) → recordOf line ≡ some l → length line - length (l .1) ≡ from
   label-from l q =

@@ -4,7 +4,7 @@ use mathlib.Core.Path.{_≡_, refl, sym, ap, ap₂, _∙_, subst}
 use mathlib.Core.Bool.{true, false, _&&_, true≢false}
 use mathlib.Core.Logic.{⊎-elim}
 use mathlib.Core.List.{List, [], _∷_, List·Memᴰ, List·Memᴰ·head, List·Memᴰ·tail, List·Memᴰ·not-nil, List·Memᴰ·cases-cons}
-use mathlib.Core.Option.{none, some}
+use mathlib.Core.Option.{none, some, Option·some-injective}
 use Prim.Native.Nat.{ℕ, _-_, _≤_, _<_}
 use native.Mathlib.Omega.{arith}
 use borrow.Author.Tests.{ltb-true, ltb-false, eqb-true, eq-eqb}
@@ -14,9 +14,6 @@ use Rattle.laws.specs.Cases.{split, split-option, some≢none, and-left, or-fal
 use Rattle.label_index.specs.Labels.{Label, labelsIn}
 use Rattle.label_index.specs.LabelLaws.{labels-good}
 use Rattle.label_index.specs.Matches.{startsWith, Match, matchOf, better, matchIn}
-
-some-eq : {a b : Match} → some a ≡ some b → a ≡ b
-some-eq {a} {b} e = cc
 
 -- ---- the order of matches
 -- m is no better than k: it takes no more bytes and, where it takes as many, its tile is no lower
@@ -128,12 +125,12 @@ taken [] s m e = some≢none (sym e)
 taken (k ∷ ls) s m e =
     split (startsWith (k .1) s)
     (λ t. split-option (matchIn ls s)
-    (λ n. subst (Taken (k ∷ ls) s) (some-eq (rw (t, n) at e))
+    (λ n. subst (Taken (k ∷ ls) s) (Option·some-injective _ _ (rw (t, n) at e))
     (taken-head k s t (λ l i b. absurd (true≢false (sym b ∙ none-taken ls s n l i)))))
     (λ o q. split (better (matchOf k) o)
-    (λ b. subst (Taken (k ∷ ls) s) (some-eq (rw (t, q, b) at e))
+    (λ b. subst (Taken (k ∷ ls) s) (Option·some-injective _ _ (rw (t, q, b) at e))
     (taken-head k s t (λ l i c. not-better-trans (best-taken (taken ls s o q) l i c) (better-yes (matchOf k) o b))))
-    (λ b. subst (Taken (k ∷ ls) s) (some-eq (rw (t, q, b) at e)) (taken-tail k s (taken ls s o q) (λ _. not-better (matchOf k) o b)))))
+    (λ b. subst (Taken (k ∷ ls) s) (Option·some-injective _ _ (rw (t, q, b) at e)) (taken-tail k s (taken ls s o q) (λ _. not-better (matchOf k) o b)))))
     (λ t. taken-tail k s (taken ls s m (rw t at e)) (λ b. absurd (true≢false (sym b ∙ t))))
 
 -- ---- the converse

@@ -1,8 +1,8 @@
 -- What holds of every entry of a list, the entries that pass a test, whether a number is among them, and lists joined.
-use mathlib.Core.Path.{_≡_, refl, sym, subst}
+use mathlib.Core.Path.{_≡_, refl, sym, ap, _∙_, subst}
 use mathlib.Core.Bool.{Bool, true, false, _||_}
 use mathlib.Core.Logic.{⊎-elim}
-use mathlib.Core.List.{List, [], _∷_, _++_, map, List·Memᴰ, List·Memᴰ·head, List·Memᴰ·tail, List·Memᴰ·not-nil, List·Memᴰ·cases-cons}
+use mathlib.Core.List.{List, [], _∷_, _++_, map, append-assoc, List·Memᴰ, List·Memᴰ·head, List·Memᴰ·tail, List·Memᴰ·not-nil, List·Memᴰ·cases-cons}
 use Prim.Native.Nat.{ℕ, zero, suc}
 use lib.Dec.{eqb}
 use native.Mathlib.Omega.{arith}
@@ -45,6 +45,10 @@ someOf f (x ∷ xs) = f x || someOf f xs
 abbrev pub joinAll : {A : Type 0} → List (List A) → List A
 joinAll [] = []
 joinAll (x ∷ xs) = x ++ joinAll xs
+
+pub join-append : {A : Type 0} (xs ys : List (List A)) → joinAll (xs ++ ys) ≡ joinAll xs ++ joinAll ys
+join-append [] ys = refl
+join-append (x ∷ xs) ys = ap (x ++_) (join-append xs ys) ∙ sym (append-assoc x (joinAll xs) (joinAll ys))
 
 pub none-left : {A : Type 0} (l : List A) → length l ≡ 0 → l ≡ []
 none-left [] e = refl

@@ -9,7 +9,7 @@ use native.Mathlib.Omega.{arith}
 use lib.ListN.{length, getD, set, drop, replicate, length-append, length-map, length-replicate, replicate-append-replicate, drop-of-length-le}
 use lib.Seq.{drop-cons, sets, set-set, append-snoc}
 use Rattle.graph.specs.Words.{Word}
-use Rattle.laws.specs.Lists.{joinAll}
+use Rattle.laws.specs.Lists.{joinAll, join-append}
 use Rattle.laws.specs.ListWrites.{sets-append, sets-apart}
 use Rattle.decimal.specs.Decimal.{decimal}
 use Rattle.endian.specs.Puts.{Puts}
@@ -138,10 +138,6 @@ joined-blanks zero n = rw zero-mul
 joined-blanks (suc rows) n =
     let e : n + rows * n ≡ suc rows * n = omega (arith, suc-mul rows n) in
     ap (blanks n ++_) (joined-blanks rows n) ∙ replicate-append-replicate n (rows * n) blank ∙ ap blanks e
-
-join-append : (xs ys : List (List ℕ)) → joinAll (xs ++ ys) ≡ joinAll xs ++ joinAll ys
-join-append [] ys = refl
-join-append (x ∷ xs) ys = ap (x ++_) (join-append xs ys) ∙ sym (append-assoc x (joinAll xs) (joinAll ys))
 
 module _ (w : Widths) (labels title : List ℕ) (es : List ShownWord) where
   -- what is left of it after the title, and after its blanks

@@ -34,6 +34,9 @@ unfolding firstLine
 line-fits [] = zero-le
 line-fits (b ∷ s) = split (isEnding b) (λ e. rw (e, firstLine) zero-le) (λ e. let h = line-fits s in rw (e, firstLine) (omega arith))
 
+pub line-inside : (text line : List ℕ) (p : ℕ) → p ≤ length text → line ≡ firstLine (drop p text) → p + length line ≤ length text
+line-inside text line p h e = omega (arith, ap length e, line-fits (drop p text), length-drop p text)
+
 pub line-part : (s : List ℕ) → take (length (firstLine s)) s ≡ firstLine s
 unfolding firstLine
 line-part [] = refl

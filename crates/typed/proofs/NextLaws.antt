@@ -10,7 +10,6 @@ use lib.Seq.{take-all}
 use Rattle.laws.specs.Buffers.{Filled}
 use Rattle.answers.specs.Answers.{Answer, nothing, refused}
 use Rattle.text.specs.Lines.{lines, firstLine, lineWidth}
-use Rattle.text.specs.LineLaws.{line-fits}
 use Rattle.text.specs.Said.{LineRead}
 use Rattle.label_index.specs.Labels.{Label, badLine, labelsIn}
 use Rattle.typed.specs.Words.{typedWord}
@@ -22,12 +21,6 @@ pub filled-none : (w : List ℕ) (r : Answer) → Filled ([], r) w w r
 filled-none w r = record { answer = refl; front = refl }
 
 -- ---- the line at place p
-pub line-inside : (text line : List ℕ) (p : ℕ) → p ≤ length text → line ≡ firstLine (drop p text) → p + length line ≤ length text
-line-inside text line p h e =
-    let n = ap length e in
-    let f = line-fits (drop p text) in
-    let d = length-drop p text in omega arith
-
 module _ {text : List ℕ} {p after : ℕ} {line : List ℕ} (l : LineRead text p after line) (ls : List Label) (room : ℕ) where
   -- the answer for its tiles, with its line
   pub line-word : {r : Answer} → typedWord ls line p room .1 ≡ r

@@ -2,7 +2,7 @@
 -- from the place that the one before answered, hand out the words of these lines, up to a call that reads none; where that answers the end, they are all
 -- the lines there are (`batches-hand-out`).
 use mathlib.Core.Path.{_≡_, refl, sym, ap, ap₂, _∙_, subst}
-use mathlib.Core.List.{List, [], _∷_, _++_, map, append-assoc}
+use mathlib.Core.List.{List, [], _∷_, _++_, map, append-assoc, map-append}
 use mathlib.Core.Logic.{_≢_}
 use mathlib.Core.Option.{none}
 use Prim.Native.Nat.{ℕ, zero, suc, _-_, _≤_, _<_}
@@ -11,7 +11,7 @@ use borrow.Author.Tests.{ltb-true, ltb-false, eqb-true, eqb-false}
 use lib.Dec.{eqb, ltb}
 use lib.ListN.{length, drop, length-map}
 use Rattle.laws.specs.Cases.{split, split-option}
-use Rattle.laws.specs.Lists.{All, all-append, joinAll, none-left}
+use Rattle.laws.specs.Lists.{All, all-append, joinAll, join-append, none-left}
 use Rattle.answers.specs.Answers.{Answer, gives, nothing, refused, valueAt}
 use Rattle.text.specs.Lines.{lines, firstLine}
 use Rattle.text.specs.FilledLines.{filledLines}
@@ -138,15 +138,6 @@ module _ (file text : List ℕ) where
     pub readable : All (Readable file) handed
     pub all : r ≡ nothing → rest ≡ []
 
-  join-more : (ls ms : List (List ℕ)) → joinAll (map (tilesIn file) (ls ++ ms)) ≡ joinAll (map (tilesIn file) ls) ++ joinAll (map (tilesIn file) ms)
-  join-more [] ms = refl
-  join-more (l ∷ ls) ms = ap (tilesIn file l ++_) (join-more ls ms) ∙ sym (append-assoc (tilesIn file l) (joinAll (map (tilesIn file) ls)) (joinAll (map (tilesIn file) ms)))
-
-  sizes-more : (ls ms : List (List ℕ))
-      → map (λ l. length (tilesIn file l)) (ls ++ ms) ≡ map (λ l. length (tilesIn file l)) ls ++ map (λ l. length (tilesIn file l)) ms
-  sizes-more [] ms = refl
-  sizes-more (l ∷ ls) ms = ap (length (tilesIn file l) ∷_) (sizes-more ls ms)
-
   pub batches-hand-out : {at : ℕ} {ts ns : List ℕ} {r : Answer} → BatchesFrom at ts ns r → BatchesHanded at ts ns r
   batches-hand-out {at} (stops slots room {r} e w) = record {
     handed = [];
@@ -166,8 +157,9 @@ module _ (file text : List ℕ) where
         handed = l .handed ++ m .handed;
         rest = m .rest;
         lines-are = l .next ∙ ap (l .handed ++_) (ap (λ k. filledLines (drop k text)) from ∙ m .lines-are) ∙ sym (append-assoc (l .handed) (m .handed) (m .rest));
-        tiles = ap₂ _++_ (l .tiles) (m .tiles) ∙ sym (join-more (l .handed) (m .handed));
-        sizes = ap₂ _++_ (l .sizes) (m .sizes) ∙ sym (sizes-more (l .handed) (m .handed));
+        tiles = ap₂ _++_ (l .tiles) (m .tiles)
+            ∙ sym (ap joinAll (map-append (tilesIn file) (l .handed) (m .handed)) ∙ join-append (map (tilesIn file) (l .handed)) (map (tilesIn file) (m .handed)));
+        sizes = ap₂ _++_ (l .sizes) (m .sizes) ∙ sym (map-append (λ k. length (tilesIn file k)) (l .handed) (m .handed));
         readable = all-append (Readable file) (l .handed) (m .handed) (l .readable) (m .readable);
         all = m .all;
       }

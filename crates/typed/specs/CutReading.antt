@@ -3,7 +3,7 @@
 -- line, tile for tile, or is refused at the same place (`from-here`). Two parts that are read to their ends make a text that is (`reads-cut`).
 use mathlib.Core.Path.{_≡_, refl, sym, ap, ap₂, _∙_, subst}
 use mathlib.Core.Bool.{Bool, true, false, _||_}
-use mathlib.Core.List.{List, [], _∷_, _++_, map, append-nil}
+use mathlib.Core.List.{List, [], _∷_, _++_, map, append-nil, map-append}
 use mathlib.Core.Option.{Option, none, some}
 use Prim.Native.Nat.{ℕ, zero, suc, _+_, _-_, _≤_, _<_}
 use native.Mathlib.Nat.{add-assoc}
@@ -219,10 +219,6 @@ lines-readable : (file : List ℕ) (es : List ReadLine) → All (λ (e : ReadLin
 lines-readable file [] a = tt
 lines-readable file (e ∷ es) a = (a .0, lines-readable file es (a .1))
 
-map-joined : (file : List ℕ) (ls ms : List (List ℕ)) → map (withTiles file) (ls ++ ms) ≡ map (withTiles file) ls ++ map (withTiles file) ms
-map-joined file [] ms = refl
-map-joined file (l ∷ ls) ms = ap (withTiles file l ∷_) (map-joined file ls ms)
-
 -- what a reading to the end says of the whole text
 module _ (file text : List ℕ) (good : badLine 1 (lines file) ≡ none) (room : ℕ → ℕ) (es : List ReadLine) (r : ReadingFrom file text room 0 es nothing) where
   abbrev handed : HandedOut file text room 0 es nothing
@@ -244,6 +240,6 @@ module _ (file s t : List ℕ) (good : badLine 1 (lines file) ≡ none) (cut : c
       let parts = filled-cut s t cut in
       let all = subst (All (Readable file)) (sym parts)
       (all-append (Readable file) (filledLines s) (filledLines t) (all-readable file s good roomS es p) (all-readable file t good roomT ds q)) in
-      let entries = ap (map (withTiles file)) parts ∙ map-joined file (filledLines s) (filledLines t)
+      let entries = ap (map (withTiles file)) parts ∙ map-append (withTiles file) (filledLines s) (filledLines t)
       ∙ ap₂ _++_ (all-entries file s good roomS es p) (all-entries file t good roomT ds q) in
       subst (λ (xs : List ReadLine). ReadingFrom file (s ++ t) room 0 xs nothing) entries (reads-all file (s ++ t) good room enough 0 all)

@@ -7,11 +7,10 @@ use mathlib.Core.List.{List, [], _++_}
 use Prim.Native.Nat.{ℕ, _+_, _-_, _*_, _^_, _<_}
 use lib.ListN.{length, take, drop}
 use Rattle.answers.specs.Answers.{nothing, refused}
-use Rattle.text.specs.LineLaws.{width-moves}
+use Rattle.text.specs.LineLaws.{line-inside, width-moves}
 use Rattle.label_index.specs.Labels.{Label, labelsIn}
 use Rattle.typed.specs.Batches.{Batch, batchFrom}
 use Rattle.typed.specs.declared.word.WordRead.{WordRead}
-use Rattle.typed.proofs.NextLaws.{line-inside}
 use Rattle.typed.proofs.BatchLaws.{BatchLeft, batch-begins, batch-is, batch-end, batch-full, batch-done, untouched}
 use Rattle.typed.proofs.BatchLaws.{PartRead, part-read, part-size, batch-puts, batch-stops}
 use borrow.Author.Needs.{needs}

@@ -1,6 +1,7 @@
 -- `next::word_of_line` meets its contract: the answer for the line's tiles, with its line.
 use native.Mathlib.Omega.{arith}
-use Rattle.typed.proofs.NextLaws.{line-inside, word-on-line}
+use Rattle.text.specs.LineLaws.{line-inside}
+use Rattle.typed.proofs.NextLaws.{word-on-line}
 use borrow.Author.Needs.{needs}
 use Rattle.typed.proofs.next.word_of_line.Statement.{statement}
 use Rattle.typed.proofs.next.word_of_line.Tie as tie
