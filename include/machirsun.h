@@ -54,7 +54,7 @@ extern "C" {
  *       letter_bits: either list under N; to_macondo, to_lxd: work under 8 x N, or,    write_page
  *       last of all checks, the file buffer under the file's length; write_page:
  *       the page buffer under 960 bytes
- *  12   a node can be reached from itself; carries such a node                         count_words
+ *  12   a node can be reached from itself; carries the lowest such node                count_words
  *  13   some node (to_lxd: the start) has 4,294,967,295 words or more                  count_words, to_lxd
  *  14   a step leads to a node or a count that is not lent                             seek, cursor_at, cursor_step, word_index,
  *                                                                                      word_by_index, accepts_alpha, alpha_cross_set,

@@ -10,9 +10,11 @@ mod typed;
 mod whole_texts;
 
 pub use files::Fit;
+pub use numbers::Counting;
 pub use typed::{Labels, Reading};
 
 use crate::answer::{Answer, Buffer, Outcome};
+use crate::engine;
 use crate::paper::counting::{TOO_MANY, counts, size_and_shape};
 use crate::random::Random;
 use crate::report::{Call, Report};
@@ -66,6 +68,7 @@ pub struct Checker {
     random: Random,
     alphabets: Alphabets,
     spoil: Option<Spoil>,
+    counting: Counting,
     reading: Reading,
 }
 
@@ -76,6 +79,7 @@ impl Checker {
             random: Random::new(seed),
             alphabets: Alphabets::default(),
             spoil: None,
+            counting: Box::new(engine::count_words),
             reading: Reading::default(),
         }
     }
@@ -84,6 +88,14 @@ impl Checker {
     pub fn spoiled(seed: u64, spoil: Spoil) -> Self {
         Self {
             spoil: Some(spoil),
+            ..Self::new(seed)
+        }
+    }
+
+    /// For the tests: a checker of an engine that counts in its own way.
+    pub fn counting(seed: u64, counting: Counting) -> Self {
+        Self {
+            counting,
             ..Self::new(seed)
         }
     }

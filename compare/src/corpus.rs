@@ -7,6 +7,7 @@ mod label_files;
 mod lexicons;
 mod limits;
 mod loads;
+pub mod loops;
 mod odd;
 mod page_limits;
 mod pages;
@@ -53,4 +54,5 @@ pub fn run(checker: &mut Checker, size: Size, seed: u64) {
     }
     headers::run(checker, size, &mut random());
     typed::run(checker, size, &mut random());
+    loops::run(checker, size, &mut random());
 }

@@ -1,5 +1,7 @@
 //! Graphs that no lexicon gives: every small one, odd numberings, loops, chains, and counts up to the limit.
 
+pub mod loops;
+
 use crate::lexicon::node;
 use crate::random::Random;
 
@@ -42,13 +44,19 @@ pub fn wild(random: &mut Random, len: usize, tiles: u64) -> Vec<u32> {
     nodes
 }
 
+/// The numbers below this one, shuffled.
+pub fn shuffled(random: &mut Random, len: usize) -> Vec<usize> {
+    let mut order: Vec<usize> = (0..len).collect();
+    for at in (1..len).rev() {
+        order.swap(at, random.within(0, at as u64 + 1) as usize);
+    }
+    order
+}
+
 /// Runs in an order of their own: an arc leads into a run that is later in that order, often to its middle, and the runs stand in the
 /// graph as they come. Nothing loops. The tiles of a run ascend, or are any.
 pub fn odd(random: &mut Random, runs: usize, tiles: u64, ascending: bool) -> Vec<u32> {
-    let mut order: Vec<usize> = (0..runs).collect();
-    for at in (1..runs).rev() {
-        order.swap(at, random.within(0, at as u64 + 1) as usize);
-    }
+    let order = shuffled(random, runs);
     let lens: Vec<u64> = (0..runs)
         .map(|_| random.within(1, tiles.min(6) + 1))
         .collect();

@@ -119,7 +119,7 @@ fn the_words_of_the_sample_graph_have_numbers() {
     let graph = "576 64 1153 1090 194";
     let counts = "3 0 3 1 1";
     let mut requests = format!("6 5 {graph}\n");
-    let mut expected = case(6, graph, "", &format!("0 0 {counts}"));
+    let mut expected = case(6, graph, "", &format!("0 0 0 {counts}"));
     for (number, word) in ["1", "1 2", "2 2"].iter().enumerate() {
         let tiles = word.split(' ').count();
         requests += &format!("7 5 {graph} {counts} 2 {tiles} {word}\n");
@@ -146,9 +146,22 @@ fn the_words_of_the_sample_graph_have_numbers() {
 
 #[test]
 fn a_loop_and_too_many_words_are_not_counted() {
-    // Node 1 leads to itself.
-    let (list, _) = answers("6 2 320 320\n");
-    assert_eq!(list, case(6, "320 320", "", "12 0 0 0"));
+    for (nodes, lowest) in [
+        // Node 1 leads to itself.
+        ("320 320", 1),
+        // Node 1's run goes on to node 2, which leads to node 1.
+        ("64 0 320", 1),
+        // Node 1 leads to node 2, which leads to itself.
+        ("64 576 576", 2),
+        // Node 0 and node 4 lead to the pair of nodes 3 and 5; node 2 leads to
+        // itself.
+        ("832 64 576 1344 832 832", 2),
+    ] {
+        let len = nodes.split(' ').count();
+        let (list, _) = answers(&format!("6 {len} {nodes}\n"));
+        let zeros = " 0".repeat(len);
+        assert_eq!(list, case(6, nodes, "", &format!("12 0 {lowest}{zeros}")));
+    }
     // 32 runs of two nodes that both lead to the next.
     let run = |at: u64| match at {
         0 | 1 => 0x240,
@@ -159,7 +172,7 @@ fn a_loop_and_too_many_words_are_not_counted() {
     let (list, _) = answers(&format!("6 66 {nodes}\n"));
     assert_eq!(
         list,
-        case(6, &nodes, "", &format!("13 0{}", " 0".repeat(66)))
+        case(6, &nodes, "", &format!("13 0 0{}", " 0".repeat(66)))
     );
 }
 

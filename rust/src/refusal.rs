@@ -29,7 +29,7 @@ pub enum Refusal {
     WrongSize,
     /// 11: a list is too short.
     ListTooShort,
-    /// 12: this node can be reached from itself.
+    /// 12: the lowest node that can be reached from itself.
     Loops { node: u32 },
     /// 13: some node (for an LXD file: the start) has 4,294,967,295 words or more.
     TooManyWords,

@@ -220,6 +220,26 @@ fn words_are_counted() {
 }
 
 #[test]
+fn the_lowest_node_that_loops_is_named() {
+    for (nodes, node) in [
+        // node 1's run goes on to node 2, whose arc leads to node 1
+        (&[0x40, 0x0, 0x140][..], 1),
+        // node 1 leads to node 2, which leads to itself
+        (&[0x40, 0x240, 0x240], 2),
+        // nodes 3 and 5 lead to each other, and nodes 0, 1 and 4 to these; node 2 leads to itself
+        (&[0x340, 0x540, 0x240, 0x540, 0x340, 0x340], 2),
+    ] {
+        let (mut counts, mut work) = ([9; 7], [9; 13]);
+        let refused = count_words(nodes, &mut counts, &mut work);
+        assert_eq!(refused, Err(Refusal::Loops { node }));
+        let (cleared, kept) = counts.split_at(nodes.len());
+        assert!(cleared.iter().all(|&count| count == 0));
+        assert!(kept.iter().all(|&count| count == 9));
+        assert_eq!(work[12], 9);
+    }
+}
+
+#[test]
 fn too_many_words_are_refused() {
     // each node accepts and its arc leads to the next: node 2 has 2^33 - 1 words
     let mut nodes = vec![0x40, 0x40];

@@ -140,11 +140,13 @@ static const uint32_t LABELS[3] = {'?', 'A', 'B'};
 /* KWG: node 0 fits, node 1 has tile 64 and arc 3. */
 static const uint8_t TILE_64[8] = {0, 0, 0x40, 0, 3, 0, 0x40, 0x40};
 
-/* Graphs that several calls refuse: arc 5 of 2 nodes, a last node that is no end, node 1 from itself, a run from itself. */
+/* Graphs that several calls refuse: arc 5 of 2 nodes, a last node that is no end, node 1 from itself, a run from itself. Of five nodes, 1
+ * and 3 lead to loops and do not loop; nodes 2 and 4 do, each by itself. */
 static const uint32_t ARC_5[2] = {0x40, 0x540};
 static const uint32_t NO_END[2] = {0x40, 0};
 static const uint32_t NODE_1_LOOPS[2] = {0x40, 0x140};
 static const uint32_t NODE_2_LOOPS[3] = {0x240, 0x40, 0x2C1};
+static const uint32_t NODES_2_AND_4_LOOP[5] = {0x40, 0x440, 0x240, 0x440, 0x440};
 
 /* ---- Loading ---------------------------------------------------------------------------------------------------------------------- */
 
@@ -366,6 +368,10 @@ static void counts_words(void)
     counted = machirsun_count_words(LENT(NODE_1_LOOPS), LENT(counts), LENT(work));
     SAME(counted.refusal == MACHIRSUN_LOOPS && counted.arc == 0 && counted.node == 1);
     SAME_LIST(counts, (uint32_t[]){0, 0, 3, 1, 1, 7});
+    counted = machirsun_count_words(LENT(NODES_2_AND_4_LOOP), LENT(counts), LENT(work));
+    SAME(counted.refusal == MACHIRSUN_LOOPS && counted.arc == 0 && counted.node == 2);
+    SAME_LIST(counts, (uint32_t[]){0, 0, 0, 0, 0, 7});
+    SAME(work[10] == 7);
 
     /* Each node accepts, and its arc and its run lead to the next: node 2 has over 2^32 words. */
     many[0] = many[1] = 0x40;

@@ -20,17 +20,17 @@ const MOST_CALLS: u64 = 2_000_000;
 
 const LISTED: &str = "the words listed";
 
+/// The call that counts: the engine's, or in the tests that of one with an error.
+pub type Counting = Box<dyn Fn(&[u32], &mut [u32], &mut [u32]) -> Answer>;
+
 impl Checker {
     pub fn count_words(&mut self, graph: &Graph, counts_len: usize, work_len: usize) {
         let counts = Lent::numbers(&mut self.random, counts_len);
         let work = Lent::numbers(&mut self.random, work_len);
         let (mut lent, mut list, mut expected) = (counts.clone(), work.clone(), counts.clone());
-        let got = engine::count_words(&graph.nodes, lent.part_mut(), list.part_mut());
-        let mut paper = counting::count_words(&graph.nodes, expected.part_mut(), work_len);
-        // The node in refusal 12 and the free part of the work list are the program's choice.
-        if paper.answer.refusal == 12 && reaches_itself(graph, got.node) {
-            paper.answer.node = got.node;
-        }
+        let got = (self.counting)(&graph.nodes, lent.part_mut(), list.part_mut());
+        let paper = counting::count_words(&graph.nodes, expected.part_mut(), work_len);
+        // The free part of the work list alone is the program's choice.
         let list = list.after_writing(&work.part()[..paper.free]);
         let rust = rust_count(graph, &paper.answer).map(|(answer, numbers)| {
             let counts = counts.after_writing(&numbers);
@@ -145,10 +145,6 @@ impl Checker {
     }
 }
 
-fn reaches_itself(graph: &Graph, node: u64) -> bool {
-    usize::try_from(node).is_ok_and(|node| counting::reaches_itself(&graph.nodes, node))
-}
-
 fn steps_to_count(graph: &Graph) -> u64 {
     rust_side::recounting(&graph.nodes, &graph.settled)
 }
@@ -162,16 +158,19 @@ fn rust_count(graph: &Graph, paper: &Answer) -> Option<(Answer, Vec<u32>)> {
     let zeros = vec![0; graph.nodes.len()];
     Some(match rust_side::count_words(graph.rust.as_ref()?) {
         Ok(counts) => (Answer::default(), counts),
-        Err(r) if paper.refusal == 12 && comes_to_a_loop(graph, &r) => (*paper, zeros),
+        Err(r) if paper.refusal == 12 && comes_to_a_loop(graph, paper.node, &r) => (*paper, zeros),
         Err(r) => (refused(r), zeros),
     })
 }
 
-// Where 01 says 12 the Rust may name another node that loops. It may say 13 too, where a node has too many words besides.
-fn comes_to_a_loop(graph: &Graph, refusal: &Refused) -> bool {
+// Where the paper says 12 the Rust names the node at which its own walk comes back to its path: that one must loop, and not be lower than the
+// lowest. It may say 13 too, where a node has too many words besides.
+fn comes_to_a_loop(graph: &Graph, lowest: u64, refusal: &Refused) -> bool {
     let too_many = |count: &u64| *count >= TOO_MANY;
     match refusal.number {
-        12 => reaches_itself(graph, refusal.node),
+        12 => {
+            refusal.node >= lowest && counting::reaches_itself(&graph.nodes, refusal.node as usize)
+        }
         13 => graph.settled.iter().flatten().any(too_many),
         _ => false,
     }

@@ -12,15 +12,15 @@ use Rattle.answers.specs.Answers.{Answer, gives, refused, firstOf}
 use Rattle.node.specs.Nodes.{KBWG}
 use Rattle.graph.specs.Runs.{Graph}
 use Rattle.graph.specs.Words.{count}
+use Rattle.graph.specs.Loops.{LowestLoop}
 use Rattle.graph.specs.LoopLaws.{reach-inside}
 use Rattle.laws.specs.Cleared.{cleared}
 use Rattle.laws.specs.Tables.{begins-with-table, table}
 use Rattle.graph.specs.Counting.{Loopless, countRow, IsCounted, unfit, loop, many, all}
-use Rattle.graph.specs.Lent.{WorkKept, work-untouched}
-use Rattle.count.specs.CountWalk.{mark, isMet, isDone, CountWalk, AllDone, LoopFound, ReachesIs}
-use Rattle.count.proofs.Lists.{cleared-of-kept}
+use Rattle.graph.specs.Lent.{cleared-of-kept, WorkKept, work-untouched}
+use Rattle.loops.specs.NodeMarks.{mark}
+use Rattle.count.specs.CountWalk.{CountWalk, AllDone, LoopFound, ReachesIs}
 use Rattle.count.proofs.Rows.{counts-room}
-use Rattle.count.proofs.SumLaws.{sum-zero}
 
 -- a refusal before the walk leaves both lists as they were
 pub unfit-answer : (limit : ℕ) (g : Graph) (c w : List ℕ) {r : Answer} → firstOf (countRow g (length c) (length w)) ≡ some r
@@ -31,8 +31,6 @@ unfit-answer limit g c w e = (unfit e, work-untouched refl)
 pub count-start : (limit : ℕ) (g : Graph) (c w : List ℕ) → 2 * length g ≤ length w → length g ≤ length c
     → ((k : ℕ) → k < length g → mark w k ≡ 0) → CountWalk limit g c w 0
 count-start limit g c w r s z =
-    let m = sum-zero isMet w (length g) refl z in
-    let d = sum-zero isDone w (length g) refl z in
     record {
       room = r;
       room-counts = s;
@@ -43,8 +41,8 @@ count-start limit g c w r s z =
     }
 
 module _ (limit : ℕ) (g : Graph) (c : List ℕ) (work : ℕ) (w c′ w′ : List ℕ) (fit : firstOf (countRow g (length c) work) ≡ none) where
-  pub loop-answer : (q : ℕ) → LoopFound g c w c′ w′ q → IsCounted limit g c work (refused 12 (q ∷ [])) (cleared (length g) c′)
-  loop-answer q L = rw (cleared-of-kept (length g) c c′ (L .counts-kept)) (loop fit (L .loops))
+  pub loop-answer : (q : ℕ) → LowestLoop KBWG g q → LoopFound g c w c′ w′ → IsCounted limit g c work (refused 12 (q ∷ [])) (cleared (length g) c′)
+  loop-answer q l L = rw (cleared-of-kept (length g) c c′ (L .counts-kept)) (loop fit l)
 
   module _ (A : AllDone limit g c w c′ w′) where
     loopless : Loopless g

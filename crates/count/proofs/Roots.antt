@@ -5,12 +5,13 @@ use mathlib.Core.List.{List}
 use Prim.Native.Nat.{ℕ, _+_, _-_, _*_, _≤_, _<_}
 use native.Mathlib.Omega.{arith}
 use lib.ListN.{length}
+use Rattle.laws.specs.Cases.{same?}
 use Rattle.graph.specs.Runs.{Graph}
 use Rattle.graph.specs.ChecksLaws.{Fit}
-use Rattle.graph.specs.Lent.{Kept, kept-then}
-use Rattle.count.specs.CountWalk.{mark, nodePushed, mets, dones, Done, CountWalk, StepTaken, AllDone, LoopFound}
-use Rattle.count.proofs.Lists.{kept-all}
-use Rattle.count.proofs.SumLaws.{same?, mets-le, dones-le}
+use Rattle.graph.specs.Lent.{Kept, kept-all, kept-then}
+use Rattle.loops.specs.NodeMarks.{mark, nodePushed, mets}
+use Rattle.loops.specs.NodeMarksLaws.{sum-le, mets-le}
+use Rattle.count.specs.CountWalk.{isDone, dones, Done, CountWalk, StepTaken, AllDone, LoopFound}
 use Rattle.count.proofs.WalkLaws.{pushed-walk}
 
 -- so many roots are left; those after them are met, and the walk from a root ends before the next
@@ -25,6 +26,9 @@ pub record Roots (limit : ℕ) (g : Graph) (c₀ w₀ c w : List ℕ) (roots siz
 -- how many turns are left at most, 3 × N at first: each node is met once, done once, and passed once as a root
 abbrev pub turns : Graph → List ℕ → ℕ → ℕ
 turns g w roots = 2 * length g + roots - (mets g w + dones g w)
+
+dones-le : (g : Graph) (w : List ℕ) → dones g w ≤ length g
+dones-le g w = sum-le isDone w (λ x. omega arith) (length g)
 
 pub roots-start : (limit : ℕ) (g : Graph) (c w : List ℕ) → CountWalk limit g c w 0 → Roots limit g c w c w (length g) 0
 roots-start limit g c w W =
@@ -83,9 +87,10 @@ module _ (limit : ℕ) (g : Graph) (c₀ w₀ c w : List ℕ) (roots size : ℕ)
       let l = R .within in
       pushed-walk limit g c w 0 K (subst (λ k. CountWalk limit g c w k) z (R .walk)) (roots - 1) (omega arith) n (λ i e. absurd (omega arith))
 
-  pub roots-loop : (c′ w′ : List ℕ) (q : ℕ) → LoopFound g c w c′ w′ q → LoopFound g c₀ w₀ c′ w′ q
-  roots-loop c′ w′ q L =
+  pub roots-loop : (c′ w′ : List ℕ) → LoopFound g c w c′ w′ → LoopFound g c₀ w₀ c′ w′
+  roots-loop c′ w′ L =
       record {
+        node = L .node;
         loops = L .loops;
         counts-kept = kept-then (R .counts-kept) (L .counts-kept);
         work-kept = kept-then (R .work-kept) (L .work-kept);
@@ -99,5 +104,5 @@ module _ (limit : ℕ) (g : Graph) (c₀ w₀ c w : List ℕ) (roots size : ℕ)
       all p h =
           ⊎-elim
           (λ z. absurd (R .passed p (omega arith) h z))
-          (λ y. ⊎-elim (λ o. o) (λ o. let b = o .below in let e = R .idle l in absurd (omega arith)) y)
+          (λ y. ⊎-elim (λ o. o) (λ o. let b = o .on .within in let e = R .idle l in absurd (omega arith)) y)
           (R .walk .marks p h)

@@ -9,7 +9,7 @@ use lib.ListN.{length}
 use Rattle.node.specs.Nodes.{KBWG, arc, isEnd}
 use Rattle.graph.specs.Runs.{Graph, node}
 use Rattle.graph.specs.Loops.{Step, by-arc, by-run}
-use Rattle.count.specs.CountWalk.{mark, done}
+use Rattle.loops.specs.NodeMarks.{mark, done}
 
 module _ (g : Graph) (p : ℕ) (p< : p < length g) where
   pub step-next : isEnd KBWG (node g p) ≡ false → Step KBWG g p (p + 1)

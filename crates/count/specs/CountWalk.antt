@@ -3,65 +3,38 @@ use mathlib.Core.Path.{_≡_}
 use mathlib.Core.Bool.{Bool, true, false}
 use mathlib.Core.Logic.{_⊎_}
 use mathlib.Core.List.{List}
-use Prim.Native.Nat.{ℕ, zero, suc, _+_, _*_, _/_, _≤_, _<_, min}
-use lib.ListN.{length, getD, set}
+use Prim.Native.Nat.{ℕ, suc, _+_, _*_, _/_, _≤_, _<_, min}
+use lib.ListN.{length, getD}
 use Rattle.node.specs.Nodes.{KBWG}
 use Rattle.graph.specs.Runs.{Graph}
 use Rattle.graph.specs.Words.{count}
 use Rattle.graph.specs.Loops.{Step, Loops, Clear}
 use Rattle.graph.specs.Lent.{Kept}
+use Rattle.loops.specs.NodeMarks.{mark, done, stacked, OnStack, sumOver, mets}
 use Rattle.count.specs.declared.walk.MaybeNode.{MaybeNode}
 use Rattle.count.specs.declared.walk.MaybeNode.the-variants.{Nothing, At}
 use Rattle.count.specs.declared.walk.AfterStep.{AfterStep}
-use Rattle.count.specs.declared.walk.AfterStep.the-variants.{Stack, LoopAt}
+use Rattle.count.specs.declared.walk.AfterStep.the-variants.{Stack, LoopMet}
 
--- ---- the work list
-abbrev pub mark : List ℕ → ℕ → ℕ
-mark w k = getD w k 0
-
--- the mark of a node that is counted: the largest number that a mark holds, and no place of the stack
-abbrev pub done : ℕ
-done = 4_294_967_295
-
--- the node at place i of the stack
-abbrev pub stacked : Graph → List ℕ → ℕ → ℕ
-stacked g w i = getD w (length g + i) 0
-
--- the work list with q put on the stack of so many nodes above n marks
-abbrev pub nodePushed : List ℕ → ℕ → ℕ → ℕ → List ℕ
-nodePushed w n size q = set (set w q (size + 1)) (n + size) q
-
--- the sum of f over the first n numbers
-unfoldable pub sumOver : (ℕ → ℕ) → List ℕ → ℕ → ℕ
-sumOver f w zero = 0
-sumOver f w (suc n) = sumOver f w n + f (getD w n 0)
-
--- 1 for the mark of a node that is met, and for that of one that is done
-abbrev pub isMet : ℕ → ℕ
-isMet m = min 1 m
-
+-- ---- the marks
+-- 1 for the mark of a node that is done
 abbrev pub isDone : ℕ → ℕ
 isDone m = min 1 (m / done)
 
--- how many nodes are met, and how many are done
-abbrev pub mets : Graph → List ℕ → ℕ
-mets g w = sumOver isMet w (length g)
-
+-- how many nodes are done
 abbrev pub dones : Graph → List ℕ → ℕ
 dones g w = sumOver isDone w (length g)
 
 -- ---- the walk
--- node k is on the stack
-pub record Open (g : Graph) (w : List ℕ) (size k : ℕ) : Type 0 where
-  pub place : ℕ
-  pub below : place < size
-  pub marked : mark w k ≡ suc place
-  pub entry : stacked g w place ≡ k
+-- node k is on the stack, which is the walk's path
+pub record OnPath (g : Graph) (w : List ℕ) (size k : ℕ) : Type 0 where
+  pub on : OnStack (stacked (length g) w) size k
+  pub marked : mark w k ≡ suc (on .place)
 
 -- place i of the stack holds a node that is marked so
 pub record Entry (g : Graph) (w : List ℕ) (i : ℕ) : Type 0 where
-  pub node : stacked g w i < length g
-  pub marked : mark w (stacked g w i) ≡ suc i
+  pub node : stacked (length g) w i < length g
+  pub marked : mark w (stacked (length g) w i) ≡ suc i
 
 module _ (limit : ℕ) (g : Graph) where
   -- node k is counted, up to the limit, and no loop can be reached from it
@@ -74,15 +47,15 @@ module _ (limit : ℕ) (g : Graph) where
     pub room : 2 * length g ≤ length w
     pub room-counts : length g ≤ length c
     pub entries : (i : ℕ) → i < size → Entry g w i
-    pub path : (i : ℕ) → suc i < size → Step KBWG g (stacked g w i) (stacked g w (suc i))
-    pub marks : (k : ℕ) → k < length g → (mark w k ≡ 0) ⊎ (Done c w k ⊎ Open g w size k)
-    pub tallied : mets g w ≡ dones g w + size
+    pub path : (i : ℕ) → suc i < size → Step KBWG g (stacked (length g) w i) (stacked (length g) w (suc i))
+    pub marks : (k : ℕ) → k < length g → (mark w k ≡ 0) ⊎ (Done c w k ⊎ OnPath g w size k)
+    pub tallied : size ≤ mets g w
 
   -- what a step keeps, and that it brings the walk on
   pub record StepTaken (c w c′ w′ : List ℕ) (size : ℕ) : Type 0 where
     pub walk : CountWalk c′ w′ size
     pub met : (k : ℕ) → k < length g → (mark w k ≡ 0 → ⊥) → mark w′ k ≡ 0 → ⊥
-    pub on : mets g w′ + dones g w′ ≡ suc (mets g w + dones g w)
+    pub on : mets g w + dones g w < mets g w′ + dones g w′
     pub counts-kept : Kept (length g) c c′
     pub work-kept : Kept (2 * length g) w w′
 
@@ -93,9 +66,10 @@ module _ (limit : ℕ) (g : Graph) where
     pub counts-kept : Kept (length g) c c′
     pub work-kept : Kept (2 * length g) w w′
 
--- q loops
-pub record LoopFound (g : Graph) (c w c′ w′ : List ℕ) (q : ℕ) : Type 0 where
-  pub loops : Loops KBWG g q
+-- some node loops
+pub record LoopFound (g : Graph) (c w c′ w′ : List ℕ) : Type 0 where
+  pub node : ℕ
+  pub loops : Loops KBWG g node
   pub counts-kept : Kept (length g) c c′
   pub work-kept : Kept (2 * length g) w w′
 
@@ -106,11 +80,11 @@ NextIs g w p Nothing = (q : ℕ) → Step KBWG g p q → mark w q ≡ done
 
 abbrev pub StepIs : ℕ → Graph → List ℕ → List ℕ → List ℕ → List ℕ → AfterStep → Type 0
 StepIs limit g c w c′ w′ (Stack size) = StepTaken limit g c w c′ w′ size
-StepIs limit g c w c′ w′ (LoopAt q) = LoopFound g c w c′ w′ q
+StepIs limit g c w c′ w′ LoopMet = LoopFound g c w c′ w′
 
-abbrev pub WalkedIs : ℕ → Graph → List ℕ → List ℕ → List ℕ → List ℕ → MaybeNode → Type 0
-WalkedIs limit g c w c′ w′ Nothing = AllDone limit g c w c′ w′
-WalkedIs limit g c w c′ w′ (At q) = LoopFound g c w c′ w′ q
+abbrev pub WalkedIs : ℕ → Graph → List ℕ → List ℕ → List ℕ → List ℕ → Bool → Type 0
+WalkedIs limit g c w c′ w′ true = LoopFound g c w c′ w′
+WalkedIs limit g c w c′ w′ false = AllDone limit g c w c′ w′
 
 -- whether one of the first n counts is at least the limit
 abbrev pub ReachesIs : ℕ → List ℕ → ℕ → Bool → Type 0

@@ -14,7 +14,7 @@ ghost use Rattle.count.specs.Said.{saidCounting};
 use base::clear;
 use counts::reaches_limit;
 use graph::GraphCheck;
-use walk::MaybeNode;
+use loops::lowest_loop;
 use walk::walk;
 
 pub enum Counted {
@@ -27,7 +27,7 @@ pub enum Counted {
     TooMany,
 }
 
-// Counts the words once the checks have passed.
+// Counts the words once the checks have passed. Only a graph with a loop is searched for the lowest node that loops.
 fn count_checked(nodes: &[u32], counts: &mut [u32], work: &mut [u32]) -> Counted
     requires { ⌜ firstOf (countRow (now nodes) (length (now counts)) (length (now work))) ≡ none ⌝ }
     ensures counted { λ r. ⌜ IsCounted countLimit (now (nodes .entry)) (now (counts .entry)) (length (now (work .entry)))
@@ -36,19 +36,14 @@ fn count_checked(nodes: &[u32], counts: &mut [u32], work: &mut [u32]) -> Counted
 {
     let n = nodes.len();
     clear(work, n);
-    match walk(nodes, counts, work) {
-        MaybeNode::At(q) => {
-            clear(counts, n);
-            Counted::Loops(q as u32)
-        }
-        MaybeNode::Nothing => {
-            if reaches_limit(counts, n) {
-                clear(counts, n);
-                return Counted::TooMany;
-            }
-            Counted::Done
-        }
+    if walk(nodes, counts, work) {
+        return Counted::Loops(lowest_loop(nodes, counts, work) as u32);
     }
+    if reaches_limit(counts, n) {
+        clear(counts, n);
+        return Counted::TooMany;
+    }
+    Counted::Done
 }
 
 // Puts the number of words from each node into counts.

@@ -1,28 +1,26 @@
 // A depth-first walk that keeps its path in the lent work list. With N nodes, the list holds N marks and then a stack of up to N nodes,
 // each led to by the one below it. A mark is 0 for a node not met yet, i + 1 for the node at place i of the stack, and DONE for a node
 // that is counted. Only marks say what is counted: 0 is a count like others.
-ghost use mathlib.Core.Path.{_≡_};
-ghost use Prim.Native.Nat.{_*_, _<_, _≤_};
+ghost use Prim.Native.Nat.{_<_, _≤_};
 ghost use lib.ListN.{length};
 ghost use Rattle.graph.specs.Counting.{countLimit};
 ghost use Rattle.graph.specs.ChecksLaws.{Fit};
-ghost use Rattle.count.specs.CountWalk.{CountWalk, NextIs, StepIs, WalkedIs, nodePushed};
+ghost use Rattle.count.specs.CountWalk.{CountWalk, NextIs, StepIs, WalkedIs};
 use crate::sums::count_at;
+use loops::DONE;
+use loops::push;
 use node::Node24;
 
-// The mark of a node that is counted: the largest 32-bit number, which is no place of the stack. A mark is 32 bits, however wide a count is.
-const DONE: u32 = 4294967295;
-
 // A node that was looked for, if there is one.
-pub enum MaybeNode {
+enum MaybeNode {
     Nothing,
     At(usize),
 }
 
-// What a step leads to: a stack of so many nodes, or a node that loops.
+// What a step leads to: a stack of so many nodes, or a loop.
 enum AfterStep {
     Stack(usize),
-    LoopAt(usize),
+    LoopMet,
 }
 
 // The first node that p leads to and that is not done.
@@ -48,18 +46,6 @@ fn next_to_count(nodes: &[u32], work: &[u32], p: usize) -> MaybeNode
     MaybeNode::Nothing
 }
 
-// Puts q on the stack of so many nodes above n marks.
-fn push(work: &mut [u32], n: usize, size: usize, q: usize)
-    requires { ⌜ q < n ⌝ }
-    requires { ⌜ size < n ⌝ }
-    requires { ⌜ n ≤ 16777216 ⌝ }
-    requires { ⌜ 2 * n ≤ length (now work) ⌝ }
-    ensures { λ _. ⌜ now (work .exit) ≡ nodePushed (now (work .entry)) n size q ⌝ }
-{
-    work[q] = (size + 1) as u32;
-    work[n + size] = q as u32;
-}
-
 // One step at the top of the stack: a node that it leads to goes on the stack, or it is counted and goes off. A node that is on the stack
 // already closes a loop.
 fn take_step(nodes: &[u32], counts: &mut [u32], work: &mut [u32], size: usize) -> AfterStep
@@ -73,7 +59,7 @@ fn take_step(nodes: &[u32], counts: &mut [u32], work: &mut [u32], size: usize) -
     match next_to_count(nodes, work, p) {
         MaybeNode::At(q) => {
             if work[q] != 0 {
-                return AfterStep::LoopAt(q);
+                return AfterStep::LoopMet;
             }
             push(work, n, size, q);
             AfterStep::Stack(size + 1)
@@ -86,8 +72,8 @@ fn take_step(nodes: &[u32], counts: &mut [u32], work: &mut [u32], size: usize) -
     }
 }
 
-// Counts every node, or finds one that loops. Every node is a root, the last first: the rest of a root's run is then done before it.
-pub(crate) fn walk(nodes: &[u32], counts: &mut [u32], work: &mut [u32]) -> MaybeNode
+// Whether it meets a loop; if not, every node is counted. Every node is a root, the last first: the rest of a root's run is then done before it.
+pub(crate) fn walk(nodes: &[u32], counts: &mut [u32], work: &mut [u32]) -> bool
     requires { ⌜ Fit (now nodes) ⌝ }
     requires { ⌜ CountWalk countLimit (now nodes) (now counts) (now work) 0 ⌝ }
     ensures { λ r. ⌜ WalkedIs countLimit (now (nodes .entry)) (now (counts .entry)) (now (work .entry)) (now (counts .exit)) (now (work .exit)) r ⌝ }
@@ -108,11 +94,11 @@ pub(crate) fn walk(nodes: &[u32], counts: &mut [u32], work: &mut [u32]) -> Maybe
                 AfterStep::Stack(s) => {
                     size = s;
                 }
-                AfterStep::LoopAt(q) => {
-                    return MaybeNode::At(q);
+                AfterStep::LoopMet => {
+                    return true;
                 }
             }
         }
     }
-    MaybeNode::Nothing
+    false
 }

@@ -18,7 +18,7 @@ layoutNumber Kwg = 0
 layoutNumber Kbwg = 1
 
 -- ---- how fields are read
--- "6 node doesn't fit (carries node, tile, arc)", "8 largest arc (carried)", "Refusal 12 carries some node"
+-- "6 node doesn't fit (carries node, tile, arc)", "8 largest arc (carried)", "the lowest-numbered node" (02, C-14) in 12
 abbrev pub carried : ℕ → ℕ → ℕ → ℕ → List ℕ
 carried n node tile arc =
     elim (eqb n 6) [

@@ -13,7 +13,7 @@ use Rattle.node.specs.Nodes.{KBWG}
 use Rattle.base.specs.Numbers.{most}
 use Rattle.graph.specs.Runs.{Graph}
 use Rattle.graph.specs.Words.{count}
-use Rattle.graph.specs.Loops.{Loops}
+use Rattle.graph.specs.Loops.{Loops, LowestLoop}
 use Rattle.graph.specs.Checks.{graphRow}
 
 -- "Every node gets the number of words from it."
@@ -32,11 +32,11 @@ countLimit = most
 abbrev pub countRow : Graph → ℕ → ℕ → Row
 countRow g lentCounts lentWork = graphRow g ++ (ltb lentCounts (length g) || ltb lentWork (2 * length g), refusing 11 []) ∷ []
 
--- What counting may answer, and the counts then, for the counts lent before; limit is the lowest count that is too many. The node
--- in refusal 12 is the program's choice: "Refusal 12 carries some node that can be reached from itself". "First N counts are 0 after 12 or 13".
+-- What counting answers, and the counts then, for the counts lent before; limit is the lowest count that is too many. Refusal 12 carries the
+-- lowest node that loops (02, C-14), so that no answer leaves a choice (`counted-once`). "First N counts are 0 after 12 or 13".
 pub data IsCounted (limit : ℕ) (g : Graph) (lent : List ℕ) (lentWork : ℕ) : Answer → List ℕ → Type 0 where
   unfit : {r : Answer} → firstOf (countRow g (length lent) lentWork) ≡ some r → IsCounted limit g lent lentWork r lent
-  loop : {q : ℕ} → firstOf (countRow g (length lent) lentWork) ≡ none → Loops KBWG g q
+  loop : {q : ℕ} → firstOf (countRow g (length lent) lentWork) ≡ none → LowestLoop KBWG g q
       → IsCounted limit g lent lentWork (refused 12 (q ∷ [])) (cleared (length g) lent)
   many : {p : ℕ} → firstOf (countRow g (length lent) lentWork) ≡ none → Loopless g → p < length g → limit ≤ count KBWG g p
       → IsCounted limit g lent lentWork (refused 13 []) (cleared (length g) lent)

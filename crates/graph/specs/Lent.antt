@@ -1,6 +1,6 @@
 -- What a call leaves of the lists that it is lent, from document 01, "Where each check stands": "A call writes only what this paper
 -- names; entries past that stay."
-use mathlib.Core.Path.{_≡_, sym, ap, _∙_}
+use mathlib.Core.Path.{_≡_, refl, sym, ap, _∙_}
 use mathlib.Core.List.{List, _++_}
 use mathlib.Core.Option.{none, some}
 use Prim.Native.Nat.{ℕ, _+_, _-_, _≤_, _<_}
@@ -15,6 +15,9 @@ use Rattle.answers.specs.Answers.{Answer, Row, firstOf}
 pub record Kept (n : ℕ) (before after : List ℕ) : Type 0 where
   pub size : length after ≡ length before
   pub rest : drop n after ≡ drop n before
+
+pub kept-all : (n : ℕ) (l : List ℕ) → Kept n l l
+kept-all n l = record { size = refl; rest = refl }
 
 pub kept-then : {n : ℕ} {l m r : List ℕ} → Kept n l m → Kept n m r → Kept n l r
 kept-then a b = record { size = b .size ∙ a .size; rest = b .rest ∙ a .rest }
@@ -34,6 +37,10 @@ kept-further m n l r h k =
 
 pub cleared-kept : (n : ℕ) (l : List ℕ) → n ≤ length l → Kept n l (cleared n l)
 cleared-kept n l h = kept-part n l (replicate n 0) h (length-replicate n 0)
+
+-- what stands past the numbers set is what stood there before
+pub cleared-of-kept : (n : ℕ) (l r : List ℕ) → Kept n l r → cleared n r ≡ cleared n l
+cleared-of-kept n l r k = ap (replicate n 0 ++_) (k .rest)
 
 -- A work list of n numbers, "free afterwards": where a check before the walk refuses it is as before.
 pub record WorkKept (checks : Row) (n : ℕ) (before after : List ℕ) : Type 0 where

@@ -7,6 +7,7 @@ pub mod Lent
 pub mod Checks
 pub mod ChecksLaws
 pub mod Counting
+pub mod CountedOnce
 pub mod WordsAscend
 pub mod WordsEquation
 pub mod UpwardLaws

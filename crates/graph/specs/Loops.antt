@@ -2,7 +2,7 @@
 use mathlib.Core.Path.{_≡_}
 use mathlib.Core.Bool.{false}
 use mathlib.Core.Logic.{_≢_}
-use Prim.Native.Nat.{ℕ, suc, _<_}
+use Prim.Native.Nat.{ℕ, suc, _≤_, _<_}
 use lib.ListN.{length}
 use Rattle.node.specs.Nodes.{BitLayout, arc, isEnd}
 use Rattle.graph.specs.Runs.{Graph, node}
@@ -21,6 +21,11 @@ module _ (y : BitLayout) where
   -- "can be reached from itself"
   abbrev pub Loops : Graph → ℕ → Type 0
   Loops g p = Reach g p p
+
+  -- 02, C-14: "the lowest-numbered node that can be reached from itself"
+  pub record LowestLoop (g : Graph) (p : ℕ) : Type 0 where
+    pub loops : Loops g p
+    pub least : (q : ℕ) → Loops g q → p ≤ q
 
   -- neither p nor a node that can be reached from it loops
   pub record Clear (g : Graph) (p : ℕ) : Type 0 where

@@ -1,7 +1,12 @@
 -- Cases on a computed value, each with the equation that says which case it is.
 use mathlib.Core.Path.{_≡_, refl, sym, subst}
 use mathlib.Core.Bool.{Bool, true, false, _&&_, _||_, true≢false}
+use mathlib.Core.Logic.{_≢_, _⊎_, inl, inr}
 use mathlib.Core.Option.{Option, none, some, IsSome}
+use Prim.Native.Nat.{ℕ, _≤_, _<_}
+use native.Mathlib.Decide.{ℕ-discrete}
+use lib.Dec.{ltb}
+use borrow.Author.Tests.{ltb-true, ltb-false}
 
 pub split {ℓ} : {C : Type ℓ} (t : Bool) → (t ≡ true → C) → (t ≡ false → C) → C
 split true yes-case no-case = yes-case refl
@@ -37,3 +42,10 @@ or-false-left false b e = refl
 pub or-false-right : (a b : Bool) → a || b ≡ false → b ≡ false
 or-false-right true b e = absurd (true≢false e)
 or-false-right false b e = e
+
+-- two numbers are the same, or not; one is below the other, or not
+pub same? : (a b : ℕ) → (a ≡ b) ⊎ (a ≢ b)
+same? a b = elim (ℕ-discrete a b) [ yes e ↦ inl e | no n ↦ inr n ]
+
+pub below? : (a b : ℕ) → (a < b) ⊎ (b ≤ a)
+below? a b = split (ltb a b) (λ t. inl (ltb-true a b t)) (λ f. inr (ltb-false a b f))

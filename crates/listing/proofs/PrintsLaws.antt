@@ -11,7 +11,8 @@ use Rattle.laws.specs.Cases.{split, split-option, some≢none}
 use Rattle.laws.specs.Lists.{joinAll}
 use Rattle.answers.specs.Answers.{Answer, gives, nothing, refused}
 use Rattle.graph.specs.Runs.{Graph}
-use Rattle.graph.specs.Counting.{IsCounted, unfit, loop, many, all, Counts, countLimit}
+use Rattle.graph.specs.Counting.{IsCounted, Counts, countLimit}
+use Rattle.graph.specs.CountedOnce.{counted-once}
 use Rattle.numbers.specs.WordNumbers.{GraphLent}
 use Rattle.numbers.specs.WordNumbersLaws.{counted-lent, lent-left}
 use Rattle.listing.specs.Lines.{refusalLine}
@@ -102,48 +103,10 @@ module _ {input lentNodes lentCounts lentWork nodes counts work : List ℕ} wher
       }
 
 -- ---- the output is determined
--- two answers with the same number, or two that give the same
-Alike : Answer → Answer → Type 0
-Alike (refused m vs) b = RefusesBy b m
-Alike nothing b = b ≡ nothing
-Alike (gives vs) b = b ≡ gives vs
-
-alike-itself : (a b : Answer) → a ≡ b → Alike a b
-unfolding Alike
-alike-itself (refused m vs) b e = subst (λ x. RefusesBy x m) e refl
-alike-itself nothing b e = sym e
-alike-itself (gives vs) b e = sym e
-
-counted-once : {most lentWork : ℕ} {g : Graph} {lent after after′ : List ℕ} {a b : Answer} → IsCounted most g lent lentWork a after
-    → IsCounted most g lent lentWork b after′ → Alike a b
-unfolding Alike
-counted-once {a = a} {b = b} (unfit e) (unfit f) = let i : some a ≡ some b = sym e ∙ f in alike-itself a b cc
-counted-once (unfit e) (loop f l) = some≢none (sym e ∙ f)
-counted-once (unfit e) (many f l h m) = some≢none (sym e ∙ f)
-counted-once (unfit e) (all f l m) = some≢none (sym e ∙ f)
-counted-once (loop e l) (unfit f) = some≢none (sym f ∙ e)
-counted-once (loop e l) (loop f k) = refl
-counted-once (loop {q} e l) (many f k h m) = absurd (k q l)
-counted-once (loop {q} e l) (all f k m) = absurd (k q l)
-counted-once (many e l h m) (unfit f) = some≢none (sym f ∙ e)
-counted-once (many e l h m) (loop {q} f k) = absurd (l q k)
-counted-once (many e l h m) (many f k i n) = refl
-counted-once (many {p} e l h m) (all f k n) = absurd (omega (arith, n p h))
-counted-once (all e l m) (unfit f) = some≢none (sym f ∙ e)
-counted-once (all e l m) (loop {q} f k) = absurd (l q k)
-counted-once (all e l m) (many {p} f k h n) = absurd (omega (arith, m p h))
-counted-once (all e l m) (all f k n) = refl
-
 refuses-once : (a : Answer) {m n : ℕ} → RefusesBy a m → RefusesBy a n → m ≡ n
 refuses-once (refused k vs) e f = sym e ∙ f
 refuses-once (gives vs) e f = absurd e
 refuses-once nothing e f = absurd e
-
-alike-refuse : (a b : Answer) {m n : ℕ} → Alike a b → RefusesBy a m → RefusesBy b n → m ≡ n
-unfolding Alike
-alike-refuse (refused k vs) b h e f = sym e ∙ refuses-once b h f
-alike-refuse (gives vs) b h e f = absurd e
-alike-refuse nothing b h e f = absurd e
 
 -- an answer that gives something refuses by no number
 gives-refuses : {a : Answer} {vs : List ℕ} (n : ℕ) {C : Type 0} → a ≡ gives vs → RefusesBy a n → C
@@ -159,13 +122,12 @@ module _ (input lentNodes lentCounts lentWork : List ℕ) where
   -- two counts of the loaded nodes
   both-counted : {s t : ℕ} {a b : Answer} {after after′ : List ℕ} → loadAnswer (loadInput input lentNodes) ≡ gives (s ∷ [])
       → loadAnswer (loadInput input lentNodes) ≡ gives (t ∷ []) → IsCounted countLimit (graphOf s) lentCounts (length lentWork) a after
-      → IsCounted countLimit (graphOf t) lentCounts (length lentWork) b after′ → Alike a b
+      → IsCounted countLimit (graphOf t) lentCounts (length lentWork) b after′ → a ≡ b
   both-counted {s} {t} {a} {after = after} e f c d =
-      counted-once (subst (λ k. IsCounted countLimit (graphOf k) lentCounts (length lentWork) a after) (same-size e f) c) d
+      counted-once (subst (λ k. IsCounted countLimit (graphOf k) lentCounts (length lentWork) a after) (same-size e f) c) d .0
 
   ends-once : {e f : Ends} {nodes counts work nodes′ counts′ work′ : List ℕ} → Opens input lentNodes lentCounts lentWork e nodes counts work
       → Opens input lentNodes lentCounts lentWork f nodes′ counts′ work′ → e ≡ f
-  unfolding Alike
   ends-once (longer h) (longer i) = refl
   ends-once (longer h) (unloaded i r) = absurd (omega arith)
   ends-once (longer h) (uncounted i a c r w) = absurd (omega arith)
@@ -176,11 +138,11 @@ module _ (input lentNodes lentCounts lentWork : List ℕ) where
   ends-once (unloaded {n} h r) (counted i a c w) = gives-refuses n a r
   ends-once (uncounted h a c r w) (longer i) = absurd (omega arith)
   ends-once (uncounted h a c r w) (unloaded {n} i s) = gives-refuses n a s
-  ends-once (uncounted {r = x} h a c r w) (uncounted {r = y} i b d s v) = ap refuses (alike-refuse x y (both-counted a b c d) r s)
-  ends-once (uncounted {n} h a c r w) (counted i b d v) = gives-refuses n (both-counted b a d c) r
+  ends-once (uncounted {n} h a c r w) (uncounted {r = y} i b d s v) = ap refuses (refuses-once y (subst (λ x. RefusesBy x n) (both-counted a b c d) r) s)
+  ends-once (uncounted {n} h a c r w) (counted i b d v) = gives-refuses n (both-counted a b c d) r
   ends-once (counted h a c w) (longer i) = absurd (omega arith)
   ends-once (counted h a c w) (unloaded {n} i s) = gives-refuses n a s
-  ends-once (counted h a c w) (uncounted {n} i b d s v) = gives-refuses n (both-counted a b c d) s
+  ends-once (counted h a c w) (uncounted {n} i b d s v) = gives-refuses n (both-counted b a d c) s
   ends-once (counted h a c w) (counted i b d v) = ap (λ k. lists (graphOf k)) (same-size a b)
 
   prints-once : {a b : List ℕ} → Prints input lentNodes lentCounts lentWork a → Prints input lentNodes lentCounts lentWork b → a ≡ b

@@ -99,7 +99,7 @@ abbrev pub printed : Ends → List ℕ
 printed (refuses n) = refusalLine n
 printed (lists g) = listed 0 (startWords g)
 
--- The whole output for an input. It is determined, though the node in refusal 12 is the program's choice (`WholeOutput`).
+-- The whole output for an input. It is determined (`WholeOutput`).
 pub record Prints (input lentNodes lentCounts lentWork output : List ℕ) : Type 0 where
   pub enough : LongEnough lentNodes lentCounts lentWork
   pub ends : Ends

@@ -1,4 +1,4 @@
--- The flat answer of counting, and a count for each node, are a reply that counting may give.
+-- The flat answer of counting, and a count for each node, are what counting replies.
 use mathlib.Core.Path.{_≡_, sym, ap, subst, _∙_}
 use mathlib.Core.Bool.{Bool}
 use mathlib.Core.List.{List, [], _∷_, _++_}
@@ -12,9 +12,9 @@ use Rattle.replay.specs.Counts.{countReply, CountReplied, replied}
 
 pub count-replies : (nodes lent stored : List ℕ) (work : ℕ) (r : FlatCounted) (counts xs : List ℕ) {b : Bool}
     → IsCounted countLimit nodes lent work (countedOf r) counts → r ≡ flatCounted (countedOf r) → xs ≡ take (length nodes) counts
-    → b ≡ same stored ((r .refusal ∷ r .arc ∷ []) ++ xs) → CountReplied nodes lent work stored b
+    → b ≡ same stored ((r .refusal ∷ r .arc ∷ r .node ∷ []) ++ xs) → CountReplied nodes lent work stored b
 unfolding countReply
 count-replies nodes lent stored work r counts xs counted flat ex eb =
-    let e = ap (λ (l : List ℕ). same stored ((r .refusal ∷ r .arc ∷ []) ++ l)) ex in
-    let f = ap (λ (x : FlatCounted). same stored ((x .refusal ∷ x .arc ∷ []) ++ take (length nodes) counts)) flat in
+    let e = ap (λ (l : List ℕ). same stored ((r .refusal ∷ r .arc ∷ r .node ∷ []) ++ l)) ex in
+    let f = ap (λ (x : FlatCounted). same stored ((x .refusal ∷ x .arc ∷ x .node ∷ []) ++ take (length nodes) counts)) flat in
     subst (CountReplied nodes lent work stored) (sym (eb ∙ e ∙ f)) (replied counted)

@@ -13,11 +13,14 @@ pub(crate) fn count(stored: &[u64], nodes: &[u32]) -> bool
     count_lent(stored, nodes, &mut counts, &mut work)
 }
 
-// The node of a loop is the engine's choice, and is left out.
 fn count_lent(stored: &[u64], nodes: &[u32], counts: &mut [u32], work: &mut [u32]) -> bool
     ensures { λ r. ⌜ CountReplied (now (nodes .entry)) (now (counts .entry)) (length (now (work .entry))) (now (stored .entry)) r ⌝ }
 {
     let counted = machirsun::machirsun_count_words(nodes, counts, work);
-    let numbers = [counted.refusal as u64, counted.arc as u64];
+    let numbers = [
+        counted.refusal as u64,
+        counted.arc as u64,
+        counted.node as u64,
+    ];
     same_then_words(stored, &numbers, words_to(counts, nodes.len()))
 }

@@ -11,6 +11,22 @@ pub fn kwg_of(words: &[u32]) -> Kwg<Node24> {
     Kwg(words.iter().map(|&word| Node24::new(word)).collect())
 }
 
+// Whether a walk from a node comes back to it, by the Rust's reading of nodes.
+pub fn reaches_itself(graph: &Kwg<Node24>, place: usize) -> bool {
+    let steps = |place: usize| {
+        let node = graph.0[place];
+        let arc = Some(node.arc_index() as usize).filter(|&arc| arc != 0);
+        let next = Some(place + 1).filter(|_| !node.is_end());
+        arc.into_iter().chain(next)
+    };
+    let mut reached = BTreeSet::new();
+    let mut waiting = vec![place];
+    while let Some(from) = waiting.pop() {
+        waiting.extend(steps(from).filter(|&to| reached.insert(to)));
+    }
+    reached.contains(&place)
+}
+
 pub fn nodes_of(words: &[u32]) -> Vec<Fields> {
     words.iter().map(|&w| Layout::Kbwg.fields(w)).collect()
 }

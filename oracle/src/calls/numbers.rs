@@ -1,11 +1,13 @@
 // Calls 6 to 8: the words counted, the number of a word, the word of a number.
 
 pub mod in_range;
+mod loops;
 mod requests;
 
-use super::graphs::kwg_of;
+use super::graphs::{kwg_of, reaches_itself};
 use super::outcome::{ABSENT, DONE, FOUND, LOOP, TOO_MANY, fewer_words, named_in, unknown};
 use super::{Case, Family};
+use crate::kwg::{Kwg, Node24};
 use crate::numbers::{Inputs, Unreadable};
 
 const COUNT: u64 = 6;
@@ -28,32 +30,33 @@ fn answer(call: u64, inputs: &mut Inputs) -> Result<Case, Unreadable> {
     }
 }
 
-// The Rust's message names a node of the loop, but not every program finds the
-// same one: it is not stored. After a refusal there are no counts.
+// After a refusal there are no counts.
 fn count(words: Vec<u32>, inputs: &mut Inputs) -> Result<Case, Unreadable> {
     inputs.end()?;
-    let answer = match kwg_of(&words).count_words_alloc() {
-        Ok(counts) => {
-            let mut answer = vec![DONE, 0];
-            answer.extend(counts.iter().map(|&count| u64::from(count)));
-            answer
-        }
+    let graph = kwg_of(&words);
+    let mut answer = vec![DONE, 0, 0];
+    match graph.count_words_alloc() {
+        Ok(counts) => answer.extend(counts.iter().map(|&count| u64::from(count))),
         Err(refusal) => {
-            let mut answer = vec![0; words.len() + 2];
-            answer[0] = refused_count(&refusal.to_string()).ok_or_else(|| unknown(&refusal))?;
-            answer
+            let refused = refused_count(&graph, &refusal.to_string());
+            (answer[0], answer[2]) = refused.ok_or_else(|| unknown(&refusal))?;
+            answer.resize(answer.len() + words.len(), 0);
         }
     };
     Ok(Case::of_words(words, answer))
 }
 
-fn refused_count(message: &str) -> Option<u64> {
+// The refusal, and the node that it carries. The Rust's message names the node at
+// which its walk comes back to its path; that one must loop, and the lowest that
+// does is stored.
+fn refused_count(graph: &Kwg<Node24>, message: &str) -> Option<(u64, u64)> {
     if message == "the word graph holds too many words to count" {
-        return Some(TOO_MANY);
+        return Some((TOO_MANY, 0));
     }
-    let node = named_in(message, "the word graph loops back to node ", "")?;
-    node.parse::<u32>().ok()?;
-    Some(LOOP)
+    let named = named_in(message, "the word graph loops back to node ", "")?;
+    let named: usize = named.parse().ok()?;
+    let lowest = (0..graph.0.len()).find(|&place| reaches_itself(graph, place))?;
+    reaches_itself(graph, named).then_some((LOOP, lowest as u64))
 }
 
 fn number_of_word(words: &[u32], inputs: &mut Inputs) -> Result<Case, Unreadable> {

@@ -2,8 +2,10 @@
 //! kind its time doubles with every run.
 
 use crate::clock::fastest;
+use compare::graphs::loops::{self, BACK, Shape, placed};
 use compare::graphs::without_words;
 use compare::lexicon::node;
+use compare::random::Random;
 use machirsun::Format;
 
 const TILES: u32 = 40;
@@ -21,6 +23,16 @@ pub fn print() {
         [1_000, 2_000, 4_000].map(entered_runs),
         count,
     );
+    loops_of("count, one long loop", loops::one_loop);
+    loops_of("count, loops of three", |nodes| {
+        loops::small_loops(nodes, 3)
+    });
+    loops_of("count, loops inside loops", |nodes| {
+        loops::nested(&mut Random::new(1), nodes / 2, BACK[1])
+    });
+    loops_of("count, a deep way with leaves, all one loop", |nodes| {
+        loops::with_leaves(nodes / 3, true)
+    });
     grows(
         "Macondo, runs entered everywhere",
         [1_000, 2_000, 4_000].map(entered_runs),
@@ -36,6 +48,16 @@ pub fn print() {
         [15_000, 30_000, 60_000].map(letter_sets),
         macondo,
     );
+}
+
+// Graphs of some 50,000, 100,000 and 200,000 nodes, their runs in order.
+fn loops_of(name: &str, shape: fn(usize) -> Shape) {
+    let graphs = [50_000, 100_000, 200_000].map(|nodes| {
+        let shape = shape(nodes);
+        let order: Vec<usize> = (0..shape.len()).collect();
+        placed(&shape, &order)
+    });
+    grows(name, graphs, refuse_loop);
 }
 
 fn grows(name: &str, graphs: [Vec<u32>; 3], call: fn(&[u32], &mut Lent)) {
@@ -67,6 +89,11 @@ impl Lent {
 
 fn count(nodes: &[u32], lent: &mut Lent) {
     machirsun::count_words(nodes, &mut lent.counts, &mut lent.work).expect("the words are counted");
+}
+
+fn refuse_loop(nodes: &[u32], lent: &mut Lent) {
+    let refused = machirsun::count_words(nodes, &mut lent.counts, &mut lent.work);
+    assert_eq!(refused.expect_err("the graph loops").number(), 12);
 }
 
 fn labels() -> Vec<u32> {

@@ -3,7 +3,7 @@
 use super::super::graphs::{Graph, pack_all, random_graph, random_nodes};
 use super::super::layout::{Fields, Layout};
 use super::super::samples::{doubled_chain, empty_graph, graph, words_of};
-use super::{COUNT, NUMBER_TO_WORD, WORD_TO_NUMBER, in_range};
+use super::{COUNT, NUMBER_TO_WORD, WORD_TO_NUMBER, in_range, loops};
 use crate::random::Random;
 use crate::requests::Requests;
 
@@ -20,6 +20,9 @@ pub fn requests(requests: &mut Requests) {
     other_counts(requests);
     long_graphs(requests);
     uncounted_graphs(requests);
+    for nodes in loops::graphs() {
+        ask_count(requests, &pack_all(&nodes));
+    }
 }
 
 fn ask_count(requests: &mut Requests, words: &[u32]) {

@@ -9,7 +9,8 @@ use lib.ListN.{length}
 use Rattle.node.specs.Nodes.{KBWG, isEnd}
 use Rattle.graph.specs.Runs.{node}
 use Rattle.count.specs.declared.walk.MaybeNode.the-variants.{Nothing}
-use Rattle.count.specs.CountWalk.{mark, done, NextIs}
+use Rattle.loops.specs.NodeMarks.{mark, done}
+use Rattle.count.specs.CountWalk.{NextIs}
 use Rattle.count.proofs.Steps.{step-arc, step-next, steps-done}
 use borrow.Author.Needs.{needs}
 use Rattle.count.proofs.walk.next_to_count.Statement.{statement}

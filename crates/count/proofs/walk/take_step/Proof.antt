@@ -8,8 +8,9 @@ use Rattle.graph.specs.ChecksLaws.{Fit}
 use Rattle.graph.specs.LoopLaws.{step-inside}
 use Rattle.count.specs.declared.walk.MaybeNode.{MaybeNode}
 use Rattle.count.specs.declared.walk.MaybeNode.the-variants.{Nothing, At}
-use Rattle.count.specs.CountWalk.{stacked, CountWalk, NextIs, StepTaken}
-use Rattle.count.proofs.Lists.{kept-all}
+use Rattle.graph.specs.Lent.{kept-all}
+use Rattle.loops.specs.NodeMarks.{stacked}
+use Rattle.count.specs.CountWalk.{CountWalk, NextIs, StepTaken}
 use Rattle.count.proofs.WalkLaws.{size-lt, top-place, top-node, step-loops, step-pushes, step-counts}
 use borrow.Author.Needs.{needs}
 use Rattle.graph.specs.Counting.{countLimit}
@@ -31,7 +32,7 @@ module _ (s : tie.Start) where
 
   -- the node at the top of the stack
   abbrev top : ℕ
-  top = stacked g work (s .args .size - 1)
+  top = stacked (length g) work (s .args .size - 1)
 
   place-in : length g + (s .args .size - 1) < length work
   place-in = top-place _ _ _ _ _ fits walk (s .pre .1 .0)
@@ -121,6 +122,7 @@ returns c =
     let b = looked-up (c .before) in
     let s = begun b in
     record {
+      node = q b;
       loops = step-loops countLimit _ _ _ _ (fits s) (walk s) (s .pre .1 .0) (top s) refl _ (found b .0) (found b .1) (c .if1 .taken);
       counts-kept = kept-all _ _;
       work-kept = kept-all _ _;

@@ -126,23 +126,23 @@ loop-again-3 c =
     let b = step-over (c .before .before .before) in
     roots-step _ _ _ _ _ _ _ _ (roots (stacked b .before)) (stacked b .loop-test .taken) _ _ _ (stepped b (c .before .s .given .1))
 
-enum-known-q : tie.Need-enum-known-q Inv-loop μ-loop
-enum-known-q c = search needs
+enum-told : tie.Need-enum-told Inv-loop μ-loop
+enum-told c = search needs
 
 same-length : tie.Need-same-length Inv-loop μ-loop
 same-length c =
-    let b = step-over (c .before .before .before) in
+    let b = step-over (c .before .before) in
     b .take-step .kept .1 .0 ∙ roots (stacked b .before) .counts-kept .size
 
 same-length-2 : tie.Need-same-length-2 Inv-loop μ-loop
 same-length-2 c =
-    let b = step-over (c .before .before .before) in
+    let b = step-over (c .before .before) in
     b .take-step .kept .1 .1 .0 ∙ roots (stacked b .before) .work-kept .size
 
 returns : tie.Need-returns Inv-loop μ-loop
 returns c =
-    let b = step-over (c .before .before .before) in
-    roots-loop _ _ _ _ _ _ _ _ (roots (stacked b .before)) _ _ _ (stepped b (c .before .q .given .1))
+    let b = step-over (c .before .before) in
+    roots-loop _ _ _ _ _ _ _ _ (roots (stacked b .before)) _ _ (stepped b (c .enum-told .given .1))
 
 same-length-3 : tie.Need-same-length-3 Inv-loop μ-loop
 same-length-3 c = roots (c .before) .counts-kept .size
@@ -174,7 +174,7 @@ walk-spec =
     enum-known-s
     loop-less-3
     loop-again-3
-    enum-known-q
+    enum-told
     same-length
     same-length-2
     returns

@@ -1,4 +1,4 @@
--- `counts::count_lent` meets its contract: the number of the refusal, its arc and the counts of the nodes are compared.
+-- `counts::count_lent` meets its contract: the number of the refusal, its arc, its node and the counts of the nodes are compared.
 use Rattle.replay.proofs.CountLaws.{count-replies}
 use borrow.Author.Needs.{needs}
 use Rattle.replay.proofs.counts.count_lent.Statement.{statement}
@@ -12,6 +12,9 @@ cast-t11 c = search needs
 
 cast-t12 : tie.Need-cast-t12
 cast-t12 c = search needs
+
+cast-t13 : tie.Need-cast-t13
+cast-t13 c = search needs
 
 slice-aggregate-same-then-words : tie.Need-slice-aggregate-same-then-words
 slice-aggregate-same-then-words c = search needs
@@ -30,7 +33,7 @@ same-length-2 c = search needs
 
 returns : tie.Need-returns
 returns c =
-    let call = c .before .before .before .before .before .before .before .before .before .before in
+    let call = c .before .before .before .before .before .before .before .before .before .before .before in
     let args = call .before .before .before .before .before .before .before .args in
     let asked = call .machirsun-count-words in
     count-replies (args .nodes .now) (args .counts .now) (args .stored .now) _ (asked .result) _ _ (asked .ensures .0) (asked .ensures .1 .1)
@@ -44,6 +47,7 @@ count-lent-spec =
     machirsun-count-words-requires
     cast-t11
     cast-t12
+    cast-t13
     slice-aggregate-same-then-words
     words-to-requires
     same-then-words-requires

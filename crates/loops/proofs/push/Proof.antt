@@ -2,8 +2,8 @@
 use native.Mathlib.Omega.{arith}
 use lib.ListN.{length-set}
 use borrow.Author.Needs.{needs}
-use Rattle.count.proofs.walk.push.Statement.{statement}
-use Rattle.count.proofs.walk.push.Tie as tie
+use Rattle.loops.proofs.push.Statement.{statement}
+use Rattle.loops.proofs.push.Tie as tie
 
 add-work : tie.Need-add-work
 add-work c = search needs

@@ -1,0 +1,4 @@
+pub mod NodeMarks
+pub mod NodeMarksLaws
+pub mod Stack
+pub mod Search
