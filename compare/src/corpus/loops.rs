@@ -3,7 +3,7 @@
 
 use super::Size;
 use crate::checker::{Checker, Graph};
-use crate::graphs::loops::{self, BACK, Shape, orders, placed};
+use crate::graphs::loops::{self, BACK, Shape, in_order, orders, placed};
 use crate::graphs::{every_node, nth, wild};
 use crate::random::Random;
 
@@ -108,8 +108,7 @@ fn at_scale(checker: &mut Checker, random: &mut Random) {
     }
     for percent in PERCENT {
         let shape = loops::random_runs(random, MILLION / 2, percent);
-        let order: Vec<usize> = (0..shape.len()).collect();
-        count(checker, placed(&shape, &order));
+        count(checker, in_order(&shape));
     }
     count(checker, loops::lower_found_later(MILLION / 2));
     count(checker, loops::pairs_from_both_ends(LARGEST));

@@ -29,6 +29,12 @@ pub fn placed(shape: &Shape, order: &[usize]) -> Vec<u32> {
     nodes
 }
 
+/// The graph of a shape with its runs in order.
+pub fn in_order(shape: &Shape) -> Vec<u32> {
+    let order: Vec<usize> = (0..shape.len()).collect();
+    placed(shape, &order)
+}
+
 /// The runs in order, the other way round, and shuffled; the first few stay in front.
 pub fn orders(random: &mut Random, in_front: usize, runs: usize) -> [Vec<usize>; 3] {
     let others = runs - in_front;

@@ -11,22 +11,6 @@ pub fn kwg_of(words: &[u32]) -> Kwg<Node24> {
     Kwg(words.iter().map(|&word| Node24::new(word)).collect())
 }
 
-// Whether a walk from a node comes back to it, by the Rust's reading of nodes.
-pub fn reaches_itself(graph: &Kwg<Node24>, place: usize) -> bool {
-    let steps = |place: usize| {
-        let node = graph.0[place];
-        let arc = Some(node.arc_index() as usize).filter(|&arc| arc != 0);
-        let next = Some(place + 1).filter(|_| !node.is_end());
-        arc.into_iter().chain(next)
-    };
-    let mut reached = BTreeSet::new();
-    let mut waiting = vec![place];
-    while let Some(from) = waiting.pop() {
-        waiting.extend(steps(from).filter(|&to| reached.insert(to)));
-    }
-    reached.contains(&place)
-}
-
 pub fn nodes_of(words: &[u32]) -> Vec<Fields> {
     words.iter().map(|&w| Layout::Kbwg.fields(w)).collect()
 }
@@ -288,4 +272,13 @@ pub fn reached_from(nodes: &[Fields], start: usize) -> BTreeSet<usize> {
         }
     }
     reached
+}
+
+// Whether a walk from a node comes back to it, by one step or more.
+pub fn reaches_itself(nodes: &[Fields], place: usize) -> bool {
+    let node = &nodes[place];
+    let by_arc = (node.arc_index > 0).then_some(node.arc_index as usize);
+    let by_run = (!node.is_end).then_some(place + 1);
+    let mut steps = by_arc.into_iter().chain(by_run);
+    steps.any(|next| reached_from(nodes, next).contains(&place))
 }

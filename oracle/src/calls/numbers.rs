@@ -4,10 +4,9 @@ pub mod in_range;
 mod loops;
 mod requests;
 
-use super::graphs::{kwg_of, reaches_itself};
+use super::graphs::{kwg_of, nodes_of, reaches_itself};
 use super::outcome::{ABSENT, DONE, FOUND, LOOP, TOO_MANY, fewer_words, named_in, unknown};
 use super::{Case, Family};
-use crate::kwg::{Kwg, Node24};
 use crate::numbers::{Inputs, Unreadable};
 
 const COUNT: u64 = 6;
@@ -33,12 +32,11 @@ fn answer(call: u64, inputs: &mut Inputs) -> Result<Case, Unreadable> {
 // After a refusal there are no counts.
 fn count(words: Vec<u32>, inputs: &mut Inputs) -> Result<Case, Unreadable> {
     inputs.end()?;
-    let graph = kwg_of(&words);
     let mut answer = vec![DONE, 0, 0];
-    match graph.count_words_alloc() {
+    match kwg_of(&words).count_words_alloc() {
         Ok(counts) => answer.extend(counts.iter().map(|&count| u64::from(count))),
         Err(refusal) => {
-            let refused = refused_count(&graph, &refusal.to_string());
+            let refused = refused_count(&words, &refusal.to_string());
             (answer[0], answer[2]) = refused.ok_or_else(|| unknown(&refusal))?;
             answer.resize(answer.len() + words.len(), 0);
         }
@@ -49,14 +47,15 @@ fn count(words: Vec<u32>, inputs: &mut Inputs) -> Result<Case, Unreadable> {
 // The refusal, and the node that it carries. The Rust's message names the node at
 // which its walk comes back to its path; that one must loop, and the lowest that
 // does is stored.
-fn refused_count(graph: &Kwg<Node24>, message: &str) -> Option<(u64, u64)> {
+fn refused_count(words: &[u32], message: &str) -> Option<(u64, u64)> {
     if message == "the word graph holds too many words to count" {
         return Some((TOO_MANY, 0));
     }
     let named = named_in(message, "the word graph loops back to node ", "")?;
     let named: usize = named.parse().ok()?;
-    let lowest = (0..graph.0.len()).find(|&place| reaches_itself(graph, place))?;
-    reaches_itself(graph, named).then_some((LOOP, lowest as u64))
+    let nodes = nodes_of(words);
+    let lowest = (0..nodes.len()).find(|&place| reaches_itself(&nodes, place))?;
+    reaches_itself(&nodes, named).then_some((LOOP, lowest as u64))
 }
 
 fn number_of_word(words: &[u32], inputs: &mut Inputs) -> Result<Case, Unreadable> {

@@ -2,7 +2,7 @@
 //! kind its time doubles with every run.
 
 use crate::clock::fastest;
-use compare::graphs::loops::{self, BACK, Shape, placed};
+use compare::graphs::loops::{self, BACK, Shape, in_order};
 use compare::graphs::without_words;
 use compare::lexicon::node;
 use compare::random::Random;
@@ -52,11 +52,7 @@ pub fn print() {
 
 // Graphs of some 50,000, 100,000 and 200,000 nodes, their runs in order.
 fn loops_of(name: &str, shape: fn(usize) -> Shape) {
-    let graphs = [50_000, 100_000, 200_000].map(|nodes| {
-        let shape = shape(nodes);
-        let order: Vec<usize> = (0..shape.len()).collect();
-        placed(&shape, &order)
-    });
+    let graphs = [50_000, 100_000, 200_000].map(|nodes| in_order(&shape(nodes)));
     grows(name, graphs, refuse_loop);
 }
 
