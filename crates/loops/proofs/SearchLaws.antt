@@ -2,13 +2,14 @@
 use mathlib.Core.Path.{_≡_, sym, ap, _∙_, subst}
 use mathlib.Core.Logic.{_≢_, _⊎_, inl, inr, ⊎-elim}
 use mathlib.Core.List.{List}
-use Prim.Native.Nat.{ℕ, suc, _+_, _-_, _*_, _≤_, _<_, min}
-use native.Mathlib.Nat.{le-refl, mul-le-mul-right, suc-mul}
+use Prim.Native.Nat.{ℕ, suc, _-_, _*_, _≤_, _<_, min}
+use native.Mathlib.Nat.{le-refl}
 use native.Mathlib.Numerals.{add-one}
 use native.Mathlib.Omega.{arith}
 use lib.ListN.{length, set, length-set}
 use lib.Seq.{getD-set-same, getD-set-other}
 use Rattle.laws.specs.Cases.{same?}
+use Rattle.laws.specs.Tests.{measure-falls, measure-falls-within}
 use Rattle.node.specs.Nodes.{KBWG}
 use Rattle.graph.specs.Runs.{Graph}
 use Rattle.graph.specs.Loops.{Step, Loops}
@@ -23,16 +24,6 @@ use Rattle.loops.specs.declared.next.NextMark.{NextMark}
 use Rattle.loops.specs.declared.search.LoopSearch.{LoopSearch}
 use Rattle.loops.proofs.ReleaseLaws.{same-stacked}
 use Rattle.loops.proofs.StackLaws as laws
-
--- ---- what is left falls where a node is met, and where none is and the last open node is lower
-fewer-unmet : (a b k x y : ℕ) → a < b → x < k → a * k + x < b * k + y
-fewer-unmet a b k x y h l =
-    let m = mul-le-mul-right {m = suc a} {n = b} k h in
-    let e = suc-mul a k in
-    omega arith
-
-lower-top : (a b k x y : ℕ) → a ≤ b → x < y → a * k + x < b * k + y
-lower-top a b k x y h l = let m = mul-le-mul-right {m = a} {n = b} k h in omega arith
 
 module _ (g : Graph) (c w : List ℕ) (s : LoopSearch) (K : Fit g) (G : SearchState g c w s) where
   abbrev n : ℕ
@@ -89,7 +80,7 @@ module _ (g : Graph) (c w : List ℕ) (s : LoopSearch) (K : Fit g) (G : SearchSt
               tallied = rw (E .size-is) (omega arith);
             };
             met = λ k h z y. z (sym (others k h (λ x. z (ap (mark w) x ∙ new))) ∙ y);
-            less = fewer-unmet (n - mets g w₁) (n - mets g w) (suc n) (r .top) (s .top) (omega arith) (omega arith);
+            less = measure-falls (n - mets g w) (n - mets g w₁) n (r .top) (s .top) (omega arith) (omega arith);
             counts-kept = kept-set n c (s .size) (s .top) l;
             work-kept = pushed-kept n w (s .size) q (G .room) q< l;
           })
@@ -158,7 +149,7 @@ module _ (g : Graph) (c w : List ℕ) (s : LoopSearch) (K : Fit g) (G : SearchSt
                 tallied = omega arith;
               };
               met = more;
-              less = lower-top (n - mets g w′) (n - mets g w) (suc n) (mark c (s .top - 1)) (s .top) (omega arith) before-lt;
+              less = measure-falls-within (n - mets g w) (n - mets g w′) (suc n) (mark c (s .top - 1)) (s .top) (omega arith) before-lt;
               counts-kept = kept-all n c;
               work-kept = kept-further (2 * n) n w w′ (omega arith) k;
             }

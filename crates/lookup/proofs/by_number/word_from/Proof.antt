@@ -177,7 +177,7 @@ module _ (c : tie.After-tile2 Inv-loop μ-loop) where
   room : begun found .loop .n < length (begun found .loop .word)
   room = c .before .if4 .left
 
-  less : left ≡ suc (length put - (begun found .loop .n + 1))
+  less : length put - (begun found .loop .n + 1) < left
   less = rw length-set (omega arith)
 
 sub-idx : tie.Need-sub-idx Inv-loop μ-loop
