@@ -66,12 +66,12 @@ extern "C" {
  *  18   no label, or over 50                                                           to_macondo
  *  19   a text is too long: a name over 255 bytes, a title over 31, a date over 19;    to_macondo, to_lxd, write_page
  *       write_page: a title over 40 bytes
- *  20   the title or the date has a code point over FF hexadecimal                     to_lxd
+ *  20   the title or the date has a code point without a byte in Windows-1252          to_lxd
  *  21   a tile has no label; write_page: a tile that is shown                          to_macondo, to_lxd, write_page
  *  22   over 64 runs, each reached by an arc of the one before, from the start         to_macondo, to_lxd
  *  23   to_macondo: the label of a letter (tiles 1 up, used or not, not the            to_macondo, to_lxd
  *       blank's) is not one code point; to_lxd: the label of a tile that is reached
- *       from the start, the blank's too, is over FF hexadecimal
+ *       from the start, the blank's too, has no byte in Windows-1252
  *  24   runs do not ascend                                                             to_macondo
  *  25   the file would have too many nodes: over 2^24 (to_lxd: 2^22)                   to_macondo, to_lxd
  *  26   a byte of the title or a shown label is outside 20 to 7E hexadecimal           write_page
@@ -100,7 +100,7 @@ enum {
     MACHIRSUN_TALLY_TOO_LONG = 17,
     MACHIRSUN_LABEL_COUNT = 18,
     MACHIRSUN_TEXT_TOO_LONG = 19,
-    MACHIRSUN_NOT_LATIN1 = 20,
+    MACHIRSUN_NOT_WINDOWS_1252 = 20,
     MACHIRSUN_NO_LABEL = 21,
     MACHIRSUN_CHAIN_TOO_LONG = 22,
     MACHIRSUN_BAD_LETTER = 23,
@@ -304,8 +304,10 @@ machirsun_file machirsun_to_macondo(const uint32_t *nodes, size_t nodes_len, con
                                     const uint8_t *name, size_t name_len, uint32_t format, uint32_t *work, size_t work_len,
                                     uint8_t *file, size_t file_len);
 
-/* Writes an LXD file; title and date are code points. Order: 10, 8, 9, 20 and 19 for the title, 20 and 19 for the date, 21, 11 for the
- * work list, 22, 23, 13, 25, 11 for the file. */
+/* Writes an LXD file; title and date are code points. They and the labels are written as bytes of Windows-1252, by the Unicode Consortium's
+ * table CP1252: its 27 code points over FF (hexadecimal), such as 152, have the bytes 80 to 9F, of which five stand for no character and are
+ * never written; the code points 80 to 9F have no byte; every other up to FF is its own. Order: 10, 8, 9, 20 and 19 for the title, 20 and 19
+ * for the date, 21, 11 for the work list, 22, 23, 13, 25, 11 for the file. */
 machirsun_file machirsun_to_lxd(const uint32_t *nodes, size_t nodes_len, const uint32_t *labels, size_t labels_len,
                                 const uint32_t *title, size_t title_len, const uint32_t *date, size_t date_len, uint32_t *work,
                                 size_t work_len, uint8_t *file, size_t file_len);

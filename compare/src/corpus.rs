@@ -2,6 +2,7 @@
 
 mod all_calls;
 mod big;
+mod code_points;
 mod headers;
 mod label_files;
 mod lexicons;
@@ -55,4 +56,5 @@ pub fn run(checker: &mut Checker, size: Size, seed: u64) {
     headers::run(checker, size, &mut random());
     typed::run(checker, size, &mut random());
     loops::run(checker, size, &mut random());
+    code_points::run(checker, size);
 }

@@ -17,3 +17,5 @@ pub mod paper;
 pub mod random;
 pub mod report;
 pub mod rust_side;
+#[path = "../../oracle/src/windows1252.rs"]
+pub mod windows1252;

@@ -8,6 +8,7 @@ pub mod typed;
 
 use crate::engine::{LxdTexts, MacondoTexts, PageOf};
 use crate::paper::counting::steps;
+use crate::windows1252::for_the_original;
 use std::collections::HashMap;
 use std::panic::{AssertUnwindSafe, catch_unwind, resume_unwind};
 use wolges::alphabet::Alphabet;
@@ -331,17 +332,20 @@ pub fn to_macondo(
     }))
 }
 
-/// None where the Rust cannot be asked.
+/// None where the Rust cannot be asked. It writes ISO/IEC 8859-1: where Windows-1252 has another byte, it is asked with the code point that it
+/// writes as that byte, and where it has none, with one that the Rust refuses too.
 pub fn to_lxd(
     graph: &Graph,
     alphabets: &mut Alphabets,
     texts: &LxdTexts,
 ) -> Option<Answered<Vec<u8>>> {
     let text = |code_points: &[u32]| -> Option<String> {
-        code_points.iter().map(|&c| char::from_u32(c)).collect()
+        let asked = code_points.iter().map(|&c| for_the_original(c));
+        asked.map(char::from_u32).collect()
     };
     let (title, date) = (text(&texts.title)?, text(&texts.date)?);
-    let alphabet = alphabets.of(&texts.labels)?;
+    let labels: Vec<u32> = texts.labels.iter().map(|&c| for_the_original(c)).collect();
+    let alphabet = alphabets.of(&labels)?;
     Some(guarded(|| {
         let file = lexport::to_lxd(graph, alphabet, &title, &date);
         file.map(|file| file.into_vec())

@@ -5,6 +5,7 @@ mod calls;
 mod numbers;
 mod random;
 mod requests;
+mod windows1252;
 mod worker;
 
 use std::process::ExitCode;

@@ -353,8 +353,8 @@ pub fn to_macondo(
     Ok(answer.written)
 }
 
-/// Writes the words as an LXD file and answers its length. Labels, title and date are code points; the work list has at least 8 × N
-/// numbers, which are free afterwards.
+/// Writes the words as an LXD file and answers its length. Labels, title and date are code points, which are written as bytes of
+/// Windows-1252; the work list has at least 8 × N numbers, which are free afterwards.
 #[inline]
 pub fn to_lxd(
     nodes: &[u32],

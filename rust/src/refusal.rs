@@ -45,13 +45,13 @@ pub enum Refusal {
     LabelCount,
     /// 19: a name over 255 bytes, a title over 31 or a date over 19; for a page a title over 40 bytes.
     TextTooLong,
-    /// 20: the title or the date has a code point over FF hexadecimal.
-    NotLatin1,
+    /// 20: the title or the date has a code point without a byte in Windows-1252.
+    NotWindows1252,
     /// 21: a tile (for a page: one that is shown) has no label.
     NoLabel,
     /// 22: over 64 runs, each reached by an arc of the one before, from the start.
     ChainTooLong,
-    /// 23: a label is not one code point (for an LXD file: a label reached is over FF).
+    /// 23: a label is not one code point (for an LXD file: a label reached has no byte in Windows-1252).
     BadLetter,
     /// 24: runs do not ascend.
     NotAscending,
@@ -89,7 +89,7 @@ impl Refusal {
             17 => Refusal::TallyTooLong,
             18 => Refusal::LabelCount,
             19 => Refusal::TextTooLong,
-            20 => Refusal::NotLatin1,
+            20 => Refusal::NotWindows1252,
             21 => Refusal::NoLabel,
             22 => Refusal::ChainTooLong,
             23 => Refusal::BadLetter,
@@ -131,7 +131,7 @@ impl Refusal {
             Refusal::TallyTooLong => 17,
             Refusal::LabelCount => 18,
             Refusal::TextTooLong => 19,
-            Refusal::NotLatin1 => 20,
+            Refusal::NotWindows1252 => 20,
             Refusal::NoLabel => 21,
             Refusal::ChainTooLong => 22,
             Refusal::BadLetter => 23,
@@ -172,7 +172,12 @@ impl fmt::Display for Refusal {
             Refusal::TallyTooLong => write!(f, "the tally has over 64 entries"),
             Refusal::LabelCount => write!(f, "no label, or over 50"),
             Refusal::TextTooLong => write!(f, "a name, a title or a date is too long"),
-            Refusal::NotLatin1 => write!(f, "the title or the date has a code point over FF"),
+            Refusal::NotWindows1252 => {
+                write!(
+                    f,
+                    "the title or the date has a code point without a byte in Windows-1252"
+                )
+            }
             Refusal::NoLabel => write!(f, "a tile has no label"),
             Refusal::ChainTooLong => write!(f, "over 64 runs in a chain"),
             Refusal::BadLetter => write!(f, "a label cannot be written as a letter"),

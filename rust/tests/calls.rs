@@ -406,12 +406,12 @@ fn macondo_files() {
 
 #[test]
 fn lxd_files() {
-    let title: Vec<u32> = "héé".chars().map(u32::from).collect();
+    let title: Vec<u32> = "Œé’".chars().map(u32::from).collect();
     let date: Vec<u32> = "2026".chars().map(u32::from).collect();
     let mut file = [0xEE; 100];
     let mut work = [0; 40];
     let mut expected = bytes(&[64, 5]);
-    expected.extend([b'h', 0xE9, 0xE9]);
+    expected.extend([0x8C, 0xE9, 0x92]);
     expected.resize(40, 0);
     expected.extend(b"2026");
     expected.resize(60, 0);
@@ -429,6 +429,13 @@ fn lxd_files() {
     );
     assert_eq!(file[..84], expected);
     assert_eq!(file[84..], [0xEE; 16]);
+    let labels = ['?', 'Œ', 'B'].map(u32::from);
+    expected.splice(72..76, bytes(&[0x6300_0004]));
+    assert_eq!(
+        to_lxd(&G, &labels, &title, &date, &mut work, &mut file),
+        Ok(84)
+    );
+    assert_eq!(file[..84], expected);
 
     let mut refused = |nodes: &[u32], labels: &[u32], title: &[u32], date: &[u32], room: usize| {
         to_lxd(
@@ -454,16 +461,16 @@ fn lxd_files() {
         Refusal::NoEnd
     );
     assert_eq!(
-        refused(&G, &LABELS, &[0x152], &date, 40),
-        Refusal::NotLatin1
+        refused(&G, &LABELS, &[0x8C], &date, 40),
+        Refusal::NotWindows1252
     );
     assert_eq!(
         refused(&G, &LABELS, &[65; 32], &date, 40),
         Refusal::TextTooLong
     );
     assert_eq!(
-        refused(&G, &LABELS, &title, &[0x152], 40),
-        Refusal::NotLatin1
+        refused(&G, &LABELS, &title, &[0x100], 40),
+        Refusal::NotWindows1252
     );
     assert_eq!(
         refused(&G, &LABELS, &title, &[65; 20], 40),
@@ -482,7 +489,7 @@ fn lxd_files() {
         Refusal::ChainTooLong
     );
     assert_eq!(
-        refused(&G, &[63, 0x100, 66], &title, &date, 40),
+        refused(&G, &[63, 0x8C, 66], &title, &date, 40),
         Refusal::BadLetter
     );
     assert_eq!(

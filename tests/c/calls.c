@@ -597,11 +597,11 @@ static void writes_lxd(void)
 {
     static const uint8_t expected[84] = {
         64, 0, 0, 0, 5, 0, 0, 0,
-        'h', 0xE9, 0, 0, 0, 0, 0, 0, 0, 0, 0, 0, 0, 0, 0, 0, 0, 0, 0, 0, 0, 0, 0, 0, 0, 0, 0, 0, 0, 0, 0, 0,
+        0x8C, 0xE9, 0, 0, 0, 0, 0, 0, 0, 0, 0, 0, 0, 0, 0, 0, 0, 0, 0, 0, 0, 0, 0, 0, 0, 0, 0, 0, 0, 0, 0, 0,
         '2', '0', '2', '6', 0, 0, 0, 0, 0, 0, 0, 0, 0, 0, 0, 0, 0, 0, 0, 0,
         3, 0, 0, 0, 0, 0, 0x80, 0x8A, 2, 0, 0x80, 0x8A, 4, 0, 0x40, 0x50, 4, 0, 0x80, 0x90, 0, 0, 0x80, 0xD0};
-    static const uint32_t title[2] = {'h', 0xE9}, date[4] = {'2', '0', '2', '6'}, texts[32] = {'a'}, wide[1] = {0x100};
-    static const uint32_t wide_label[3] = {'?', 0x100, 'B'};
+    static const uint32_t title[2] = {0x152, 0xE9}, date[4] = {'2', '0', '2', '6'}, texts[32] = {'a'}, wide[1] = {0x100};
+    static const uint32_t control[1] = {0x8C}, control_label[3] = {'?', 0x8C, 'B'}, oe_label[3] = {'?', 0x152, 'B'};
     machirsun_file answer;
 
     work[40] = 7;
@@ -610,18 +610,20 @@ static void writes_lxd(void)
     SAME(work[40] == 7);
     answer = lxd(LENT(G), LENT(LABELS), LENT(title), LENT(date), 40, 84);
     SAME(answer.refusal == 0 && answer.written == 84 && file_is(LENT(expected)));
+    answer = lxd(LENT(G), LENT(oe_label), LENT(title), LENT(date), 40, 84);
+    SAME(answer.refusal == 0 && answer.written == 84 && memcmp(file + 72, "\4\0\0\x63", 4) == 0);
 
     REFUSED(lxd(G, 1, LENT(LABELS), LENT(title), LENT(date), 40, 100), MACHIRSUN_WRONG_SIZE, 0);
     REFUSED(lxd(LENT(ARC_5), LENT(LABELS), LENT(title), LENT(date), 40, 100), MACHIRSUN_ARC_PAST_END, 5);
     REFUSED(lxd(LENT(NO_END), LENT(LABELS), LENT(title), LENT(date), 40, 100), MACHIRSUN_NO_END, 0);
-    REFUSED(lxd(LENT(G), LENT(LABELS), LENT(wide), LENT(date), 40, 100), MACHIRSUN_NOT_LATIN1, 0);
+    REFUSED(lxd(LENT(G), LENT(LABELS), LENT(control), LENT(date), 40, 100), MACHIRSUN_NOT_WINDOWS_1252, 0);
     REFUSED(lxd(LENT(G), LENT(LABELS), texts, 32, LENT(date), 40, 100), MACHIRSUN_TEXT_TOO_LONG, 0);
-    REFUSED(lxd(LENT(G), LENT(LABELS), LENT(title), LENT(wide), 40, 100), MACHIRSUN_NOT_LATIN1, 0);
+    REFUSED(lxd(LENT(G), LENT(LABELS), LENT(title), LENT(wide), 40, 100), MACHIRSUN_NOT_WINDOWS_1252, 0);
     REFUSED(lxd(LENT(G), LENT(LABELS), LENT(title), texts, 20, 40, 100), MACHIRSUN_TEXT_TOO_LONG, 0);
     REFUSED(lxd(LENT(G), LABELS, 2, LENT(title), LENT(date), 40, 100), MACHIRSUN_NO_LABEL, 0);
     REFUSED(lxd(LENT(G), LENT(LABELS), LENT(title), LENT(date), 39, 100), MACHIRSUN_LIST_TOO_SHORT, 0);
     REFUSED(lxd(LENT(NODE_2_LOOPS), LENT(LABELS), LENT(title), LENT(date), 40, 100), MACHIRSUN_CHAIN_TOO_LONG, 0);
-    REFUSED(lxd(LENT(G), LENT(wide_label), LENT(title), LENT(date), 40, 100), MACHIRSUN_BAD_LETTER, 0);
+    REFUSED(lxd(LENT(G), LENT(control_label), LENT(title), LENT(date), 40, 100), MACHIRSUN_BAD_LETTER, 0);
     REFUSED(lxd(LENT(G), LENT(LABELS), LENT(title), LENT(date), 40, 83), MACHIRSUN_LIST_TOO_SHORT, 0);
 }
 

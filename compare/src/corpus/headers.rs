@@ -3,15 +3,16 @@
 
 use super::Size;
 use super::loads::SAMPLE;
-use super::texts::{LONGEST_DATE, LONGEST_TITLE, letters, with_each};
+use super::texts::{LONGEST_DATE, LONGEST_TITLE, character, labelled, letters, with_each};
 use crate::checker::{Checker, Fit, Graph};
-use crate::engine::{LxdTexts, Texts};
+use crate::engine::Texts;
 use crate::graphs::{chain, with_words, without_words};
 use crate::random::Random;
 
-// Around the last of ASCII and of ISO/IEC 8859-1, the first and last of its control codes, a letter that it lacks, and no code points.
-const ODD: [u32; 12] = [
-    0, 0x7f, 0x80, 0x9f, 0xa0, 0xff, 0x100, 0x152, 0xd800, 0x10_ffff, 0x11_0000, !0,
+// Around the limits of what is its own byte, the first and last that have gained a byte and neighbours, and no code points.
+const ODD: [u32; 15] = [
+    0, 0x7f, 0x80, 0x9f, 0xa0, 0xff, 0x100, 0x151, 0x152, 0x2122, 0x2123, 0xd800, 0x10_ffff,
+    0x11_0000, !0,
 ];
 
 pub fn run(checker: &mut Checker, size: Size, random: &mut Random) {
@@ -24,19 +25,11 @@ pub fn run(checker: &mut Checker, size: Size, random: &mut Random) {
 
 // No code point is 0, so that the text is told from what fills its field.
 fn text(random: &mut Random, len: usize) -> Vec<u32> {
-    (0..len).map(|_| random.within(1, 0x100) as u32).collect()
+    (0..len).map(|_| character(random)).collect()
 }
 
 fn lxd(title: Vec<u32>, date: Vec<u32>) -> Texts {
     labelled(letters(3), title, date)
-}
-
-fn labelled(labels: Vec<u32>, title: Vec<u32>, date: Vec<u32>) -> Texts {
-    Texts::Lxd(LxdTexts {
-        labels,
-        title,
-        date,
-    })
 }
 
 // Titles with dates, of each length up to two places past the longest; in files with words and without.
@@ -67,7 +60,7 @@ fn places(checker: &mut Checker, random: &mut Random, every: usize) {
     }
 }
 
-// Nothing is wrong with the texts, but there is a tile without a label, a label of two bytes, a chain too long, too many words, or too
+// Nothing is wrong with the texts, but there is a tile without a label, a label without a byte, a chain too long, too many words, or too
 // little room.
 fn refused_after_the_texts(checker: &mut Checker, random: &mut Random) {
     let sample = Graph::new(SAMPLE.to_vec());

@@ -2,23 +2,25 @@
 
 use crate::engine::{LxdTexts, MacondoTexts, Texts};
 use crate::random::Random;
+use crate::windows1252::gained;
 
 pub const LONGEST_TITLE: usize = 31;
 pub const LONGEST_DATE: usize = 19;
 
 // So many labels of one of several kinds. There are few lists of each kind, so that the Rust's alphabets are made once each.
 fn labels(random: &mut Random, len: usize) -> Vec<u32> {
-    let kind = random.within(0, 11);
+    let kind = random.within(0, 12);
     let mut own = Random::new(kind * 100 + random.within(0, 6));
     let mut label = |tile: u32| match kind {
         0..3 => 0x40 + tile,
-        3 => 0x90 - tile,
+        3 => 0x7f - tile,
         4 => 0x41,
         // Around the place of the separator, and equal ones.
         5 | 6 => 0x5c + own.within(0, 5) as u32,
         7 => 0xf8 + own.within(0, 9) as u32,
         8 => 0x100 - tile,
         9 => own.within(0x21, 0x300) as u32,
+        10 => character(&mut own),
         _ => own.pick(&[
             0x20, 0x41, 0xd7ff, 0xd800, 0xdfff, 0xe000, 0x10ffff, 0x110000, !0,
         ]),
@@ -65,20 +67,35 @@ pub fn macondo(random: &mut Random, label_count: usize) -> Texts {
 
 fn text(random: &mut Random, limit: usize) -> Vec<u32> {
     let len = length(random, limit);
-    let mut text: Vec<u32> = (0..len).map(|_| random.within(0, 0x100) as u32).collect();
+    let mut text: Vec<u32> = (0..len).map(|_| character(random)).collect();
     if len > 0 && random.within(0, 12) == 0 {
         let at = random.within(0, len as u64) as usize;
-        text[at] = random.pick(&[0xff, 0x100, 0x101, 0xd800, 0x10ffff, !0]);
+        text[at] = random.pick(&[0, 0x80, 0x9f, 0xff, 0x100, 0x101, 0xd800, 0x10ffff, !0]);
     }
     text
 }
 
+/// A code point with a byte in Windows-1252, other than 0.
+pub fn character(random: &mut Random) -> u32 {
+    match random.within(0, 8) {
+        0 => random.pick(&gained().collect::<Vec<_>>()),
+        1..4 => random.within(0xa0, 0x100) as u32,
+        _ => random.within(1, 0x80) as u32,
+    }
+}
+
 /// Texts for an LXD file with so many labels.
 pub fn lxd(random: &mut Random, label_count: usize) -> Texts {
+    let labels = labels(random, label_count);
+    let title = text(random, LONGEST_TITLE);
+    labelled(labels, title, text(random, LONGEST_DATE))
+}
+
+pub fn labelled(labels: Vec<u32>, title: Vec<u32>, date: Vec<u32>) -> Texts {
     Texts::Lxd(LxdTexts {
-        labels: labels(random, label_count),
-        title: text(random, LONGEST_TITLE),
-        date: text(random, LONGEST_DATE),
+        labels,
+        title,
+        date,
     })
 }
 
@@ -110,9 +127,5 @@ pub fn plain_macondo(label_count: usize, format: u32) -> Texts {
 }
 
 pub fn plain_lxd(label_count: usize) -> Texts {
-    Texts::Lxd(LxdTexts {
-        labels: letters(label_count),
-        title: vec![0x41, 0xe9],
-        date: vec![0x32, 0x30],
-    })
+    labelled(letters(label_count), vec![0x41, 0xe9], vec![0x32, 0x30])
 }

@@ -1,4 +1,4 @@
-//! The row "LXD" and the file.
+//! The row "LXD" and the file, its letters and texts in Windows-1252.
 
 use super::counting::{TOO_MANY, refused, size_and_shape, steps};
 use super::nodes::kbwg;
@@ -6,13 +6,14 @@ use super::runs::{chain_over_64, reached_runs, run, start, tiles_have_labels};
 use super::{WithWork, row};
 use crate::answer::Answer;
 use crate::engine::LxdTexts;
+use crate::windows1252::byte_of;
 use std::collections::BTreeMap;
 
 const FIRST: [u32; 2] = [0x8a80_0000, 0x8a80_0002];
 const NO_WORDS: u32 = 0x8a80_0000;
 
-fn over_ff(text: &[u32]) -> bool {
-    text.iter().any(|&code_point| code_point > 0xff)
+fn lacks_byte(text: &[u32]) -> bool {
+    text.iter().any(|&code_point| byte_of(code_point).is_none())
 }
 
 /// What the call answers, and the file's bytes where it writes them.
@@ -27,9 +28,9 @@ pub fn to_lxd(
     let labels = &texts.labels;
     let before_work = row(&[
         (shape, &|| shape != 0),
-        (20, &|| over_ff(&texts.title)),
+        (20, &|| lacks_byte(&texts.title)),
         (19, &|| texts.title.len() > 31),
-        (20, &|| over_ff(&texts.date)),
+        (20, &|| lacks_byte(&texts.date)),
         (19, &|| texts.date.len() > 19),
         (21, &|| !tiles_have_labels(nodes, labels.len())),
         (11, &|| work_len < 8 * n),
@@ -41,7 +42,7 @@ pub fn to_lxd(
     let start = start(nodes, 0);
     let refusal = row(&[
         (22, &|| chain_over_64(nodes, start)),
-        (23, &|| reached_label_over_ff(nodes, start, labels)),
+        (23, &|| reached_label_lacks_byte(nodes, start, labels)),
         (13, &|| words_from(nodes, start) >= TOO_MANY),
         (25, &|| node_count(nodes, start) > 1 << 22),
     ]);
@@ -64,12 +65,12 @@ pub fn to_lxd(
     )
 }
 
-fn reached_label_over_ff(nodes: &[u32], start: usize, labels: &[u32]) -> bool {
+fn reached_label_lacks_byte(nodes: &[u32], start: usize, labels: &[u32]) -> bool {
     let mut reached = reached_runs(nodes, start).into_iter();
     reached.any(|p| {
         run(nodes, p)
             .iter()
-            .any(|node| labels[usize::from(node.tile)] > 0xff)
+            .any(|node| byte_of(labels[usize::from(node.tile)]).is_none())
     })
 }
 
@@ -116,9 +117,14 @@ fn file_of(nodes: &[u32], start: usize, texts: &LxdTexts) -> Vec<u8> {
     file
 }
 
-// ISO/IEC 8859-1, zero-filled.
+// A file is written only where every code point of it has a byte.
+fn byte(code_point: u32) -> u8 {
+    byte_of(code_point).expect("20 and 23 are asked before")
+}
+
+// Zero-filled.
 fn field(text: &[u32], len: usize) -> Vec<u8> {
-    let bytes = text.iter().map(|&code_point| code_point as u8);
+    let bytes = text.iter().map(|&code_point| byte(code_point));
     bytes.chain(std::iter::repeat(0)).take(len).collect()
 }
 
@@ -145,7 +151,7 @@ impl Runs<'_> {
                 0 => 0,
                 arc => self.place(arc as usize),
             };
-            let letter = self.labels[usize::from(node.tile)];
+            let letter = u32::from(byte(self.labels[usize::from(node.tile)]));
             self.nodes[place + at] =
                 u32::from(node.end) << 31 | u32::from(node.accepts) << 30 | letter << 22 | child;
         }

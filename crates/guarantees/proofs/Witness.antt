@@ -25,7 +25,7 @@ use Rattle.pieces.specs.Pieces.{loadPieces, fedPieces, feedAll}
 use Rattle.numbers.specs.WordNumbers.{GraphLent, WordNumbers}
 use Rattle.export.specs.Starts.{deeper}
 use Rattle.export.specs.Blocks.{met, blockAt}
-use Rattle.latin1.specs.Latin1.{byteOf}
+use Rattle.windows1252.specs.Windows1252.{entries, byteOf}
 use Rattle.export.specs.Written.{Written}
 use Rattle.macondo_file.specs.Alphabet.{letters, letterOf}
 use Rattle.macondo_file.specs.File.{Format, dawg, gaddag, arcsOf, setOf, blocks, letterSets, blockOf, macondoNodes, macondoFile}
@@ -101,8 +101,15 @@ G-lent = record { nodes-are = refl; counts-are = refl }
 abbrev G-macondo : Format → Written
 G-macondo f = toMacondo G labels [] f 40 bytes
 
+-- a title and a letter over FF, with a byte in Windows-1252: the letters oe as one
+abbrev title : List ℕ
+title = 0x152 ∷ []
+
+abbrev lxdLabels : List ℕ
+lxdLabels = 0x3F ∷ 0x152 ∷ 0x42 ∷ []
+
 abbrev G-lxd : Written
-G-lxd = toLxd G labels (0x47 ∷ []) [] 40 bytes
+G-lxd = toLxd G lxdLabels title [] 40 bytes
 
 -- node 1's arc is 0, so the gaddag begins at node 0
 macondo-answers : (G-macondo dawg .answer ≡ gives (57 ∷ [])) × (G-macondo gaddag .answer ≡ gives (73 ∷ []))
@@ -111,7 +118,7 @@ unfolding toMacondo macondoRow firstOf largestArc lastEnds ascends deeper run in
 macondo-answers = (refl, refl)
 
 lxd-answer : G-lxd .answer ≡ gives (84 ∷ [])
-unfolding toLxd lxdRow firstOf largestArc lastEnds deeper run met blockAt runs child lxdNode lxdNodes lxdFile byteOf nodeBytes
+unfolding toLxd lxdRow firstOf largestArc lastEnds deeper run met blockAt runs child lxdNode lxdNodes lxdFile entries byteOf nodeBytes
     words wordsWithin inOrder spelled
 lxd-answer = refl
 
@@ -135,7 +142,7 @@ abbrev wordsOfGaddag : List Word
 wordsOfGaddag = (0 ∷ 1 ∷ []) ∷ (0 ∷ 1 ∷ 2 ∷ []) ∷ (0 ∷ 2 ∷ 2 ∷ []) ∷ []
 
 abbrev wordsOfLxd : List Word
-wordsOfLxd = (0x41 ∷ []) ∷ (0x41 ∷ 0x42 ∷ []) ∷ (0x42 ∷ 0x42 ∷ []) ∷ []
+wordsOfLxd = (0x152 ∷ []) ∷ (0x152 ∷ 0x42 ∷ []) ∷ (0x42 ∷ 0x42 ∷ []) ∷ []
 
 spelled-dawg : SpellsMacondo (take 57 (G-macondo dawg .bytes)) labels wordsOfDawg
 unfolding words wordsWithin inOrder spelled run
@@ -145,9 +152,9 @@ spelled-gaddag : SpellsMacondo (take 73 (G-macondo gaddag .bytes)) labels wordsO
 unfolding words wordsWithin inOrder spelled run
 spelled-gaddag = demand-3 countLimit .macondo G labels [] gaddag 40 bytes (take 73 (G-macondo gaddag .bytes)) gaddag-file .1
 
-spelled-lxd : SpellsLxd (take 84 (G-lxd .bytes)) wordsOfLxd
+spelled-lxd : SpellsLxd (take 84 (G-lxd .bytes)) title [] wordsOfLxd
 unfolding words wordsWithin inOrder spelled run
-spelled-lxd = demand-3 countLimit .lxd G labels (0x47 ∷ []) [] 40 bytes (take 84 (G-lxd .bytes)) lxd-file .1
+spelled-lxd = demand-3 countLimit .lxd G lxdLabels title [] 40 bytes (take 84 (G-lxd .bytes)) lxd-file .1
 
 -- every premise at once, with what it brings
 pub record Met : Type 0 where
@@ -160,7 +167,7 @@ pub record Met : Type 0 where
   pub gaddag-written : Wrote (G-macondo gaddag) (take 73 (G-macondo gaddag .bytes))
   pub gaddag-spelled : SpellsMacondo (take 73 (G-macondo gaddag .bytes)) labels wordsOfGaddag
   pub lxd-written : Wrote G-lxd (take 84 (G-lxd .bytes))
-  pub lxd-spelled : SpellsLxd (take 84 (G-lxd .bytes)) wordsOfLxd
+  pub lxd-spelled : SpellsLxd (take 84 (G-lxd .bytes)) title [] wordsOfLxd
 
 pub G-met : Met
 unfolding loadPieces fedPieces feedAll begin feed finish firstOf holding stateAfter nodesAfter wholeNodes partNode firstMisfit

@@ -71,8 +71,8 @@ pub record Demand3 (limit : ℕ) : Type 0 where
   pub macondo : (g : Graph) (labels name : List ℕ) (f : Format) (lentWork : ℕ) (lent file : List ℕ)
       → Wrote (toMacondo g labels name f lentWork lent) file
       → WordsAt g (startNode g (marks f .root)) × SpellsMacondo file labels (endingInLetters g f)
-  -- every LXD file, once written, spells exactly the words of its start node, renamed: as a list, in order; and its header says how many
-  -- nodes and words are read
+  -- every LXD file, once written, spells exactly the words of its start node, renamed: as a list, in order, in code points; and its header
+  -- has title and date, and says how many nodes and words are read
   pub lxd : (g : Graph) (labels title date : List ℕ) (lentWork : ℕ) (lent file : List ℕ)
       → Wrote (toLxd g labels title date lentWork lent) file
-      → WordsAt g (startNode g 0) × SpellsLxd file (wordsSpelled g labels)
+      → WordsAt g (startNode g 0) × SpellsLxd file title date (wordsSpelled g labels)

@@ -23,7 +23,7 @@ use Rattle.letters.specs.LetterBits.{letterBits, bitsWritten, tilesOf}
 use Rattle.letters.specs.AlphaSets.{copies, spent, acceptsAt, completes, closing, along, crossCopies, crossLetters, crossFrom, crossSet}
 use Rattle.pieces.specs.Pieces.{LoadOutcome, loadPieces, loadWhole, fedPieces, feedAll}
 use Rattle.export.specs.Blocks.{met, blockAt}
-use Rattle.latin1.specs.Latin1.{byteOf}
+use Rattle.windows1252.specs.Windows1252.{byteOf}
 use Rattle.macondo_file.specs.Alphabet.{letters, letterOf}
 use Rattle.macondo_file.specs.File.{dawg, arcsOf, setOf, blocks, letterSets, blockOf, macondoNodes}
 use Rattle.lxd_file.specs.File.{runs, child, lxdNode, lxdNodes}

@@ -7,7 +7,7 @@ use lib.ListN.{length, getD, set, drop, replicate, length-map, List·getD-map, L
 use lib.Seq.{sets, getD-take}
 use Rattle.laws.specs.ListWrites.{sets-append, sets-next}
 use Rattle.endian.specs.Bytes.{toBytes}
-use Rattle.latin1.specs.Latin1.{byteOf, byteWritten}
+use Rattle.windows1252.specs.Windows1252.{byteOf, byteWritten}
 use Rattle.lxd_file.specs.File.{field, header}
 use Rattle.lxd_file.specs.FileLaws.{length-field}
 

@@ -25,7 +25,7 @@ use Rattle.graph.specs.ChecksLaws.{Fit, start-inside}
 use Rattle.export.specs.Starts.{arcsFrom, unlabelled}
 use Rattle.export.specs.Blocks.{met, total}
 use Rattle.export.specs.WrittenLaws.{refused-by, accepted-by}
-use Rattle.latin1.specs.Latin1.{byteOf, noByte}
+use Rattle.windows1252.specs.Windows1252.{byteOf, noByte}
 use Rattle.survey.specs.Survey.{byteless, bytelessWithin, Surveys, SurveyIs}
 use Rattle.survey.specs.ReachLaws.{survey-byteless, survey-many, survey-count}
 use Rattle.survey.specs.declared.Findings.{Findings}

@@ -12,7 +12,7 @@ use Rattle.graph.specs.Words.{count}
 use Rattle.graph.specs.ChecksLaws.{Fit}
 use Rattle.base.specs.Numbers.{most}
 use Rattle.export.specs.Starts.{unlabelled, deeper}
-use Rattle.latin1.specs.Latin1.{noByte}
+use Rattle.windows1252.specs.Windows1252.{noByte}
 use Rattle.block_record.specs.declared.BlockTally.{BlockTally}
 use Rattle.lxd_file.specs.File.{runs, reached}
 use Rattle.lxd_blocks.specs.RunsNumbered.{RunsHeld}

@@ -4,13 +4,13 @@ ghost use mathlib.Core.Option.{none};
 ghost use Rattle.laws.specs.Lists.{someOf};
 ghost use Rattle.answers.specs.Answers.{firstOf};
 ghost use Rattle.graph.specs.Checks.{graphRow};
-ghost use Rattle.latin1.specs.Latin1.{noByte};
+ghost use Rattle.windows1252.specs.Windows1252.{noByte};
 ghost use Rattle.lxd_file.specs.Row.{lxdChecks};
 ghost use Rattle.lxd.specs.Said.{checkedRefusal};
 use crate::Lxd;
 use export::lacks_label;
 use graph::GraphCheck;
-use latin1::no_byte;
+use windows1252::no_byte;
 
 pub(crate) enum LxdChecked {
     Passed,
@@ -44,13 +44,13 @@ fn check_lists(
         ≡ firstOf (lxdChecks (now (nodes .entry)) (now (labels .entry)) (now (title .entry)) (now (date .entry)) «lent_work») ⌝ }
 {
     if lacks_byte(title) {
-        return LxdChecked::Refused(Lxd::TitleNotLatin1);
+        return LxdChecked::Refused(Lxd::TitleNotWindows1252);
     }
     if 31 < title.len() {
         return LxdChecked::Refused(Lxd::TitleTooLong);
     }
     if lacks_byte(date) {
-        return LxdChecked::Refused(Lxd::DateNotLatin1);
+        return LxdChecked::Refused(Lxd::DateNotWindows1252);
     }
     if 19 < date.len() {
         return LxdChecked::Refused(Lxd::DateTooLong);

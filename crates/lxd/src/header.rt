@@ -4,10 +4,10 @@ ghost use mathlib.Core.List.{map};
 ghost use Prim.Native.Nat.{_+_, _≤_};
 ghost use lib.ListN.{length, getD};
 ghost use lib.Seq.{sets};
-ghost use Rattle.latin1.specs.Latin1.{byteWritten};
+ghost use Rattle.windows1252.specs.Windows1252.{byteWritten};
 ghost use Rattle.lxd_file.specs.File.{field, header};
 use endian::write_le_u32;
-use latin1::byte_of;
+use windows1252::byte_of;
 
 // The byte of a text at place i, 0 past its end.
 fn text_byte(text: &[u32], i: usize) -> u8

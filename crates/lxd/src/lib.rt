@@ -34,14 +34,14 @@ pub enum Lxd {
     WrongSize,
     ArcPastEnd(u32),
     NoEnd,
-    TitleNotLatin1,
+    TitleNotWindows1252,
     TitleTooLong,
-    DateNotLatin1,
+    DateNotWindows1252,
     DateTooLong,
     NoLabel,
     WorkTooShort,
     ChainTooLong,
-    LetterNotLatin1,
+    LetterNotWindows1252,
     TooManyWords,
     TooManyNodes,
     FileTooShort,
@@ -151,7 +151,7 @@ fn write_checked(
             return Lxd::ChainTooLong;
         };
         if found.byteless {
-            return Lxd::LetterNotLatin1;
+            return Lxd::LetterNotWindows1252;
         }
     }
     write_numbered(nodes, labels, title, date, work, file)

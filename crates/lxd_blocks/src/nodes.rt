@@ -12,8 +12,8 @@ use base::bit;
 use block_record::Place;
 use block_record::place_of;
 use endian::write_le_u32;
-use latin1::byte_of;
 use node::Node24;
+use windows1252::byte_of;
 
 // A node of the file; the child's place must have no more than 22 bits.
 fn pack_lxd(letter: u8, accepts: bool, is_end: bool, child: u32) -> u32

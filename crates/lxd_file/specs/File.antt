@@ -11,7 +11,7 @@ use Rattle.graph.specs.Runs.{Graph, startNode}
 use Rattle.graph.specs.Words.{count}
 use Rattle.export.specs.Starts.{runOf, arcsFrom}
 use Rattle.export.specs.Blocks.{met, blockAt}
-use Rattle.latin1.specs.Latin1.{byteWritten}
+use Rattle.windows1252.specs.Windows1252.{byteWritten}
 
 -- "Node: end bit 31, accepts 30, letter 22–29, child 0–21."
 abbrev pub LXD : BitLayout
@@ -24,11 +24,15 @@ LXD =
       upward = Arc ∷ Tile ∷ Accepts ∷ End ∷ [];
     }
 
--- a text in a field of so many bytes, "zero-filled"
-abbrev pub field : ℕ → List ℕ → List ℕ
-field size text = take size (map byteWritten text ++ replicate size 0)
+-- "zero-filled", to so many places
+abbrev pub filled : ℕ → List ℕ → List ℕ
+filled size l = take size (l ++ replicate size 0)
 
--- "Letters .. are ISO/IEC 8859-1": the byte of a tile's label
+-- a text in a field of so many bytes
+abbrev pub field : ℕ → List ℕ → List ℕ
+field size text = filled size (map byteWritten text)
+
+-- "Letters, title and date are to follow the .. CP1252 table" (document 02, C-15): the byte of a tile's label
 abbrev pub letter : List ℕ → ℕ → ℕ
 letter labels t = byteWritten (getD labels t 0)
 

@@ -13,7 +13,7 @@ use Rattle.node.specs.Nodes.{KBWG, tile, arc, accepts, isEnd}
 use Rattle.graph.specs.Runs.{Graph, startNode}
 use Rattle.graph.specs.Words.{count}
 use Rattle.lxd_file.specs.File.{child, letter, lxdNode, lxdNodes, reached}
-use Rattle.latin1.specs.Latin1Laws.{byte-below}
+use Rattle.windows1252.specs.Windows1252Laws.{byte-below}
 use Rattle.lxd_file.specs.PackedLaws.{Fields, packed-fields}
 use Rattle.lxd_file.specs.RowLaws.{LxdAccepted}
 use Rattle.lxd_file.specs.RunsLaws.{child-within}
@@ -52,13 +52,11 @@ module _ (g : Graph) (labels : List ℕ) where
       child-below : child g (arc KBWG v) < 2 ^ 22
       child-below = let h = child-within g (ok .sound) (ok .ended) v m in let r = ok .room in omega arith
 
-      pub node-fields : Fields (lxdNode g labels v) (getD labels (tile KBWG v) 0) (accepts KBWG v) (isEnd KBWG v) (child g (arc KBWG v))
+      pub node-fields : Fields (lxdNode g labels v) (letter labels (tile KBWG v)) (accepts KBWG v) (isEnd KBWG v) (child g (arc KBWG v))
       unfolding lxdNode
       node-fields =
-          subst (λ t. Fields (lxdNode g labels v) t (accepts KBWG v) (isEnd KBWG v) (child g (arc KBWG v)))
-          (ok .bytes v m)
-          (packed-fields (letter labels (tile KBWG v)) (accepts KBWG v) (isEnd KBWG v) (child g (arc KBWG v))
-          (byte-below (getD labels (tile KBWG v) 0)) child-below)
+          packed-fields (letter labels (tile KBWG v)) (accepts KBWG v) (isEnd KBWG v) (child g (arc KBWG v))
+          (byte-below (getD labels (tile KBWG v) 0)) child-below
 
     -- ---- all of them
     copies-below : (v : ℕ) → List·Memᴰ v (map (lxdNode g labels) (reached g)) → v < 2 ^ 32

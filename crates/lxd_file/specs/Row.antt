@@ -1,4 +1,5 @@
--- The row "LXD" of "Where each check stands" in document 01, and what the call answers and writes.
+-- The row "LXD" of "Where each check stands" in document 01, and what the call answers and writes. "20 and 23 keep their places and now mean a
+-- code point without a byte in this table" (document 02, C-15).
 use mathlib.Core.List.{List, [], _∷_, _++_}
 use Prim.Native.Nat.{ℕ, _+_, _*_, _^_}
 use lib.Dec.{ltb, leb}
@@ -11,7 +12,7 @@ use Rattle.graph.specs.Words.{count}
 use Rattle.graph.specs.Checks.{graphRow}
 use Rattle.base.specs.Numbers.{most}
 use Rattle.export.specs.Starts.{unlabelled, deeper}
-use Rattle.latin1.specs.Latin1.{noByte}
+use Rattle.windows1252.specs.Windows1252.{noByte}
 use Rattle.export.specs.Written.{Written, written}
 use Rattle.lxd_file.specs.File.{reached, lxdFile}
 

@@ -13,7 +13,7 @@ use Rattle.graph.specs.Runs.{Graph, node}
 use Rattle.graph.specs.Words.{wordsWithin}
 use Rattle.graph.specs.ChecksLaws.{Fit}
 use Rattle.export.specs.Starts.{runOf, hasArc, unlabelled, deeper}
-use Rattle.latin1.specs.Latin1.{noByte}
+use Rattle.windows1252.specs.Windows1252.{noByte}
 use Rattle.survey.specs.RunCounted.{RunCounted}
 use Rattle.survey.specs.declared.Findings.{Findings}
 use Rattle.survey.specs.declared.Surveyed.{Surveyed}
@@ -23,7 +23,7 @@ use Rattle.survey.specs.declared.Surveyed.the-variants.{Shallow, TooDeep
 abbrev pub byteless : List ℕ → ℕ → Bool
 byteless labels v = noByte (getD labels (tile KBWG v) 0)
 
--- "23 reached label over FF": one at a node of p's run, or of one within k runs in a chain from p
+-- 23, "a code point without a byte in this table" (document 02, C-15): a label at a node of p's run, or of one within k runs in a chain from p
 unfoldable pub bytelessWithin : Graph → List ℕ → ℕ → ℕ → Bool
 bytelessWithin g labels zero p = false
 bytelessWithin g labels (suc k) p = someOf (λ v. byteless labels v || (hasArc v && bytelessWithin g labels k (arc KBWG v))) (runOf g p)

@@ -11,7 +11,7 @@ ghost use lib.ListN.{length};
 ghost use Rattle.base.specs.Numbers.{most};
 ghost use Rattle.node.specs.Nodes.{KBWG, tile, arc};
 ghost use Rattle.graph.specs.ChecksLaws.{Fit};
-ghost use Rattle.latin1.specs.Latin1.{noByte};
+ghost use Rattle.windows1252.specs.Windows1252.{noByte};
 ghost use Rattle.export.specs.Starts.{hasArc, unlabelled};
 ghost use Rattle.survey.specs.Survey.{noRun, nodeJoined, findingsAt, findingsKept, findingsAfter, ifShallow};
 ghost use Rattle.survey.specs.Survey.{LastIs, SurveyTables, SurveyAnswers, SurveyIs};
@@ -19,8 +19,8 @@ use base::bit;
 use base::capped_sum;
 use base::clear;
 use base::larger;
-use latin1::no_byte;
 use node::Node24;
+use windows1252::no_byte;
 
 // What is known of a run: the runs in the longest chain from it, itself included, its words (at most 4,294,967,295), and whether a label
 // that can be reached has no byte.

@@ -11,11 +11,11 @@ pub const NO_END: u64 = 9;
 pub const LOOP: u64 = 12;
 pub const TOO_MANY: u64 = 13;
 // Of a writer: the labels are none or too many; a name, a title or a date is
-// too long; a title or a date has a code point over FF hexadecimal; a label is
-// not one code point, or for LXD over FF.
+// too long; a title or a date has a code point without a byte in Windows-1252; a
+// label is not one code point, or for LXD has no byte.
 pub const LABEL_COUNT: u64 = 18;
 pub const TOO_LONG: u64 = 19;
-pub const NOT_LATIN_1: u64 = 20;
+pub const NOT_WINDOWS_1252: u64 = 20;
 pub const NOT_ONE_CODE_POINT: u64 = 23;
 // Of a page: a tile has no label; a title or a label is not printable.
 pub const NO_LABEL: u64 = 21;

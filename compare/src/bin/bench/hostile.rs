@@ -6,6 +6,7 @@ use compare::graphs::loops::{self, BACK, Shape, in_order};
 use compare::graphs::without_words;
 use compare::lexicon::node;
 use compare::random::Random;
+use compare::windows1252::gained;
 use machirsun::Format;
 
 const TILES: u32 = 40;
@@ -42,6 +43,11 @@ pub fn print() {
         "LXD, runs entered everywhere",
         [1_000, 2_000, 4_000].map(entered_runs),
         lxd,
+    );
+    grows(
+        "LXD, the same under letters that ISO/IEC 8859-1 lacks",
+        [1_000, 2_000, 4_000].map(entered_runs),
+        lxd_of_the_table,
     );
     grows(
         "Macondo, 15k, 30k, 60k letter sets",
@@ -109,7 +115,22 @@ fn macondo(nodes: &[u32], lent: &mut Lent) {
 }
 
 fn lxd(nodes: &[u32], lent: &mut Lent) {
-    machirsun::to_lxd(nodes, &labels(), &[], &[], &mut lent.work, &mut lent.file)
+    lxd_under(&labels(), nodes, lent);
+}
+
+fn lxd_of_the_table(nodes: &[u32], lent: &mut Lent) {
+    let gained: Vec<u32> = gained().collect();
+    let labels: Vec<u32> = gained
+        .iter()
+        .cycle()
+        .take(labels().len())
+        .copied()
+        .collect();
+    lxd_under(&labels, nodes, lent);
+}
+
+fn lxd_under(labels: &[u32], nodes: &[u32], lent: &mut Lent) {
+    machirsun::to_lxd(nodes, labels, &[], &[], &mut lent.work, &mut lent.file)
         .expect("the file is written");
 }
 

@@ -3,7 +3,7 @@ use mathlib.Core.Path.{_≡_, ap, _∙_}
 use mathlib.Core.Bool.{_||_}
 use Prim.Native.Nat.{ℕ, _+_, min}
 use lib.ListN.{getD}
-use Rattle.latin1.specs.Latin1.{noByte}
+use Rattle.windows1252.specs.Windows1252.{noByte}
 use borrow.Author.Needs.{needs}
 use Rattle.base.specs.Numbers.{flag, most}
 use Rattle.node.specs.Nodes.{KBWG, accepts}

@@ -12,12 +12,14 @@ use super::super::samples::{doubled_chain, every_pair, head, long_chains};
 use super::LXD;
 use crate::random::Random;
 use crate::requests::Requests;
+use crate::windows1252::{LOST, byte_of, for_the_original, gained};
 
 const MOST_LABELS: usize = 64;
 const LONGEST_TITLE: usize = 31;
 const LONGEST_DATE: usize = 19;
 const LONGEST_CHAIN: usize = 64;
-const LAST_CODE_POINT: u32 = 0xff;
+const LAST_BYTE: u32 = 0xff;
+const NO_BYTE: u32 = 0x100;
 
 pub fn requests(requests: &mut Requests) {
     requests.comment("call 15: an LXD file");
@@ -58,7 +60,7 @@ fn is_asked(nodes: &[Fields], labels: &[u32], title: &[u32], date: &[u32]) -> bo
 }
 
 fn is_refused(text: &[u32], longest: usize) -> bool {
-    text.len() > longest || text.iter().any(|&point| point > LAST_CODE_POINT)
+    text.len() > longest || text.iter().any(|&point| byte_of(point).is_none())
 }
 
 // How many words there are from a node. The chain of runs is not too long.
@@ -106,8 +108,8 @@ fn every_graph_of_two_nodes(requests: &mut Requests) {
     }
 }
 
-// Titles and dates of every length about the longest, and of code points about
-// the last; each good and bad title with each good and bad date.
+// Titles and dates of every length about the longest, and of code points with
+// and without a byte; each good and bad title with each good and bad date.
 fn texts(requests: &mut Requests) {
     let three = letters_up(3);
     for len in [0, 1, 2, 18, 19, 20, 21, 30, 31, 32, 33, 100] {
@@ -115,31 +117,46 @@ fn texts(requests: &mut Requests) {
         ask(requests, &sample(), &three, text, &[]);
         ask(requests, &sample(), &three, &[], text);
         ask(requests, &sample(), &three, text, text);
-        let wide = &vec![LAST_CODE_POINT; len];
+        let wide = &vec![LAST_BYTE; len];
         ask(requests, &empty(), &three, wide, wide);
     }
     for point in [0, 1, 0xa, 0x20, 0x7e, 0x7f]
         .into_iter()
         .chain(0x80..=0x101)
+        .chain(gained())
     {
-        ask(requests, &empty(), &three, &[0x54, point], &[point]);
+        ask(requests, &empty(), &three, &[0x54, point], &[]);
+        ask(requests, &empty(), &three, &[], &[point]);
     }
+    ask(
+        requests,
+        &sample(),
+        &three,
+        &points("Œuvre, cœur"),
+        &points("1er août"),
+    );
     for point in [0x17f, 0x3ff, 0xd7ff, 0xe000, 0xffff, 0x10000, 0x10ffff] {
         ask(requests, &empty(), &three, &[point], &[]);
         ask(requests, &empty(), &three, &[], &[0x31, point]);
     }
     let kinds = |longest: usize| {
         let long = vec![0x41; longest + 1];
-        let last = [long.clone(), vec![LAST_CODE_POINT + 1]].concat();
-        let first = [vec![LAST_CODE_POINT + 1], long.clone()].concat();
-        [vec![0x41], long, vec![LAST_CODE_POINT + 1], last, first]
+        let last = [long.clone(), vec![NO_BYTE]].concat();
+        let first = [vec![NO_BYTE], long.clone()].concat();
+        [vec![0x41], long, vec![NO_BYTE], last, first]
     };
     for title in kinds(LONGEST_TITLE) {
         for date in kinds(LONGEST_DATE) {
             ask(requests, &sample(), &three, &title, &date);
             // The same of a graph, and of labels, that are refused later.
             ask(requests, &looping(), &letters_up(1), &title, &date);
-            ask(requests, &sample(), &[0x3f, 0x100, 0x100], &title, &date);
+            ask(
+                requests,
+                &sample(),
+                &[0x3f, NO_BYTE, NO_BYTE],
+                &title,
+                &date,
+            );
         }
     }
 }
@@ -168,7 +185,7 @@ fn four_tiles(start: i32) -> Vec<Fields> {
     ]
 }
 
-// Labels that are one byte and that are not, reached and not.
+// Labels with a byte and without, reached and not.
 fn labels(requests: &mut Requests) {
     let edges = [
         0,
@@ -185,9 +202,14 @@ fn labels(requests: &mut Requests) {
         0xff,
         0x100,
         0x101,
+        0x152,
+        0x153,
+        0x178,
         0x17f,
         0x1ff,
         0x3ff,
+        0x20ac,
+        0x2122,
         0xd7ff,
         0xd800,
         0xdfff,
@@ -206,11 +228,12 @@ fn labels(requests: &mut Requests) {
             }
         }
     }
-    // A run of every tile, under every label of one byte; up, and down.
-    let latin: Vec<u32> = (0x21..=LAST_CODE_POINT)
-        .filter(|&point| is_label(point))
-        .collect();
-    for labels in latin.chunks(MOST_LABELS) {
+    // Each code point that has lost its byte, or gained one.
+    for label in LOST.chain(gained()).filter(|&label| is_label(label)) {
+        ask(requests, &sample(), &[0x3f, label, 0x42], &[], &[]);
+    }
+    // A run of every tile, under every label with a byte; up, and down.
+    for labels in labels_with_a_byte().chunks(MOST_LABELS) {
         let down: Vec<u32> = labels.iter().rev().copied().collect();
         ask(requests, &one_run(labels.len(), false), labels, &[], &[]);
         ask(requests, &one_run(labels.len(), true), &down, &[], &[]);
@@ -224,7 +247,14 @@ fn labels(requests: &mut Requests) {
 
 // White space cannot be a label of the Rust's.
 fn is_label(point: u32) -> bool {
-    char::from_u32(point).is_some_and(|c| !c.is_whitespace())
+    char::from_u32(for_the_original(point)).is_some_and(|c| !c.is_whitespace())
+}
+
+fn labels_with_a_byte() -> Vec<u32> {
+    (0x21..=LAST_BYTE)
+        .chain(gained())
+        .filter(|&point| byte_of(point).is_some() && is_label(point))
+        .collect()
 }
 
 // Each of so many tiles in one run, upwards or downwards.
@@ -238,19 +268,17 @@ fn one_run(tiles: usize, down: bool) -> Vec<Fields> {
     [head(1)].into_iter().chain(run).collect()
 }
 
-// Labels of one byte for every tile of the nodes, and some more. Of some
-// alphabets one label is not of one byte.
+// Labels with a byte for every tile of the nodes, and some more. Of some
+// alphabets one label has none.
 fn labels_for(random: &mut Random, nodes: &[Fields]) -> Vec<u32> {
     let tiles = nodes.iter().map(|node| usize::from(node.tile) + 1).max();
     let count = (tiles.unwrap_or(1) + random.within(0, 3) as usize).min(MOST_LABELS);
-    let mut labels = Vec::new();
-    while labels.len() < count {
-        let point = random.within(0x21, u64::from(LAST_CODE_POINT) + 1) as u32;
-        labels.extend([point].into_iter().filter(|&point| is_label(point)));
-    }
+    let all = labels_with_a_byte();
+    let mut labels: Vec<u32> = (0..count).map(|_| random.pick(&all)).collect();
     if random.within(0, 6) == 0 {
         let place = random.within(0, count as u64) as usize;
-        labels[place] = random.within(0x100, 0x1000) as u32;
+        let without = [0x80, 0x81, 0x9f, 0x100, 0x151, 0x17f, 0x3ff, 0x2027, 0x2123];
+        labels[place] = random.pick(&without);
     }
     labels
 }

@@ -12,7 +12,7 @@ use Rattle.laws.specs.Lists.{someOf}
 use Rattle.answers.specs.Answers.{firstOf}
 use Rattle.graph.specs.ChecksLaws.{fit}
 use Rattle.export.specs.Starts.{unlabelled}
-use Rattle.latin1.specs.Latin1.{noByte}
+use Rattle.windows1252.specs.Windows1252.{noByte}
 use Rattle.answers.specs.RowLaws.{StopsAt, answerAt}
 use Rattle.lxd.proofs.ListsRow.{row, listsRow, lists-refuse, lists-pass}
 use borrow.Author.Needs.{needs}

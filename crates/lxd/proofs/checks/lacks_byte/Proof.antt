@@ -3,7 +3,7 @@ use borrow.Author.Needs.{needs}
 use Prim.Native.Nat.{_-_}
 use lib.ListN.{length}
 use Rattle.laws.specs.Searching.{Searching, Tested, search-begins, search-finds, search-passes, search-ends}
-use Rattle.latin1.specs.Latin1.{noByte}
+use Rattle.windows1252.specs.Windows1252.{noByte}
 use Rattle.lxd.proofs.checks.lacks_byte.Statement.{statement}
 use Rattle.lxd.proofs.checks.lacks_byte.Tie as tie
 

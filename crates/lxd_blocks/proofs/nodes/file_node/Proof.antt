@@ -3,7 +3,7 @@ use mathlib.Core.Path.{_≡_, sym, ap, _∙_, subst}
 use Prim.Native.Nat.{ℕ, _^_, _<_}
 use lib.ListN.{getD}
 use Rattle.node.specs.Nodes.{KBWG, tile, arc}
-use Rattle.latin1.specs.Latin1.{byteWritten}
+use Rattle.windows1252.specs.Windows1252.{byteWritten}
 use Rattle.lxd_blocks.specs.Placed.{childIn}
 use Rattle.lxd_blocks.proofs.PlacedLaws.{node-packed}
 use borrow.Author.Needs.{needs}

@@ -1,3 +1,0 @@
-pub mod Latin1
-pub mod Latin1Laws
-pub mod Encoded
