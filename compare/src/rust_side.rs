@@ -340,12 +340,11 @@ pub fn to_lxd(
     texts: &LxdTexts,
 ) -> Option<Answered<Vec<u8>>> {
     let text = |code_points: &[u32]| -> Option<String> {
-        let asked = code_points.iter().map(|&c| for_the_original(c));
+        let asked = for_the_original(code_points).into_iter();
         asked.map(char::from_u32).collect()
     };
     let (title, date) = (text(&texts.title)?, text(&texts.date)?);
-    let labels: Vec<u32> = texts.labels.iter().map(|&c| for_the_original(c)).collect();
-    let alphabet = alphabets.of(&labels)?;
+    let alphabet = alphabets.of(&for_the_original(&texts.labels))?;
     Some(guarded(|| {
         let file = lexport::to_lxd(graph, alphabet, &title, &date);
         file.map(|file| file.into_vec())

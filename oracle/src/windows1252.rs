@@ -10,12 +10,12 @@ const ROWS: [&str; 4] = ["€ ‚ƒ„…†‡", "ˆ‰Š‹Œ Ž ", " ‘’�
 /// The code points that have lost their byte of ISO/IEC 8859-1.
 pub const LOST: RangeInclusive<u32> = 0x80..=0x9f;
 
-fn entries() -> impl Iterator<Item = u32> {
+fn entries() -> impl Iterator<Item = u32> + Clone {
     ROWS.iter().flat_map(|row| row.chars()).map(u32::from)
 }
 
 /// The code points that have gained a byte.
-pub fn gained() -> impl Iterator<Item = u32> {
+pub fn gained() -> impl Iterator<Item = u32> + Clone {
     entries().filter(|&entry| entry != u32::from(' '))
 }
 
@@ -28,13 +28,14 @@ pub fn byte_of(code_point: u32) -> Option<u8> {
     }
 }
 
-/// What the original is asked with in the place of a code point, so that it
-/// writes the same byte: the byte's number. One that has lost its byte is one
-/// that the original refuses, and any other stays.
-pub fn for_the_original(code_point: u32) -> u32 {
-    match byte_of(code_point) {
+/// What the original is asked with in the place of these code points, so that
+/// it writes the same bytes: each byte's number. One that has lost its byte is
+/// one that the original refuses, and any other stays.
+pub fn for_the_original(code_points: &[u32]) -> Vec<u32> {
+    let asked = |&code_point: &u32| match byte_of(code_point) {
         Some(byte) => byte.into(),
         None if LOST.contains(&code_point) => 0x100,
         None => code_point,
-    }
+    };
+    code_points.iter().map(asked).collect()
 }

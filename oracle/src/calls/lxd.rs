@@ -27,24 +27,20 @@ fn answer(_call: u64, inputs: &mut Inputs) -> Result<Case, Unreadable> {
     let date = inputs.words()?;
     inputs.end()?;
     let head = [labels.len() as u32, title.len() as u32, date.len() as u32];
-    let answer = written(&words, &labels, &title, &date)?;
+    let answer = written(
+        &words,
+        &for_the_original(&labels),
+        &text(&for_the_original(&title))?,
+        &text(&for_the_original(&date))?,
+    )?;
     let words = [&head, &labels[..], &title, &date, &words].concat();
     Ok(Case::of_words(words, answer))
 }
 
-fn written(
-    words: &[u32],
-    labels: &[u32],
-    title: &[u32],
-    date: &[u32],
-) -> Result<Vec<u64>, Unreadable> {
+fn written(words: &[u32], labels: &[u32], title: &str, date: &str) -> Result<Vec<u64>, Unreadable> {
     let graph = kwg_of(words);
-    let labels: Vec<u32> = labels
-        .iter()
-        .map(|&label| for_the_original(label))
-        .collect();
-    let alphabet = alphabet_of(&labels)?.ok_or("the Rust makes no alphabet of these labels")?;
-    match to_lxd(&graph, &alphabet, &text(title)?, &text(date)?) {
+    let alphabet = alphabet_of(labels)?.ok_or("the Rust makes no alphabet of these labels")?;
+    match to_lxd(&graph, &alphabet, title, date) {
         Ok(bytes) => Ok(file(&bytes)),
         Err(refusal) => match refusal.to_string().as_str() {
             "unsupported title" | "unsupported date" => Ok(no_file(NOT_WINDOWS_1252)),
@@ -59,8 +55,6 @@ fn written(
 fn text(numbers: &[u32]) -> Result<String, Unreadable> {
     numbers
         .iter()
-        .map(|&number| {
-            char::from_u32(for_the_original(number)).ok_or(format!("{number} is no code point"))
-        })
+        .map(|&number| char::from_u32(number).ok_or(format!("{number} is no code point")))
         .collect()
 }

@@ -119,13 +119,7 @@ fn lxd(nodes: &[u32], lent: &mut Lent) {
 }
 
 fn lxd_of_the_table(nodes: &[u32], lent: &mut Lent) {
-    let gained: Vec<u32> = gained().collect();
-    let labels: Vec<u32> = gained
-        .iter()
-        .cycle()
-        .take(labels().len())
-        .copied()
-        .collect();
+    let labels: Vec<u32> = gained().cycle().take(labels().len()).collect();
     lxd_under(&labels, nodes, lent);
 }
 

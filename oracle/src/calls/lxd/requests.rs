@@ -247,7 +247,8 @@ fn labels(requests: &mut Requests) {
 
 // White space cannot be a label of the Rust's.
 fn is_label(point: u32) -> bool {
-    char::from_u32(for_the_original(point)).is_some_and(|c| !c.is_whitespace())
+    let asked = for_the_original(&[point])[0];
+    char::from_u32(asked).is_some_and(|c| !c.is_whitespace())
 }
 
 fn labels_with_a_byte() -> Vec<u32> {
