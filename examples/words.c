@@ -1,5 +1,5 @@
-/* Loads a lexicon in pieces, looks a word up, names a number, reads words as viewers type them and shows the page of words from that number
- * on: words FILE WORD NUMBER. Its letters are A to Z, tiles 1 to 26. */
+/* Loads a lexicon in pieces, looks a word up, says how many words begin before its first letter, names a number, reads words as viewers type
+ * them and shows the page of words from that number on: words FILE WORD NUMBER. Its letters are A to Z, tiles 1 to 26. */
 #include <stdio.h>
 #include <stdlib.h>
 #include <string.h>
@@ -102,6 +102,20 @@ static int look_up(const uint32_t *nodes, const uint32_t *counts, size_t n, cons
         printf("%s is word %u\n", word, index.number);
     else
         printf("%s is no word\n", word);
+    return 0;
+}
+
+/* Says how many words begin before a letter, in nodes that are counted. */
+static int count_before(const uint32_t *nodes, const uint32_t *counts, size_t n, char letter, uint8_t tile)
+{
+    machirsun_sought sought = machirsun_seek(nodes, n, counts, n, 0, tile);
+
+    if (sought.refusal != 0)
+        return refused("seek", sought.refusal);
+    if (sought.found)
+        printf("%u words begin before %c\n", sought.before, letter);
+    else
+        printf("no word begins with %c\n", letter);
     return 0;
 }
 
@@ -244,6 +258,8 @@ int main(int argc, char **argv)
         return refused("count_words", counted.refusal);
     printf("%zu nodes, %u words\n", n, counts[nodes[0] >> 8]);
     status = look_up(nodes, counts, n, argv[2], tiles, letters);
+    if (status == 0 && letters > 0)
+        status = count_before(nodes, counts, n, argv[2][0], tiles[0]);
     if (status == 0)
         status = name(nodes, counts, n, number);
     if (status == 0)

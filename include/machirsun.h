@@ -59,7 +59,7 @@ extern "C" {
  *  14   a step leads to a node or a count that is not lent                             seek, cursor_at, cursor_step, word_index,
  *                                                                                      word_by_index, accepts_alpha, alpha_cross_set,
  *                                                                                      write_page
- *  15   a difference is below 0, or a sum above 4,294,967,295: the counts are not      word_index, word_by_index, write_page
+ *  15   a difference is below 0, or a sum above 4,294,967,295: the counts are not      seek, word_index, word_by_index, write_page
  *       the graph's
  *  16   the word buffer is full; read_words: tiles or sizes has no more room           word_by_index, next_word, read_words
  *  17   the tally has over 64 entries                                                  accepts_alpha, alpha_cross_set
@@ -217,10 +217,14 @@ typedef struct machirsun_sought {
     uint32_t refusal;
     bool found;
     uint32_t place;
+    uint32_t before;
 } machirsun_sought;
 
-/* The first node with the tile in the run that the arc of the node at a place leads to. */
-machirsun_sought machirsun_seek(const uint32_t *nodes, size_t nodes_len, uint32_t place, uint8_t tile);
+/* The first node with the tile in the run that the arc of the node at a place leads to, and how many words of the run come before it: the
+ * run's first count less that of the node found. With the graph's own counts, where runs ascend, these are the words of the run that begin
+ * below the tile. Counts are read only for a tile that is found. */
+machirsun_sought machirsun_seek(const uint32_t *nodes, size_t nodes_len, const uint32_t *counts, size_t counts_len, uint32_t place,
+                                uint8_t tile);
 
 typedef struct machirsun_cursor {
     uint32_t refusal;

@@ -13,6 +13,8 @@ pub struct Answer {
     pub flag: bool,
     /// The one number that the call answers: nodes, a place, tiles, a set, bytes written.
     pub value: u64,
+    /// The words of a run before the node found.
+    pub before: u64,
     /// Of a text that is read: the line or the place that a refusal carries, where the line read starts and ends, the place after its
     /// ending, and how many words were read.
     pub bad: u64,

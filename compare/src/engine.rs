@@ -144,9 +144,21 @@ pub fn count_words(nodes: &[u32], counts: &mut [u32], work: &mut [u32]) -> Answe
     misfit(r.refusal, r.node as usize, 0, r.arc)
 }
 
-pub fn seek(nodes: &[u32], place: u32, tile: u8) -> Answer {
-    let r = unsafe { ffi::machirsun_seek(nodes.as_ptr(), nodes.len(), place, tile) };
-    flagged(r.refusal, r.found, r.place.into())
+pub fn seek(nodes: &[u32], counts: &[u32], place: u32, tile: u8) -> Answer {
+    let r = unsafe {
+        ffi::machirsun_seek(
+            nodes.as_ptr(),
+            nodes.len(),
+            counts.as_ptr(),
+            counts.len(),
+            place,
+            tile,
+        )
+    };
+    Answer {
+        before: r.before.into(),
+        ..flagged(r.refusal, r.found, r.place.into())
+    }
 }
 
 pub fn cursor_at(nodes: &[u32], at: u32) -> Answer {

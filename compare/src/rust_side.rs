@@ -2,7 +2,8 @@
 //!
 //! It is asked in this process. What it cannot survive is decided beforehand: `recounting` bounds the work of its counter, which counts
 //! nodes without words again and again, and the program's thread has a stack that its deepest recursion fits. A panic is caught; as
-//! none is to be expected where it is asked, it comes out as the refusal `PANICKED`, which no other answer equals.
+//! none is to be expected where it is asked, it comes out as the refusal `PANICKED`, which no other answer equals. It is left out where
+//! `get_word_index` reads a count that is not lent for a tile that is not found.
 
 pub mod typed;
 
@@ -181,8 +182,17 @@ pub fn count_words(graph: &Graph) -> Answered<Vec<u32>> {
     })
 }
 
-pub fn seek(graph: &Graph, place: u32, tile: u8) -> Answered<Option<u32>> {
-    guarded(|| Ok(u32::try_from(graph.seek(place as i32, tile)).ok()))
+pub fn seek(graph: &Graph, counts: &[u32], place: u32, tile: u8) -> Answered<Option<(u32, u32)>> {
+    guarded(|| Ok(sought(graph, counts, place, tile)))
+}
+
+/// The Rust's `seek` takes no counts: the words before the node are the difference that its `get_word_index` takes at a tile.
+#[inline(always)]
+pub fn sought(graph: &Graph, counts: &[u32], place: u32, tile: u8) -> Option<(u32, u32)> {
+    let found = u32::try_from(graph.seek(place as i32, tile)).ok()?;
+    let first = graph[place as i32].arc_index();
+    let before = counts[first as usize].wrapping_sub(counts[found as usize]);
+    Some((found, before))
 }
 
 /// The Rust has no call for a step along a run: its loops over a run are written out, each with this test before this step.

@@ -12,6 +12,8 @@ enum Change {
     Refusal,
     Value,
     Flag,
+    /// The words before the node found.
+    Before,
     /// The bytes taken, in a load's state.
     Taken,
     /// What begin refused by, in a whole load.
@@ -40,6 +42,7 @@ fn spoil(change: Change, outcome: &mut Outcome) {
         Refusal => answer.refusal = 14,
         Value => answer.value ^= 1,
         Flag => answer.flag ^= true,
+        Before => answer.before ^= 1,
         Begun => answer.begun ^= 1,
         Bad => answer.bad ^= 1,
         Start => answer.start ^= 1,
@@ -84,7 +87,8 @@ fn changes(call: Call) -> Vec<Change> {
         Call::LoadInPieces => (&[Begun, Taken, Value], 2),
         Call::Repack | Call::WritePage => (&[], 1),
         Call::CountWords | Call::LetterBits => (&[], 2),
-        Call::Seek | Call::CursorAt | Call::CursorStep | Call::WordIndex => (&[Value, Flag], 0),
+        Call::Seek => (&[Value, Flag, Before], 0),
+        Call::CursorAt | Call::CursorStep | Call::WordIndex => (&[Value, Flag], 0),
         Call::WordByIndex => (&[Value, Flag], 1),
         Call::AcceptsAlpha => (&[Flag], 0),
         Call::AlphaCrossSet => (&[Value], 0),

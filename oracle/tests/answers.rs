@@ -182,15 +182,20 @@ fn the_runs_of_the_sample_graph_have_tiles() {
     let graph = "576 64 1153 1090 194";
     let mut requests = format!("11 5 {graph}\n");
     let mut expected = case(11, graph, "", "0 1 1 6 4 4 0 0 2 0 4");
-    for (call, inputs, answer) in [
-        (9, "0 2", "0 1 3"),
-        (9, "2 2", "0 1 4"),
-        (9, "0 3", "0 0 0"),
-        (10, "2", "0 0 3"),
-        (10, "3", "0 1 3"),
+    // Two of the run's three words come before tile 2; by other counts as many as
+    // their difference.
+    for (counts, inputs, answer) in [
+        ("3 0 3 1 1", "0 2", "0 1 3 2"),
+        ("3 0 3 1 1", "2 2", "0 1 4 0"),
+        ("3 0 3 1 1", "0 3", "0 0 0 0"),
+        ("0 0 9 2 0", "0 2", "0 1 3 7"),
     ] {
-        requests += &format!("{call} 5 {graph} {inputs}\n");
-        expected += &case(call, &format!("{inputs} {graph}"), "", answer);
+        requests += &format!("9 5 {graph} {counts} {inputs}\n");
+        expected += &case(9, &format!("{inputs} 5 {graph} {counts}"), "", answer);
+    }
+    for (inputs, answer) in [("2", "0 0 3"), ("3", "0 1 3")] {
+        requests += &format!("10 5 {graph} {inputs}\n");
+        expected += &case(10, &format!("{inputs} {graph}"), "", answer);
     }
     for (call, tally, answer) in [
         (12, "0 1 1", "0 1"),

@@ -1,8 +1,8 @@
-//! Loads a lexicon in pieces, looks a word up, names a number, reads words as viewers type them and shows the page of words from that number
-//! on: words FILE WORD NUMBER. Its letters are A to Z, tiles 1 to 26.
+//! Loads a lexicon in pieces, looks a word up, says how many words begin before its first letter, names a number, reads words as viewers type
+//! them and shows the page of words from that number on: words FILE WORD NUMBER. Its letters are A to Z, tiles 1 to 26.
 
 use machirsun::{
-    count_words, word_by_index, word_index, write_page, Layout, Loader, TypedText, PAGE,
+    count_words, seek, word_by_index, word_index, write_page, Layout, Loader, TypedText, PAGE,
 };
 use std::error::Error;
 use std::fs::File;
@@ -112,6 +112,12 @@ fn run(arguments: &[String]) -> Result<(), Box<dyn Error>> {
     match word_index(&nodes, &counts, start, &tiles)? {
         Some(number) => println!("{word} is word {number}"),
         None => println!("{word} is no word"),
+    }
+    if let (Some(letter), Some(&tile)) = (word.chars().next(), tiles.first()) {
+        match seek(&nodes, &counts, 0, tile)? {
+            Some(sought) => println!("{} words begin before {letter}", sought.before),
+            None => println!("no word begins with {letter}"),
+        }
     }
 
     let mut put = [0; LONGEST];

@@ -69,6 +69,7 @@ pub struct Sought {
     pub refusal: u32,
     pub found: bool,
     pub place: u32,
+    pub before: u32,
 }
 
 #[repr(C)]
@@ -174,7 +175,14 @@ extern "C" {
         work_len: usize,
     ) -> Counted;
 
-    pub fn machirsun_seek(nodes: *const u32, nodes_len: usize, place: u32, tile: u8) -> Sought;
+    pub fn machirsun_seek(
+        nodes: *const u32,
+        nodes_len: usize,
+        counts: *const u32,
+        counts_len: usize,
+        place: u32,
+        tile: u8,
+    ) -> Sought;
 
     pub fn machirsun_cursor_at(nodes: *const u32, nodes_len: usize, at: u32) -> Cursor;
 

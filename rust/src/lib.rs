@@ -193,12 +193,39 @@ pub fn count_words(nodes: &[u32], counts: &mut [u32], work: &mut [u32]) -> Resul
     refused(counted.refusal, counted.node as usize, 0, counted.arc)
 }
 
-/// The place of the first node with the tile in the run that the arc of the node at a place leads to.
+/// A node with the tile that was looked for.
+#[derive(Clone, Copy, Debug, PartialEq, Eq)]
+pub struct Sought {
+    /// The node's place.
+    pub place: u32,
+    /// How many words of its run come before it: with the graph's own counts, where runs ascend, the words that begin below the tile.
+    pub before: u32,
+}
+
+/// The first node with the tile in the run that the arc of the node at a place leads to, and the words of the run before it. Counts are
+/// read only for a tile that is found.
 #[inline]
-pub fn seek(nodes: &[u32], place: u32, tile: u8) -> Result<Option<u32>, Refusal> {
-    let sought = unsafe { ffi::machirsun_seek(nodes.as_ptr(), nodes.len(), place, tile) };
+pub fn seek(
+    nodes: &[u32],
+    counts: &[u32],
+    place: u32,
+    tile: u8,
+) -> Result<Option<Sought>, Refusal> {
+    let sought = unsafe {
+        ffi::machirsun_seek(
+            nodes.as_ptr(),
+            nodes.len(),
+            counts.as_ptr(),
+            counts.len(),
+            place,
+            tile,
+        )
+    };
     plain(sought.refusal)?;
-    Ok(sought.found.then_some(sought.place))
+    Ok(sought.found.then_some(Sought {
+        place: sought.place,
+        before: sought.before,
+    }))
 }
 
 /// A cursor along one run.

@@ -255,12 +255,17 @@ fn too_many_words_are_refused() {
 
 #[test]
 fn tiles_are_found_in_runs() {
-    assert_eq!(seek(&G, 0, 1), Ok(Some(2)));
-    assert_eq!(seek(&G, 0, 2), Ok(Some(3)));
-    assert_eq!(seek(&G, 0, 3), Ok(None));
-    assert_eq!(seek(&G, 4, 1), Ok(None));
-    assert_eq!(seek(&G, 5, 1), Err(Refusal::NotLent));
-    assert_eq!(seek(&G[..3], 2, 2), Err(Refusal::NotLent));
+    let at = |place, before| Ok(Some(Sought { place, before }));
+    assert_eq!(seek(&G, &G_COUNTS, 0, 1), at(2, 0));
+    assert_eq!(seek(&G, &G_COUNTS, 0, 2), at(3, 2));
+    assert_eq!(seek(&G, &G_COUNTS, 0, 3), Ok(None));
+    assert_eq!(seek(&G, &G_COUNTS, 4, 1), Ok(None));
+    assert_eq!(seek(&G, &G_COUNTS, 5, 1), Err(Refusal::NotLent));
+    assert_eq!(seek(&G[..3], &G_COUNTS, 2, 2), Err(Refusal::NotLent));
+    // Counts are read only for a tile that is found.
+    assert_eq!(seek(&G, &G_COUNTS[..3], 0, 2), Err(Refusal::NotLent));
+    assert_eq!(seek(&G, &[], 0, 3), Ok(None));
+    assert_eq!(seek(&G, &[0, 0, 0, 1, 1], 0, 2), Err(Refusal::OutOfRange));
 }
 
 #[test]
@@ -307,6 +312,12 @@ fn words_and_numbers() {
         word_index(&G, &[0, 0, 0, 1, 1], 2, &[2, 2]),
         Err(Refusal::OutOfRange)
     );
+    // A further tile's run counts by the words before the tile alone, and where it is not found by none.
+    assert_eq!(
+        word_index(&G, &[3, 0, 3, 1, u32::MAX], 2, &[1, 2]),
+        Ok(Some(1))
+    );
+    assert_eq!(word_index(&G, &G_COUNTS[..3], 2, &[1, 9]), Ok(None));
     assert_eq!(
         word_by_index(&G, &G_COUNTS, 5, 0, &mut tile),
         Err(Refusal::NotLent)

@@ -61,7 +61,8 @@ WHOLE(machirsun_counted, 12);
 FIELD(machirsun_sought, refusal, 0, 4);
 FIELD(machirsun_sought, found, 4, 1);
 FIELD(machirsun_sought, place, 8, 4);
-WHOLE(machirsun_sought, 12);
+FIELD(machirsun_sought, before, 12, 4);
+WHOLE(machirsun_sought, 16);
 
 FIELD(machirsun_cursor, refusal, 0, 4);
 FIELD(machirsun_cursor, done, 4, 1);
@@ -388,18 +389,28 @@ static void counts_words(void)
 
 static void seeks(void)
 {
+    static const uint32_t foreign[5] = {0, 0, 0, 1, 1};
     machirsun_sought sought;
 
-    sought = machirsun_seek(LENT(G), 0, 2);
-    SAME(sought.refusal == 0 && sought.found && sought.place == 3);
-    sought = machirsun_seek(LENT(G), 0, 3);
-    SAME(sought.refusal == 0 && !sought.found && sought.place == 0);
-    sought = machirsun_seek(LENT(G), 4, 1);
-    SAME(sought.refusal == 0 && !sought.found && sought.place == 0);
-    sought = machirsun_seek(LENT(G), 5, 1);
-    SAME(sought.refusal == MACHIRSUN_NOT_LENT && !sought.found && sought.place == 0);
-    sought = machirsun_seek(G, 3, 0, 2);
-    SAME(sought.refusal == MACHIRSUN_NOT_LENT && !sought.found && sought.place == 0);
+    sought = machirsun_seek(LENT(G), LENT(COUNTS_OF_G), 0, 1);
+    SAME(sought.refusal == 0 && sought.found && sought.place == 2 && sought.before == 0);
+    sought = machirsun_seek(LENT(G), LENT(COUNTS_OF_G), 0, 2);
+    SAME(sought.refusal == 0 && sought.found && sought.place == 3 && sought.before == 2);
+    sought = machirsun_seek(LENT(G), LENT(COUNTS_OF_G), 0, 3);
+    SAME(sought.refusal == 0 && !sought.found && sought.place == 0 && sought.before == 0);
+    sought = machirsun_seek(LENT(G), LENT(COUNTS_OF_G), 4, 1);
+    SAME(sought.refusal == 0 && !sought.found && sought.place == 0 && sought.before == 0);
+    sought = machirsun_seek(LENT(G), LENT(COUNTS_OF_G), 5, 1);
+    SAME(sought.refusal == MACHIRSUN_NOT_LENT && !sought.found && sought.place == 0 && sought.before == 0);
+    sought = machirsun_seek(G, 3, LENT(COUNTS_OF_G), 0, 2);
+    SAME(sought.refusal == MACHIRSUN_NOT_LENT && !sought.found && sought.place == 0 && sought.before == 0);
+    /* The count of the node found is not lent; for a tile that is not found none is read. */
+    sought = machirsun_seek(LENT(G), COUNTS_OF_G, 3, 0, 2);
+    SAME(sought.refusal == MACHIRSUN_NOT_LENT && !sought.found && sought.place == 0 && sought.before == 0);
+    sought = machirsun_seek(LENT(G), COUNTS_OF_G, 0, 0, 3);
+    SAME(sought.refusal == 0 && !sought.found && sought.place == 0 && sought.before == 0);
+    sought = machirsun_seek(LENT(G), LENT(foreign), 0, 2);
+    SAME(sought.refusal == MACHIRSUN_OUT_OF_RANGE && !sought.found && sought.place == 0 && sought.before == 0);
 }
 
 static void steps(void)
@@ -426,8 +437,8 @@ static machirsun_index index_of(const uint32_t *counts, size_t counts_len, uint3
 
 static void numbers_words(void)
 {
-    static const uint8_t a[1] = {1}, ab[2] = {1, 2}, b[1] = {2}, bb[2] = {2, 2};
-    static const uint32_t foreign[5] = {0, 0, 0, 1, 1};
+    static const uint8_t a[1] = {1}, ab[2] = {1, 2}, ai[2] = {1, 9}, b[1] = {2}, bb[2] = {2, 2};
+    static const uint32_t foreign[5] = {0, 0, 0, 1, 1}, large[5] = {3, 0, 3, 1, 4294967295};
     machirsun_index index;
 
     SAME(index_of(LENT(COUNTS_OF_G), 2, LENT(a)).found);
@@ -443,6 +454,11 @@ static void numbers_words(void)
     SAME(index.refusal == MACHIRSUN_NOT_LENT && !index.found && index.number == 0);
     index = index_of(LENT(foreign), 2, LENT(bb));
     SAME(index.refusal == MACHIRSUN_OUT_OF_RANGE && !index.found && index.number == 0);
+    /* A further tile's run counts by the words before the tile alone, and where it is not found by none. */
+    index = index_of(LENT(large), 2, LENT(ab));
+    SAME(index.refusal == 0 && index.found && index.number == 1);
+    index = index_of(COUNTS_OF_G, 3, 2, LENT(ai));
+    SAME(index.refusal == 0 && !index.found && index.number == 0);
 }
 
 static void names_numbers(void)

@@ -5,11 +5,11 @@ use crate::answer::{Answer, Buffer, Outcome};
 use crate::engine;
 use crate::lent::Lent;
 use crate::paper::counting::{self, TOO_MANY};
-use crate::paper::runs::ascend;
+use crate::paper::runs::{ascend, run};
 use crate::paper::walks;
 use crate::paper::words::words;
 use crate::report::Call;
-use crate::rust_side::{self, Refused};
+use crate::rust_side::{self, PANICKED, Refused};
 
 // The most words, and the most steps to list them, of a graph whose words are listed.
 const MOST_WORDS: u32 = 60;
@@ -74,13 +74,44 @@ impl Checker {
         }
     }
 
-    pub fn seek(&mut self, graph: &Graph, place: u32, tile: u8) {
-        let got = engine::seek(&graph.nodes, place, tile);
-        let paper = walks::found(walks::seek(&graph.nodes, place, tile));
+    pub fn seek(&mut self, graph: &Graph, counts: &[u32], place: u32, tile: u8) -> Answer {
+        let got = engine::seek(&graph.nodes, counts, place, tile);
+        let paper = walks::run_lookup(&graph.nodes, counts, place, tile);
+        let paper = paper.map_or_else(Answer::refused, sought);
         let rust = graph.asked(&paper);
-        let rust = rust.map(|rust| answered(rust_side::seek(rust, place, tile), found));
-        let input = || format!("{}, place {place}, tile {tile}", graph.description());
-        self.compare_answers(Call::Seek, got, paper, rust, &input);
+        let rust = rust.map(|rust| rust_side::seek(rust, counts, place, tile));
+        let rust = rust.map(|answer| answered(answer, sought));
+        self.compare_answers(Call::Seek, got, paper, rust, &|| {
+            let nodes = graph.description();
+            format!("{nodes}, counts {counts:x?}, place {place}, tile {tile}")
+        })
+    }
+
+    /// By the graph's own counts, where runs ascend, the words before a node of a run are those of the run that begin below its tile.
+    pub fn words_before_mean_words(&mut self, graph: &Graph, place: u32) {
+        let (Some(counts), Some(node)) = (graph.counts.clone(), graph.nodes.get(place as usize))
+        else {
+            return;
+        };
+        let first = node >> 8;
+        let few = counts[first as usize] <= MOST_WORDS && steps_to_count(graph) <= MOST_STEPS;
+        if first == 0 || !few || !ascend(&graph.nodes) {
+            return;
+        }
+        let words = words(&graph.nodes, first as usize);
+        for node in run(&graph.nodes, first as usize) {
+            let got = self.seek(graph, &counts, place, node.tile).before;
+            let below = words.iter().filter(|word| word[0] < node.tile).count();
+            let number = |value: u64| Outcome::of(Answer::gives(value));
+            let input = || format!("{}, place {place}, {node:?}", graph.description());
+            self.report.hold(
+                Call::Seek,
+                LISTED,
+                &number(got),
+                &number(below as u64),
+                &input,
+            );
+        }
     }
 
     /// A cursor at a place, and one step from there.
@@ -107,6 +138,9 @@ impl Checker {
         let rust = graph.asked(&paper);
         let rust = rust.map(|rust| rust_side::word_index(rust, counts, start, word));
         let rust = rust.map(|answer| answered(answer, found));
+        // The Rust reads a run's first count before it looks for the tile: where there is no word it may panic for a count that is not lent.
+        let read = paper.flag || counts.len() >= graph.nodes.len();
+        let rust = rust.filter(|answer| read || answer.refusal != PANICKED);
         self.compare_answers(Call::WordIndex, got, paper, rust, &|| {
             let nodes = graph.description();
             format!("{nodes}, counts {counts:x?}, start {start}, word {word:?}")
@@ -142,6 +176,16 @@ impl Checker {
             format!("{nodes}, counts {counts:x?}, start {start}, number {number}, room {room}")
         });
         tiles
+    }
+}
+
+// What run lookup answers: the node found, and the words before it.
+fn sought(answer: Option<(u32, u32)>) -> Answer {
+    let (place, before) = answer.unwrap_or((0, 0));
+    Answer {
+        before: before.into(),
+        flag: answer.is_some(),
+        ..Answer::gives(place.into())
     }
 }
 

@@ -4,6 +4,7 @@ use super::loads::{file_of, load};
 use super::pages::pages;
 use super::texts;
 use crate::checker::{Checker, Fit, Graph};
+use crate::paper::runs::run;
 use crate::random::Random;
 
 /// How many nodes of a graph the calls on one node are asked for.
@@ -49,15 +50,36 @@ fn lookups(checker: &mut Checker, random: &mut Random, graph: &Graph, asked: Nod
     };
     for place in places {
         checker.cursor(graph, place);
-        match asked {
-            Nodes::Every => (0..4).for_each(|tile| checker.seek(graph, place, tile)),
+        checker.words_before_mean_words(graph, place);
+        let tiles: Vec<u8> = match asked {
+            Nodes::Every => (0..4).collect(),
             Nodes::Some(_) => {
-                checker.seek(graph, place, random.within(0, 66) as u8);
-                let tile = graph.nodes[random.within(0, len as u64) as usize] as u8 & 0x3f;
-                checker.seek(graph, place, tile);
+                let one = graph.nodes[random.within(0, len as u64) as usize] as u8 & 0x3f;
+                vec![
+                    random.within(0, 66) as u8,
+                    one,
+                    tile_after(random, graph, place),
+                ]
             }
+        };
+        for tile in tiles {
+            let counts = match &graph.counts {
+                Some(own) if random.flag() => own.clone(),
+                _ => foreign(random, graph),
+            };
+            checker.seek(graph, &counts, place, tile);
         }
     }
+}
+
+// A tile of the run that the arc of a place leads to, where it leads to a lent node.
+fn tile_after(random: &mut Random, graph: &Graph, place: u32) -> u8 {
+    let arc = graph.nodes.get(place as usize).map(|word| word >> 8);
+    let Some(arc) = arc.filter(|&arc| (arc as usize) < graph.nodes.len()) else {
+        return 1;
+    };
+    let run = run(&graph.nodes, arc as usize);
+    run[random.within(0, run.len() as u64) as usize].tile
 }
 
 fn counting(checker: &mut Checker, random: &mut Random, graph: &Graph) {

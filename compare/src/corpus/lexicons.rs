@@ -85,10 +85,7 @@ fn words_and_others(checker: &mut Checker, random: &mut Random, graph: &Graph, w
         word.iter().for_each(|&tile| tally[usize::from(tile)] += 1);
         checker.accepts_alpha(graph, &tally);
         checker.alpha_cross_set(graph, &tally);
-        checker.seek(
-            graph,
-            random.within(0, graph.nodes.len() as u64) as u32,
-            word[0],
-        );
+        let place = random.within(0, graph.nodes.len() as u64) as u32;
+        checker.seek(graph, &counts, place, word[0]);
     }
 }

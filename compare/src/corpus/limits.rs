@@ -24,6 +24,7 @@ pub fn run(checker: &mut Checker, size: Size, random: &mut Random) {
     alphagrams(checker, random, size.of(2, 30, 3000));
     few_nodes(checker, random);
     two_refusals(checker);
+    further_tiles(checker);
 }
 
 // Numbers of words around the greatest, and numbers around the last word's.
@@ -143,7 +144,7 @@ fn few_nodes(checker: &mut Checker, random: &mut Random) {
         checker.count_words(&graph, 2, 4);
         checker.letter_bits(&graph, random.within(0, 2) as usize, 1);
         for place in [0, 1, u32::MAX] {
-            checker.seek(&graph, place, 1);
+            checker.seek(&graph, &[1], place, 1);
             checker.cursor(&graph, place);
             checker.word_index(&graph, &[1], place, &[1]);
             checker.word_by_index(&graph, &[1], place, 0, 2);
@@ -165,6 +166,35 @@ fn two_refusals(checker: &mut Checker) {
         checker.word_index(&graph, &[1, 1, third], 1, &[1, 1]);
         for (room, number) in [(0, 1), (1, 1), (2, 1), (0, 0)] {
             checker.word_by_index(&graph, &[2, 2, third], 1, number, room);
+        }
+    }
+}
+
+// Counts that are not the graph's, or not all lent, at the further tiles of a word: the sum with the flag, then the run lookup with
+// its own refusals, then the sum with the words before. Each graph with its start and the tiles that lead to where a tile more is met:
+// a second run of two nodes; a first run of two, the second of which accepts; three runs; the five nodes of 01.
+fn further_tiles(checker: &mut Checker) {
+    let graphs: [(&[u32], u32, &[u8]); 4] = [
+        (&[0x140, 0x2c1, 0x81, 0xc2], 1, &[1]),
+        (&[0x140, 0x01, 0x3c2, 0xc1], 1, &[2]),
+        (&[0x140, 0x2c1, 0x401, 0x4c2, 0x81, 0xc2], 1, &[1, 2]),
+        (&[0x240, 0x40, 0x481, 0x442, 0xc2], 2, &[1]),
+    ];
+    let near = [0, 1, u32::MAX - 1, u32::MAX];
+    for (nodes, start, tiles) in graphs {
+        let graph = Graph::new(nodes.to_vec());
+        let varied = nodes.len() - start as usize;
+        for number in 0..near.len().pow(varied as u32) {
+            let mut counts = vec![3; start as usize];
+            counts.extend((0..varied).map(|at| near[number >> (2 * at) & 3]));
+            for lent in 0..=counts.len() {
+                for tile in [1, 2, 9] {
+                    let word = [tiles, &[tile]].concat();
+                    checker.word_index(&graph, &counts[..lent], start, &word);
+                    checker.seek(&graph, &counts[..lent], start, tile);
+                    checker.seek(&graph, &counts[..lent], 0, tile);
+                }
+            }
         }
     }
 }

@@ -39,12 +39,23 @@ fn find(nodes: &[u32], mut p: u32, tile: u8) -> Step<Option<u32>> {
     }
 }
 
-/// The Rust's `seek`: in the run that the arc of p leads to, none where there is no arc.
+/// The Rust's `seek`, as the alpha sets walk: in the run that the arc of p leads to, none where there is no arc.
 pub fn seek(nodes: &[u32], p: u32, tile: u8) -> Step<Option<u32>> {
     match node(nodes, p)?.arc {
         0 => Ok(None),
         arc => find(nodes, arc, tile),
     }
+}
+
+/// Run lookup (02, C-16): "with the node found, how many words of the run come before it. [..] It is the run's first count less that of the
+/// node found [..] Counts are read only for a tile found, the run's first count first."
+pub fn run_lookup(nodes: &[u32], counts: &[u32], p: u32, tile: u8) -> Step<Option<(u32, u32)>> {
+    let Some(found) = seek(nodes, p, tile)? else {
+        return Ok(None);
+    };
+    let first = count(counts, node(nodes, p)?.arc)?;
+    let before = difference(first, count(counts, found)?)?;
+    Ok(Some((found, before)))
 }
 
 /// An answer that finds a number or does not, or a refusal.
@@ -79,28 +90,30 @@ pub fn cursor_step(nodes: &[u32], at: u32) -> Answer {
 }
 
 /// `get_word_index`: "none where the Rust gives `!0`; start 0 and the empty word give none. It takes the first node of the run with the
-/// tile."
+/// tile." Run lookup "for each further tile in place of its own subtraction" (02, C-16).
 pub fn word_index(nodes: &[u32], counts: &[u32], start: u32, word: &[u8]) -> Step<Option<u32>> {
-    let mut p = start;
-    let mut number = 0;
-    for (at, &tile) in word.iter().enumerate() {
-        if p == 0 {
-            return Ok(None);
-        }
-        node(nodes, p)?;
-        number = sum(number, count(counts, p)?)?;
-        let Some(here) = find(nodes, p, tile)? else {
+    let Some((&first, further)) = word.split_first() else {
+        return Ok(None);
+    };
+    if start == 0 {
+        return Ok(None);
+    }
+    node(nodes, start)?;
+    let from_start = count(counts, start)?;
+    let Some(mut p) = find(nodes, start, first)? else {
+        return Ok(None);
+    };
+    let mut number = difference(from_start, count(counts, p)?)?;
+    for &tile in further {
+        number = sum(number, node(nodes, p)?.accepts.into())?;
+        let Some((found, before)) = run_lookup(nodes, counts, p, tile)? else {
             return Ok(None);
         };
-        number = difference(number, count(counts, here)?)?;
-        let met = node(nodes, here)?;
-        if at + 1 == word.len() {
-            return Ok(Some(number).filter(|&number| met.accepts && number != u32::MAX));
-        }
-        number = sum(number, met.accepts.into())?;
-        p = met.arc;
+        number = sum(number, before)?;
+        p = found;
     }
-    Ok(None)
+    let accepts = node(nodes, p)?.accepts;
+    Ok(Some(number).filter(|&number| accepts && number != u32::MAX))
 }
 
 /// The tiles that `get_word_by_index` puts into so many places, and how the walk ends: the word is whole, there is none, or a refusal.

@@ -6,7 +6,7 @@ use mathlib.Core.List.{List, [], _∷_, _++_, List·Memᴰ, List·Memᴰ·head, 
 use Prim.Native.Nat.{ℕ, zero, suc, _<_}
 use borrow.Author.Tests.{eqb-true, eqb-false, ne-eqb}
 use lib.Dec.{eqb}
-use lib.ListN.{length, drop, replicate}
+use lib.ListN.{length, replicate}
 use Rattle.laws.specs.Cases.{split}
 use Rattle.laws.specs.Members.{map-in}
 use Rattle.node.specs.Nodes.{KBWG, tile, arc, accepts, isEnd}
@@ -14,11 +14,12 @@ use Rattle.graph.specs.Runs.{Graph, node, ascends}
 use Rattle.graph.specs.Words.{Word, words, spelled}
 use Rattle.graph.specs.CountLaws.{words-end, words-on}
 use Rattle.lookup.specs.Steps.{Try, on, stop, _>>=_}
-use Rattle.lookup.specs.Walks.{stepTo}
+use Rattle.lookup.specs.Walks.{arcOf, stepTo}
 use Rattle.lookup.specs.StepsLaws.{lent-on}
+use Rattle.lookup.specs.FoundLaws.{FoundIs, found-at, found-none, find}
 use Rattle.numbers.specs.Walkable.{Walkable}
 use Rattle.numbers.specs.RunWords.{spelled-alone, spelled-both, spelled-arc}
-use Rattle.numbers.specs.TileSearch.{NotIn, FoundIs, found-at, found-none, find, in-found, alone, longer}
+use Rattle.numbers.specs.TileSearch.{in-found, alone, longer}
 use Rattle.letters.specs.AlphaSets.{copies, spent, acceptsAt}
 use Rattle.alphagrams.specs.Alphagrams.{alphagramFrom, ReadBelow}
 
@@ -88,11 +89,11 @@ module _ (g : Graph) (counted : List ℕ) (walk : Walkable g g counted) (up : as
     yes : ReadBelow g p w → Reads p w (on true)
     no : (ReadBelow g p w → ⊥) → Reads p w (on false)
 
-  found-reads : (p t : ℕ) (w : Word) → arc KBWG (node g p) ≢ 0 → {r : Try ℕ} → FoundIs g g counted walk up (arc KBWG (node g p)) t r
+  found-reads : (p t : ℕ) (w : Word) → arc KBWG (node g p) ≢ 0 → {r : Try ℕ} → FoundIs g (walk .steps) up (arc KBWG (node g p)) t r
       → ((q : ℕ) → q < length g → Reads q w (acceptsAt g (walkTo g q w))) → Reads p (t ∷ w) (acceptsAt g (r >>= λ q. walkTo g q w))
   unfolding acceptsAt
   found-reads p t w n (found-none k) ih = no (λ r. k w (r .1))
-  found-reads p t w n (found-at {q} l e front f k) ih =
+  found-reads p t w n (found-at {q} l e _ front f k) ih =
       turn (acceptsAt g (walkTo g q w)) (ih q l)
     where
       turn : (x : Try Bool) → Reads q w x → Reads p (t ∷ w) x
@@ -100,18 +101,18 @@ module _ (g : Graph) (counted : List ℕ) (walk : Walkable g g counted) (up : as
           let m = in-own-run q l (tile KBWG (node g q) ∷ w) (spelled-below q w r) in
           yes (n, subst (λ s. List·Memᴰ (s ∷ w) (W (arc KBWG (node g p)))) e (rw f (Memᴰ·append-right front m)))
       turn x (no r) =
-          no (λ m. r (below-spelled q w (in-found g g counted walk up (arc KBWG (node g p)) q front w l f (subst (λ s. NotIn s front) (sym e) k)
+          no (λ m. r (below-spelled q w (in-found g g counted walk up (arc KBWG (node g p)) q front w l f (rw e k)
           (subst (λ s. List·Memᴰ (s ∷ w) (W (arc KBWG (node g p)))) (sym e) (m .1)))))
 
   pub reads : (w : Word) (p : ℕ) → p < length g → Reads p w (acceptsAt g (walkTo g p w))
-  unfolding walkTo acceptsAt stepTo
+  unfolding walkTo acceptsAt stepTo arcOf
   reads [] p h =
       rw (lent-on g p h)
       (split (accepts KBWG (node g p)) (λ a. rw a (yes a)) (λ a. rw a (no (λ r. true≢false (sym r ∙ a)))))
   reads (t ∷ w) p h =
       rw (lent-on g p h)
       (split (eqb (arc KBWG (node g p)) 0)
-      (λ z. rw (z, _>>=_) (no (λ r. r .0 (eqb-true (arc KBWG (node g p)) 0 z))))
-      (λ z. rw (z, _>>=_)
+      (λ z. rw (z, arcOf) (no (λ r. r .0 (eqb-true (arc KBWG (node g p)) 0 z))))
+      (λ z. rw (z, arcOf)
       (found-reads p t w (eqb-false (arc KBWG (node g p)) 0 z)
-      (find g g counted walk up (drop (arc KBWG (node g p)) g) (arc KBWG (node g p)) t refl (walk .steps .arcs p h)) (reads w))))
+      (find g (walk .steps) up (arc KBWG (node g p)) t (walk .steps .arcs p h)) (reads w))))

@@ -34,10 +34,10 @@ refusedOr n node tile arc given = elim (eqb n 0) [ true ↦ given | false ↦ re
 abbrev pub plainly : ℕ → Answer → Answer
 plainly n given = elim (eqb n 0) [ true ↦ given | false ↦ refused n [] ]
 
--- a value, where it is found
-abbrev pub found : Bool → ℕ → Answer
-found true v = gives (v ∷ [])
-found false v = nothing
+-- values, where something is found
+abbrev pub found : Bool → List ℕ → Answer
+found true vs = gives vs
+found false vs = nothing
 
 -- ---- how an answer fills fields: the refusal's number by `refusalIn`, and 0 where it has no value for one
 abbrev pub valueIn : Answer → ℕ

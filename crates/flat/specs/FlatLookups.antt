@@ -4,7 +4,7 @@ use mathlib.Core.Bool.{Bool, true, false}
 use mathlib.Core.List.{List, [], _∷_, _++_}
 use Prim.Native.Nat.{ℕ}
 use lib.ListN.{length, drop}
-use Rattle.answers.specs.Answers.{Answer, gives, nothing, refused, refusalIn}
+use Rattle.answers.specs.Answers.{Answer, gives, nothing, refused, refusalIn, valueAt}
 use Rattle.graph.specs.Runs.{Graph}
 use Rattle.lookup.specs.Steps.{on, _>>=_, answer, lentPart, lent}
 use Rattle.cursor.specs.RunSteps.{Moves}
@@ -15,10 +15,10 @@ use Rattle.flat.specs.declared.lookups.FlatIndex.{FlatIndex}
 use Rattle.flat.specs.declared.lookups.FlatWord.{FlatWord}
 
 abbrev pub soughtOf : FlatSought → Answer
-soughtOf r = plainly (r .refusal) (found (r .found) (r .place))
+soughtOf r = plainly (r .refusal) (found (r .found) (r .place ∷ r .before ∷ []))
 
 abbrev pub flatSought : Answer → FlatSought
-flatSought a = record { refusal = refusalIn a; found = isGiven a; place = valueIn a }
+flatSought a = record { refusal = refusalIn a; found = isGiven a; place = valueIn a; before = valueAt 1 a }
 
 -- ---- the cursor
 -- "made at a lent node": elsewhere 14, as each step from there
@@ -53,13 +53,13 @@ flatCursor m = record { refusal = refusalIn (m .answer); done = isNone (m .answe
 
 -- ---- numbers
 abbrev pub indexOf : FlatIndex → Answer
-indexOf r = plainly (r .refusal) (found (r .found) (r .number))
+indexOf r = plainly (r .refusal) (found (r .found) (r .number ∷ []))
 
 abbrev pub flatIndex : Answer → FlatIndex
 flatIndex a = record { refusal = refusalIn a; found = isGiven a; number = valueIn a }
 
 abbrev pub wordOf : FlatWord → Answer
-wordOf r = plainly (r .refusal) (found (r .found) (r .tiles))
+wordOf r = plainly (r .refusal) (found (r .found) (r .tiles ∷ []))
 
 abbrev pub flatWord : Answer → FlatWord
 flatWord a = record { refusal = refusalIn a; found = isGiven a; tiles = valueIn a }

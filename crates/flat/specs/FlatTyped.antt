@@ -1,11 +1,11 @@
 -- The flat answers of words as viewers type them.
 use mathlib.Core.Bool.{Bool, true, false, _||_}
-use mathlib.Core.List.{List, [], _∷_}
+use mathlib.Core.List.{[], _∷_}
 use Prim.Native.Nat.{ℕ}
 use lib.Dec.{eqb}
 use lib.ListN.{getD}
 use Rattle.answers.specs.Answers.{Answer, gives, nothing, refused, refusalIn, valueAt}
-use Rattle.flat.specs.Flat.{isGiven}
+use Rattle.flat.specs.Flat.{found, isGiven}
 use Rattle.flat.specs.declared.typing.FlatTyped.{FlatTyped}
 use Rattle.flat.specs.declared.typing.FlatTypedList.{FlatTypedList}
 
@@ -17,16 +17,12 @@ carriesBad n = eqb n 27 || eqb n 28
 abbrev pub refusedAt : ℕ → ℕ → Answer → Answer
 refusedAt n bad given = elim (eqb n 0) [ true ↦ given | false ↦ refused n (elim (carriesBad n) [ true ↦ bad ∷ [] | false ↦ [] ]) ]
 
--- values, where a line was read; else the end
-abbrev pub whereFound : Bool → List ℕ → Answer
-whereFound true vs = gives vs
-whereFound false vs = nothing
-
+-- not found is the end
 abbrev pub typedOf : FlatTyped → Answer
-typedOf r = refusedAt (r .refusal) (r .bad) (whereFound (r .found) (r .start ∷ r .end ∷ r .after ∷ r .tiles ∷ []))
+typedOf r = refusedAt (r .refusal) (r .bad) (found (r .found) (r .start ∷ r .end ∷ r .after ∷ r .tiles ∷ []))
 
 abbrev pub typedListOf : FlatTypedList → Answer
-typedListOf r = refusedAt (r .refusal) (r .bad) (whereFound (r .found) (r .words ∷ r .tiles ∷ r .after ∷ []))
+typedListOf r = refusedAt (r .refusal) (r .bad) (found (r .found) (r .words ∷ r .tiles ∷ r .after ∷ []))
 
 -- ---- how an answer fills them
 abbrev pub badCarried : Answer → ℕ

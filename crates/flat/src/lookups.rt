@@ -11,6 +11,7 @@ pub struct FlatSought {
     pub refusal: u32,
     pub found: bool,
     pub place: u32,
+    pub before: u32,
 }
 
 // A cursor at a node, and what the step to it said.
@@ -35,13 +36,14 @@ pub struct FlatWord {
     pub tiles: usize,
 }
 
-fn sought(refusal: u32, found: bool, place: u32) -> FlatSought
-    ensures { λ r. ⌜ r ≡ record { refusal = refusal; found = found; place = place } ⌝ }
+fn sought(refusal: u32, found: bool, place: u32, before: u32) -> FlatSought
+    ensures { λ r. ⌜ r ≡ record { refusal = refusal; found = found; place = place; before = before } ⌝ }
 {
     FlatSought {
         refusal,
         found,
         place,
+        before,
     }
 }
 
@@ -50,9 +52,10 @@ pub fn flat_sought(answer: Sought) -> FlatSought
     ensures flat { λ r. ⌜ r ≡ flatSought (soughtOf r) ⌝ }
 {
     match answer {
-        Sought::At(place) => sought(0, true, place),
-        Sought::Absent => sought(0, false, 0),
-        Sought::NotLent => sought(14, false, 0),
+        Sought::At { node, before } => sought(0, true, node, before),
+        Sought::Absent => sought(0, false, 0, 0),
+        Sought::NotLent => sought(14, false, 0, 0),
+        Sought::OutOfRange => sought(15, false, 0, 0),
     }
 }
 

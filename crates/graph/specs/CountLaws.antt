@@ -2,19 +2,19 @@
 use mathlib.Core.Path.{_≡_, refl, sym, ap, ap₂, _∙_}
 use mathlib.Core.Bool.{Bool, true, false}
 use mathlib.Core.Logic.{_≢_}
-use mathlib.Core.List.{List, [], _∷_, _++_, map, append-nil}
+use mathlib.Core.List.{List, [], _∷_, _++_, map}
 use Prim.Native.Nat.{ℕ, suc, _+_, _<_, min}
 use native.Mathlib.Omega.{arith}
 use lib.Dec.{eqb}
 use borrow.Author.Tests.{eqb-false, eq-eqb, ne-eqb}
 use lib.ListN.{length, length-append, length-map}
-use lib.Seq.{drop-cons}
 use Rattle.laws.specs.Cases.{split}
 use Rattle.base.specs.Numbers.{flag}
 use Rattle.node.specs.Nodes.{BitLayout, tile, arc, accepts, isEnd}
-use Rattle.graph.specs.Runs.{Graph, node, run}
-use Rattle.graph.specs.Words.{Word, inOrder, spelled, words, count}
+use Rattle.graph.specs.Runs.{Graph, node}
+use Rattle.graph.specs.Words.{Word, spelled, words, count}
 use Rattle.graph.specs.Loops.{Step, by-arc, by-run, once, Clear}
+use Rattle.graph.specs.RunLaws.{in-order-last, in-order-next}
 use Rattle.graph.specs.WordsEquation.{clear-reached, words-equation}
 
 own-length : (b : Bool) (w : Word) → length {A = Word} (elim b [ true ↦ w ∷ [] | false ↦ [] ]) ≡ flag b
@@ -63,14 +63,12 @@ module _ (y : BitLayout) where
 
   module _ (g : Graph) (p : ℕ) (h : p < length g) (c : Clear y g p) where
     pub words-end : isEnd y (node g p) ≡ true → words y g p ≡ spelled y (words y g) (node g p)
-    unfolding run inOrder
-    words-end e = words-equation y g p c ∙ rw (drop-cons g p 0 h) (rw (e, run) (append-nil (spelled y (words y g) (node g p))))
+    words-end e = words-equation y g p c ∙ in-order-last y (spelled y (words y g)) g p h e
 
     pub words-on : isEnd y (node g p) ≡ false → words y g p ≡ spelled y (words y g) (node g p) ++ words y g (suc p)
-    unfolding run inOrder
     words-on e =
         let next = words-equation y g (suc p) (clear-reached y g p (suc p) c (once (by-run h e))) in
-        words-equation y g p c ∙ rw (drop-cons g p 0 h) (rw (e, run) (ap (spelled y (words y g) (node g p) ++_) (sym next)))
+        words-equation y g p c ∙ in-order-next y (spelled y (words y g)) g p h e ∙ ap (spelled y (words y g) (node g p) ++_) (sym next)
 
     -- the count of a node by the counts of the nodes that it leads to
     pub count-equation : count y g p ≡ sumAt g (count y g) p

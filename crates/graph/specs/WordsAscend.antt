@@ -1,6 +1,6 @@
 -- On a graph whose runs ascend the words from a node ascend strictly, so that none comes twice. The idea: the words of one node begin
 -- with its tile, and those of the nodes after it with higher ones.
-use mathlib.Core.Path.{_≡_, refl}
+use mathlib.Core.Path.{_≡_, refl, ap, _∙_, subst}
 use mathlib.Core.Bool.{true, false, _||_}
 use mathlib.Core.List.{List, [], _∷_, _++_, map, head-eq-of-cons-eq, tail-eq-of-cons-eq, nil≢cons}
 use Prim.Native.Nat.{ℕ, zero, suc, zero-le, _≤_, _<_}
@@ -8,11 +8,12 @@ use native.Mathlib.Omega.{arith}
 use lib.Dec.{eqb, ltb}
 use borrow.Author.Tests.{ltb-true}
 use lib.ListN.{length, getD, drop}
+use lib.Seq.{drop-cons}
 use Rattle.laws.specs.Cases.{split, and-left, and-right}
 use Rattle.laws.specs.Lists.{All, all-append, all-weaken, all-mem}
 use Rattle.laws.specs.NoRepeats.{NoRepeats}
 use Rattle.node.specs.Nodes.{BitLayout, tile, arc, accepts, isEnd}
-use Rattle.graph.specs.Runs.{Graph, run, ascends}
+use Rattle.graph.specs.Runs.{Graph, node, run, ascends}
 use Rattle.graph.specs.Words.{Word, inOrder, spelled, wordsWithin, words}
 use Rattle.graph.specs.Order.{_≺_, prefix, lower, later, Ascending}
 
@@ -152,6 +153,23 @@ module _ (y : BitLayout) where
   words-nonempty g p = within-nonempty (length g) g p
 
   module _ (g : Graph) (a : ascends y g ≡ true) where
+    pub ascends-next : (p : ℕ) → suc p < length g → isEnd y (node g p) ≡ false → tile y (node g p) < tile y (node g (suc p))
+    ascends-next p h e =
+        let from : drop p g ≡ node g p ∷ node g (suc p) ∷ drop (suc (suc p)) g
+        = drop-cons g p 0 (omega arith) ∙ ap (node g p ∷_) (drop-cons g (suc p) 0 h) in
+        ascends-head (node g p) (node g (suc p)) (drop (suc (suc p)) g) (subst (λ l. ascends y l ≡ true) from (ascends-drop p g a)) e
+
+    within-from-tile : (k p : ℕ) → p < length g → All (From (tile y (node g p))) (wordsWithin y k g p)
+    unfolding wordsWithin
+    within-from-tile zero p h = tt
+    within-from-tile (suc k) p h =
+        heads (λ q. wordsWithin y k g q) (drop p g) (tile y (node g p)) (ascends-drop p g a) (rw (drop-cons g p 0 h) (omega arith))
+
+    -- the words from p begin with its tile or later ones
+    pub words-from-tile : (p : ℕ) → p < length g → All (From (tile y (node g p))) (words y g p)
+    unfolding words
+    words-from-tile p h = within-from-tile (length g) p h
+
     within-ascend : (k p : ℕ) → Ascending (wordsWithin y k g p)
     unfolding wordsWithin
     within-ascend zero p = tt

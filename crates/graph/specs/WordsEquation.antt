@@ -23,6 +23,17 @@ in-order-ext f h [] e = refl
 in-order-ext f h (v ∷ l) e = ap₂ _++_ (e v (List·Memᴰ·head refl)) (in-order-ext f h l (λ w m. e w (List·Memᴰ·tail m)))
 
 module _ (y : BitLayout) where
+  -- ---- along a run, wherever its arcs lead: the words after an arc follow one less
+  abbrev pub afterArc : Graph → ℕ → List Word
+  afterArc g q = wordsWithin y (length g - 1) g q
+
+  pub words-run : (g : Graph) (p : ℕ) → 0 < length g → words y g p ≡ inOrder (spelled y (afterArc g)) (run y (drop p g))
+  unfolding words wordsWithin
+  words-run [] p h = absurd (omega arith)
+  words-run (v ∷ l) p h =
+      let k : length l ≡ suc (length l) - 1 = omega arith in
+      ap (λ n. inOrder (spelled y (λ q. wordsWithin y n (v ∷ l) q)) (run y (drop p (v ∷ l)))) k
+
   -- ---- enough fuel
   pub spelled-ext : (f h : ℕ → List Word) (v : ℕ) → (arc y v ≢ 0 → f (arc y v) ≡ h (arc y v)) → spelled y f v ≡ spelled y h v
   unfolding spelled

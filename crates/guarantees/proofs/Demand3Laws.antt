@@ -16,7 +16,8 @@ use Rattle.load.specs.FinishLaws.{finished-within}
 use Rattle.load.specs.StateLaws.{sound}
 use Rattle.pieces.specs.Pieces.{loadPieces, fedPieces}
 use Rattle.pieces.specs.PiecesLaws.{loads-as-whole, loads-however-cut}
-use Rattle.numbers.specs.WordNumbers.{GraphLent, WordNumbers}
+use Rattle.lookup.specs.GraphLent.{GraphLent}
+use Rattle.numbers.specs.WordNumbers.{WordNumbers}
 use Rattle.numbers.specs.WordNumbersLaws.{numbered, counted-lent, lent-left}
 use Rattle.export.specs.ChainLaws.{shallow-equation}
 use Rattle.export.specs.Written.{written}

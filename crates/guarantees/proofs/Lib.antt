@@ -1,5 +1,6 @@
--- Demand 3 and pages as theorems, and the five nodes that meet their premises.
+-- Demand 3 and pages as theorems, and the five nodes that meet their premises and those of run lookup.
 pub mod Demand3Laws
 pub mod PagesLaws
 pub mod Witness
 pub mod PageWitness
+pub mod SeekWitness

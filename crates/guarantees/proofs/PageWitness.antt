@@ -16,8 +16,8 @@ use Rattle.load.specs.Repacking.{fitting, firstMisfit}
 use Rattle.load.specs.Loading.{begin, feed, finish, holding, stateAfter, nodesAfter, zeros}
 use Rattle.pieces.specs.Pieces.{loadPieces, fedPieces, feedAll}
 use Rattle.lookup.specs.Steps.{lent, difference}
-use Rattle.lookup.specs.Walks.{wordsHere, turnIn, wordFrom, wordByIndex}
-use Rattle.numbers.specs.WordNumbers.{GraphLent}
+use Rattle.lookup.specs.Walks.{wordsBetween, wordsHere, turnIn, wordFrom, wordByIndex}
+use Rattle.lookup.specs.GraphLent.{GraphLent}
 use Rattle.decimal.specs.Decimal.{decimalWithin, decimal}
 use Rattle.export.specs.Written.{Written}
 use Rattle.page.specs.Rows.{Widths, pageWidths, blanks, pageRows}
@@ -47,7 +47,7 @@ row w r = rowAt w (pageIn w (left w)) r
 abbrev narrow : Widths
 narrow = record { number = 10; word = 1; greatest = countLimit }
 
-G-own : GraphLent G G (counts G)
+pub G-own : GraphLent G G (counts G)
 unfolding table words wordsWithin inOrder spelled run
 G-own = record { nodes-are = refl; counts-are = refl }
 
@@ -67,7 +67,7 @@ pub record PageMet : Type 0 where
   pub shows : PageShows pageWidths G G (counts G) 2 labels title 0 bytes
 
 G-answer : left pageWidths .answer ≡ gives []
-unfolding table words wordsWithin inOrder spelled run firstOf pageWords shownFrom wordByIndex wordFrom turnIn wordsHere lent difference
+unfolding table words wordsWithin inOrder spelled run firstOf pageWords shownFrom wordByIndex wordFrom turnIn wordsHere wordsBetween lent difference
 G-answer = refl
 
 G-shows : PageShows pageWidths G G (counts G) 2 labels title 0 bytes
@@ -77,7 +77,7 @@ G-shows =
     pages-written .shows 20 Kwg (replicate 6 7) G-pieces 5 (3 ∷ 0 ∷ 3 ∷ 1 ∷ 1 ∷ 7 ∷ []) G-ready G (counts G) G-own 2 (omega arith) labels title 0 bytes
 
 pub G-page : PageMet
-unfolding table words wordsWithin inOrder spelled run firstOf pageWords shownFrom wordByIndex wordFrom turnIn wordsHere lent difference
+unfolding table words wordsWithin inOrder spelled run firstOf pageWords shownFrom wordByIndex wordFrom turnIn wordsHere wordsBetween lent difference
     pageRows decimal decimalWithin
 G-page =
     record {

@@ -22,7 +22,8 @@ use Rattle.graph.specs.UpwardLaws.{leadsUp, upward-loopless}
 use Rattle.load.specs.Repacking.{fitting, firstMisfit}
 use Rattle.load.specs.Loading.{begin, feed, finish, holding, stateAfter, nodesAfter, zeros}
 use Rattle.pieces.specs.Pieces.{loadPieces, fedPieces, feedAll}
-use Rattle.numbers.specs.WordNumbers.{GraphLent, WordNumbers}
+use Rattle.lookup.specs.GraphLent.{GraphLent}
+use Rattle.numbers.specs.WordNumbers.{WordNumbers}
 use Rattle.export.specs.Starts.{deeper}
 use Rattle.export.specs.Blocks.{met, blockAt}
 use Rattle.windows1252.specs.Windows1252.{entries, byteOf}

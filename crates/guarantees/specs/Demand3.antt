@@ -14,7 +14,8 @@ use Rattle.graph.specs.Runs.{Graph, run, ascends, startNode}
 use Rattle.graph.specs.Words.{inOrder, spelled, words}
 use Rattle.graph.specs.Counting.{IsCounted}
 use Rattle.pieces.specs.Pieces.{LoadsAsWhole, LoadsHoweverCut, loadPieces}
-use Rattle.numbers.specs.WordNumbers.{GraphLent, WordNumbers}
+use Rattle.lookup.specs.GraphLent.{GraphLent}
+use Rattle.numbers.specs.WordNumbers.{WordNumbers}
 use Rattle.export.specs.Written.{Written}
 use Rattle.macondo_file.specs.File.{Format, marks}
 use Rattle.macondo_file.specs.Row.{toMacondo}

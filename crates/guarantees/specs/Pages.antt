@@ -6,7 +6,7 @@ use Prim.Native.Nat.{ℕ, _<_}
 use Rattle.answers.specs.Answers.{gives}
 use Rattle.node.specs.declared.Layout.{Layout}
 use Rattle.graph.specs.Runs.{Graph}
-use Rattle.numbers.specs.WordNumbers.{GraphLent}
+use Rattle.lookup.specs.GraphLent.{GraphLent}
 use Rattle.page.specs.Rows.{Widths}
 use Rattle.page.specs.Page.{writePage}
 use Rattle.page.specs.Columns.{pageIn, Columns}

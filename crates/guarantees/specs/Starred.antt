@@ -18,7 +18,8 @@ use Rattle.endian.specs.Bytes.{wholeNodes, partNode}
 use Rattle.load.specs.Repacking.{fitting, firstMisfit}
 use Rattle.load.specs.Loading.{begin, feed, finish, holding, stateAfter, nodesAfter, zeros}
 use Rattle.lookup.specs.Steps.{lent, difference, sum}
-use Rattle.lookup.specs.Walks.{findIn, passed, indexFrom, wordIndex, wordsHere, turnIn, wordFrom, wordByIndex, stepTo}
+use Rattle.lookup.specs.Walks.{findIn, arcOf, stepTo, wordsBetween, passed, passedAfter, passedFirst, numberEnding, indexFrom, indexOfWord}
+use Rattle.lookup.specs.Walks.{wordIndex, wordsHere, turnIn, wordFrom, wordByIndex}
 use Rattle.letters.specs.LetterBits.{letterBits, bitsWritten, tilesOf}
 use Rattle.letters.specs.AlphaSets.{copies, spent, acceptsAt, completes, closing, along, crossCopies, crossLetters, crossFrom, crossSet}
 use Rattle.pieces.specs.Pieces.{LoadOutcome, loadPieces, loadWhole, fedPieces, feedAll}
@@ -100,9 +101,10 @@ cases =
     ∷ []
 
 pub starred : All Holds cases
-unfolding cases fits fitting run inOrder spelled wordsWithin words table loadPieces fedPieces feedAll begin feed finish firstOf
-    holding stateAfter nodesAfter wholeNodes partNode firstMisfit zeros largestArc lastEnds lent difference sum findIn passed
-    indexFrom wordIndex wordsHere turnIn wordFrom wordByIndex stepTo bitSet letterBits bitsWritten tilesOf copies spent acceptsAt completes
-    closing along crossCopies crossLetters crossFrom crossSet insertedAll met blockAt letters letterOf arcsOf setOf blocks
-    letterSets blockOf macondoNodes byteOf runs child lxdNode lxdNodes
+unfolding cases fits fitting run inOrder spelled wordsWithin words table loadPieces fedPieces feedAll begin feed finish firstOf holding
+    stateAfter nodesAfter wholeNodes partNode firstMisfit zeros largestArc lastEnds lent difference sum findIn arcOf stepTo
+    wordsBetween passed passedAfter passedFirst numberEnding indexFrom indexOfWord wordIndex wordsHere turnIn wordFrom
+    wordByIndex bitSet letterBits bitsWritten tilesOf copies spent acceptsAt completes closing along crossCopies crossLetters
+    crossFrom crossSet insertedAll met blockAt letters letterOf arcsOf setOf blocks letterSets blockOf macondoNodes byteOf runs
+    child lxdNode lxdNodes
 starred = (refl, (refl, (refl, (refl, (refl, (refl, (refl, (refl, (refl, (refl, (refl, tt)))))))))))

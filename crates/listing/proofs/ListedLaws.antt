@@ -17,7 +17,7 @@ use Rattle.graph.specs.Words.{Word, words, count}
 use Rattle.graph.specs.ChecksLaws.{fit}
 use Rattle.graph.specs.Counting.{Counts}
 use Rattle.lookup.specs.Walks.{wordByIndex}
-use Rattle.numbers.specs.WordNumbers.{GraphLent}
+use Rattle.lookup.specs.GraphLent.{GraphLent}
 use Rattle.numbers.specs.LentNumbers.{named-lent, cut-lent}
 use Rattle.listing.specs.Lines.{line, refusalLine}
 use Rattle.listing.specs.Wordlist.{startWords, mostTiles, listed}

@@ -13,7 +13,7 @@ use Rattle.answers.specs.Answers.{Answer, gives, nothing, refused}
 use Rattle.graph.specs.Runs.{Graph}
 use Rattle.graph.specs.Counting.{IsCounted, Counts, countLimit}
 use Rattle.graph.specs.CountedOnce.{counted-once}
-use Rattle.numbers.specs.WordNumbers.{GraphLent}
+use Rattle.lookup.specs.GraphLent.{GraphLent}
 use Rattle.numbers.specs.WordNumbersLaws.{counted-lent, lent-left}
 use Rattle.listing.specs.Lines.{refusalLine}
 use Rattle.listing.specs.Wordlist.{startWords, loadInput, loadAnswer, RefusesBy, Ends, refuses, lists}

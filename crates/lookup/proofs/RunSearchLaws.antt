@@ -6,17 +6,17 @@ use mathlib.Core.List.{[], _∷_}
 use Prim.Native.Nat.{ℕ, suc, _+_, _≤_, _<_}
 use native.Mathlib.Omega.{arith}
 use native.Mathlib.Numerals.{add-one}
-use borrow.Author.Tests.{eq-eqb, ne-eqb, ltb-true, ltb-false}
-use lib.Dec.{eqb, ltb}
+use borrow.Author.Tests.{eq-eqb, ne-eqb}
+use lib.Dec.{eqb}
 use lib.ListN.{length, drop, drop-of-length-le, length-drop}
 use lib.Seq.{drop-cons}
 use Rattle.laws.specs.Cases.{split}
 use Rattle.answers.specs.Answers.{nothing, refused}
 use Rattle.node.specs.Nodes.{KBWG, tile, arc, isEnd}
 use Rattle.graph.specs.Runs.{Graph, node}
-use Rattle.lookup.specs.Steps.{on, stop, _>>=_}
+use Rattle.lookup.specs.Steps.{on, stop}
 use Rattle.lookup.specs.StepsLaws.{on-eq, stop-on, lent-on, lent-out}
-use Rattle.lookup.specs.Walks.{findIn, stepTo}
+use Rattle.lookup.specs.Walks.{findIn, arcOf, stepTo}
 
 -- ---- at a node of the run
 module _ (g : Graph) (i t : ℕ) where
@@ -39,7 +39,7 @@ module _ (g : Graph) (i t : ℕ) where
       find-next e = rw add-one (rw (drop-cons g i 0 h) (rw (ne-eqb (tile KBWG (node g i)) t n, findIn) (rw e)))
 
 -- ---- a node that is found is lent
-found-between : (vs : Graph) (p t q : ℕ) → findIn vs p t ≡ on q → (p ≤ q) × (q < p + length vs)
+pub found-between : (vs : Graph) (p t q : ℕ) → findIn vs p t ≡ on q → (p ≤ q) × (q < p + length vs)
 unfolding findIn
 found-between [] p t q e = stop-on e
 found-between (v ∷ vs) p t q e =
@@ -53,6 +53,15 @@ pub found-lent : (g : Graph) (p t q : ℕ) → findIn (drop p g) p t ≡ on q �
 found-lent g p t q e = let k = found-between (drop p g) p t q e in let l = length-drop p g in omega arith
 
 -- ---- by an arc
+module _ (v : ℕ) where
+  pub arc-of-none : arc KBWG v ≡ 0 → arcOf v ≡ stop nothing
+  unfolding arcOf
+  arc-of-none z = rw (eq-eqb (arc KBWG v) 0 z, arcOf)
+
+  pub arc-of-on : (q : ℕ) → q ≡ arc KBWG v → q ≢ 0 → arcOf v ≡ on q
+  unfolding arcOf
+  arc-of-on q e n = rw (ne-eqb (arc KBWG v) 0 (λ z. n (e ∙ z)), arcOf) (ap on (sym e))
+
 module _ (g : Graph) (p t : ℕ) where
   pub step-to-out : length g ≤ p → stepTo g p t ≡ stop (refused 14 [])
   unfolding stepTo
@@ -61,19 +70,8 @@ module _ (g : Graph) (p t : ℕ) where
   module _ (h : p < length g) where
     pub step-to-none : arc KBWG (node g p) ≡ 0 → stepTo g p t ≡ stop nothing
     unfolding stepTo
-    step-to-none z = rw (lent-on g p h) (rw (eq-eqb (arc KBWG (node g p)) 0 z, _>>=_))
+    step-to-none z = rw (lent-on g p h) (rw (arc-of-none (node g p) z))
 
     pub step-to-find : (q : ℕ) → q ≡ arc KBWG (node g p) → q ≢ 0 → stepTo g p t ≡ findIn (drop q g) q t
     unfolding stepTo
-    step-to-find q e n =
-        rw (lent-on g p h) (rw (ne-eqb (arc KBWG (node g p)) 0 (λ z. n (e ∙ z)), _>>=_) (ap (λ k. findIn (drop k g) k t) (sym e)))
-
-  pub step-to-lent : (q : ℕ) → stepTo g p t ≡ on q → q < length g
-  unfolding stepTo
-  step-to-lent q e =
-      split (ltb p (length g))
-      (λ h. let k = rw (lent-on g p (ltb-true p (length g) h), _>>=_) at e in
-      split (eqb (arc KBWG (node g p)) 0)
-      (λ z. stop-on (rw z at k))
-      (λ n. found-lent g (arc KBWG (node g p)) t q (rw n at k)))
-      (λ h. stop-on (rw (lent-out g p (ltb-false p (length g) h)) at e))
+    step-to-find q e n = rw (lent-on g p h) (rw (arc-of-on (node g p) q e n))

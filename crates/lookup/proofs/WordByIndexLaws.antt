@@ -13,38 +13,22 @@ use Rattle.answers.specs.Answers.{Answer, gives, nothing, refused}
 use Rattle.node.specs.Nodes.{KBWG, tile, arc, accepts, acceptsBit, isEnd}
 use Rattle.graph.specs.Runs.{Graph, node}
 use Rattle.lookup.specs.Steps.{on, stop, _>>=_}
-use Rattle.lookup.specs.StepsLaws.{lent-on, lent-out, difference-on}
-use Rattle.lookup.specs.Walks.{Turn, last, down, wordsHere, turnIn, wordFrom}
-use Rattle.lookup.proofs.OutOfRange.{difference-below}
+use Rattle.lookup.specs.StepsLaws.{lent-on, lent-out}
+use Rattle.lookup.specs.Walks.{Turn, last, down, wordsBetween, wordsHere, turnIn, wordFrom}
 
 -- ---- the words at a node
-module _ (counts : List ℕ) (v : ℕ) (p : ℕ) where
-  pub here-out : length counts ≤ p → wordsHere counts v p ≡ stop (refused 14 [])
+module _ (counts : List ℕ) (v p : ℕ) where
+  pub here-on : isEnd KBWG v ≡ false → wordsHere counts v p ≡ wordsBetween counts p (p + 1)
   unfolding wordsHere
-  here-out h = rw (lent-out counts p h)
+  here-on e = rw (e, add-one, wordsHere)
 
-  module _ (h : p < length counts) where
-    pub here-end : isEnd KBWG v ≡ true → wordsHere counts v p ≡ on (getD counts p 0)
-    unfolding wordsHere
-    here-end e = rw (lent-on counts p h) (rw (e, _>>=_))
+  pub here-out : isEnd KBWG v ≡ true → length counts ≤ p → wordsHere counts v p ≡ stop (refused 14 [])
+  unfolding wordsHere
+  here-out e h = rw (e, wordsHere) (lent-out counts p h)
 
-    module _ (e : isEnd KBWG v ≡ false) where
-      pub here-last : length counts ≤ p + 1 → wordsHere counts v p ≡ stop (refused 14 [])
-      unfolding wordsHere
-      here-last l = rw (lent-on counts p h) (rw (e, _>>=_) (rw (lent-out counts (suc p) (omega arith))))
-
-      module _ (l : p + 1 < length counts) where
-        pub here-below : getD counts p 0 < getD counts (p + 1) 0 → wordsHere counts v p ≡ stop (refused 15 [])
-        unfolding wordsHere
-        here-below b =
-            rw (lent-on counts p h) (rw (e, _>>=_) (rw (lent-on counts (suc p) (omega arith))
-            (difference-below (getD counts p 0) (getD counts (suc p) 0) (rw add-one at b))))
-
-        pub here-words : getD counts (p + 1) 0 ≤ getD counts p 0 → wordsHere counts v p ≡ on (getD counts p 0 - getD counts (p + 1) 0)
-        unfolding wordsHere
-        here-words b =
-            rw add-one (rw (lent-on counts p h) (rw (e, _>>=_) (rw (lent-on counts (suc p) (omega arith))
-            (difference-on (getD counts p 0) (getD counts (suc p) 0) (rw add-one at b)))))
+  pub here-end : isEnd KBWG v ≡ true → p < length counts → wordsHere counts v p ≡ on (getD counts p 0)
+  unfolding wordsHere
+  here-end e h = rw (e, wordsHere) (lent-on counts p h)
 
 -- ---- a turn at a node
 -- a number whose word does not end there is past the node's own word, if it has one

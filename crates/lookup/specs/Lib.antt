@@ -2,4 +2,8 @@ pub mod Steps
 pub mod StepsLaws
 pub mod Walks
 pub mod WalkedLaws
+pub mod GraphLent
+pub mod WordsBefore
+pub mod FoundLaws
+pub mod WordsBeforeLaws
 pub mod Said

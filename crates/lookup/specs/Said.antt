@@ -10,17 +10,18 @@ use Rattle.lookup.specs.declared.by_tile.Sought.{Sought}
 use Rattle.lookup.specs.declared.by_tile.Sought.the-variants as S
 use Rattle.lookup.specs.declared.by_word.WordIndex.{WordIndex}
 use Rattle.lookup.specs.declared.by_word.WordIndex.the-variants as I
-use Rattle.lookup.specs.declared.by_word.Passed.{Passed}
-use Rattle.lookup.specs.declared.by_word.Passed.the-variants as P
-use Rattle.lookup.specs.declared.by_number.Here.{Here}
-use Rattle.lookup.specs.declared.by_number.Here.the-variants as H
+use Rattle.lookup.specs.declared.by_tile.Passed.{Passed}
+use Rattle.lookup.specs.declared.by_tile.Passed.the-variants as P
+use Rattle.lookup.specs.declared.run.Between.{Between}
+use Rattle.lookup.specs.declared.run.Between.the-variants as B
 use Rattle.lookup.specs.declared.by_number.WordByIndex.{WordByIndex}
 use Rattle.lookup.specs.declared.by_number.WordByIndex.the-variants as T
 
 abbrev pub saidSeek : Sought → Answer
-saidSeek (S.At q) = gives (q ∷ [])
+saidSeek (S.At node before) = gives (node ∷ before ∷ [])
 saidSeek S.Absent = nothing
 saidSeek S.NotLent = refused 14 []
+saidSeek S.OutOfRange = refused 15 []
 
 abbrev pub saidIndex : WordIndex → Answer
 saidIndex (I.Number n) = gives (n ∷ [])
@@ -45,13 +46,13 @@ searchTry (F.At i) = on i
 searchTry F.Absent = stop nothing
 searchTry F.NotLent = stop (refused 14 [])
 
-abbrev pub passTry : Passed → Try (ℕ × ℕ)
-passTry (P.To before node) = on (before, node)
-passTry P.Absent = stop nothing
-passTry P.NotLent = stop (refused 14 [])
-passTry P.OutOfRange = stop (refused 15 [])
+abbrev pub betweenTry : Between → Try ℕ
+betweenTry (B.Words n) = on n
+betweenTry B.NotLent = stop (refused 14 [])
+betweenTry B.OutOfRange = stop (refused 15 [])
 
-abbrev pub hereTry : Here → Try ℕ
-hereTry (H.Words n) = on n
-hereTry H.NotLent = stop (refused 14 [])
-hereTry H.OutOfRange = stop (refused 15 [])
+abbrev pub passedTry : Passed → Try (ℕ × ℕ)
+passedTry (P.To node before) = on (node, before)
+passedTry P.Absent = stop nothing
+passedTry P.NotLent = stop (refused 14 [])
+passedTry P.OutOfRange = stop (refused 15 [])

@@ -18,7 +18,7 @@ use Rattle.graph.specs.Runs.{Graph}
 use Rattle.graph.specs.Words.{Word}
 use Rattle.lookup.specs.Steps.{Try, on, stop, _>>=_, lent, difference, lentPart}
 use Rattle.lookup.specs.StepsLaws.{Comes, then-comes}
-use Rattle.lookup.specs.Walks.{Turn, last, down, wordsHere, turnIn, wordFrom, wordByIndex}
+use Rattle.lookup.specs.Walks.{Turn, last, down, wordsBetween, wordsHere, turnIn, wordFrom, wordByIndex}
 
 -- ---- no step ends the walk with a value or by 16
 Stops : Answer → Type 0
@@ -41,13 +41,14 @@ unfolding Stops difference
 difference-ends a b = split (leb b a) (λ t. rw (t, difference) tt) (λ t. rw (t, difference) (omega arith))
 
 module _ (counts : List ℕ) where
+  between-ends : (p q : ℕ) → StepEnds (wordsBetween counts p q)
+  unfolding wordsBetween
+  between-ends p q =
+      then-ends (lent counts p) _ (lent-ends counts p) (λ c. then-ends (lent counts q) _ (lent-ends counts q) (λ d. difference-ends c d))
+
   here-ends : (v p : ℕ) → StepEnds (wordsHere counts v p)
-  unfolding Stops wordsHere
-  here-ends v p =
-      then-ends (lent counts p) _ (lent-ends counts p)
-      (λ c. split (isEnd KBWG v)
-      (λ t. rw t tt)
-      (λ t. rw t (then-ends (lent counts (suc p)) _ (lent-ends counts (suc p)) (λ d. difference-ends c d))))
+  unfolding wordsHere
+  here-ends v p = split (isEnd KBWG v) (λ t. rw (t, wordsHere) (lent-ends counts p)) (λ t. rw (t, wordsHere) (between-ends p (suc p)))
 
   turn-ends : (g : Graph) (p idx : ℕ) → StepEnds (turnIn counts g p idx)
   unfolding Stops turnIn

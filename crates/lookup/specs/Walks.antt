@@ -1,4 +1,5 @@
--- The walks of run lookup and of both word-number conversions, from document 01, "Counting and numbers", as the Rust walks.
+-- The walks of run lookup and of both word-number conversions, from document 01, "Counting and numbers", and for the words of a run before a
+-- tile from 02, C-16.
 use mathlib.Core.Bool.{true, false, _&&_, not}
 use mathlib.Core.List.{List, [], _∷_}
 use Prim.Native.Nat.{ℕ, zero, suc, _-_}
@@ -19,36 +20,73 @@ findIn (v ∷ vs) p t =
       | false ↦ elim (isEnd KBWG v) [ true ↦ stop nothing | false ↦ findIn vs (suc p) t ]
     ]
 
--- run lookup, as a step of a walk: the node with the tile in the run that the arc of p leads to
+-- where the arc of node v leads: the first place of a run; "Arc 0 means no arc"
+unfoldable pub arcOf : ℕ → Try ℕ
+arcOf v = elim (eqb (arc KBWG v) 0) [ true ↦ stop nothing | false ↦ on (arc KBWG v) ]
+
+-- a step of a walk that reads no counts: the node with the tile in the run that the arc of p leads to
 unfoldable pub stepTo : Graph → ℕ → ℕ → Try ℕ
 stepTo g p t = do
   v ← lent g p
-  elim (eqb (arc KBWG v) 0) [ true ↦ stop nothing | false ↦ findIn (drop (arc KBWG v) g) (arc KBWG v) t ]
+  first ← arcOf v
+  findIn (drop first g) first t
+
+-- the words of a run from its place p on that come before its place q: the count of p less that of q, "the run's first count first"
+unfoldable pub wordsBetween : List ℕ → ℕ → ℕ → Try ℕ
+wordsBetween counts p q = do
+  first ← lent counts p
+  other ← lent counts q
+  difference first other
+
+-- ---- run lookup with counts (02, C-16)
+module _ (g : Graph) (counts : List ℕ) where
+  -- in the run from p: the node with the tile, and "how many words of the run come before it"; "Counts are read only for a tile found"
+  unfoldable pub passed : ℕ → ℕ → Try (ℕ × ℕ)
+  passed p t = do
+    q ← findIn (drop p g) p t
+    before ← wordsBetween counts p q
+    on (q, before)
+
+  -- from node v: in the run that its arc leads to
+  unfoldable pub passedAfter : ℕ → ℕ → Try (ℕ × ℕ)
+  passedAfter v t = do
+    first ← arcOf v
+    passed first t
+
+  -- from place p
+  unfoldable pub passedFrom : ℕ → ℕ → Try (ℕ × ℕ)
+  passedFrom p t = do
+    v ← lent g p
+    passedAfter v t
+
+  -- a word's first tile, whose run begins at the start itself: none from start 0, and the start's count must be lent, whatever the tile
+  unfoldable pub passedFirst : ℕ → ℕ → Try (ℕ × ℕ)
+  passedFirst start t = do
+    _ ← require (not (eqb start 0)) nothing
+    _ ← lent counts start
+    passed start t
 
 -- ---- `get_word_index`; limit is the greatest number: no sum is above it, and as the number of a word it means none
+-- the word that ends at node v, with idx words before it
+unfoldable pub numberEnding : ℕ → ℕ → ℕ → Answer
+numberEnding limit v idx = elim (accepts KBWG v && not (eqb idx limit)) [ true ↦ gives (idx ∷ []) | false ↦ nothing ]
+
 module _ (limit : ℕ) (g : Graph) (counts : List ℕ) where
-  -- one tile, from place p with idx words passed: the words passed on the way to its node, and the node
-  unfoldable pub passed : ℕ → ℕ → ℕ → Try (ℕ × ℕ)
-  passed p idx t = do
-    _ ← require (not (eqb p 0)) nothing
-    _ ← lent g p
-    first ← lent counts p
-    above ← sum limit idx first
-    q ← findIn (drop p g) p t
-    found ← lent counts q
-    before ← difference above found
-    on (before, node g q)
+  -- the tiles after one that led to node v, with idx words before it: run lookup's answer "for each further tile"
+  unfoldable pub indexFrom : ℕ → ℕ → Word → Answer
+  indexFrom v idx [] = numberEnding limit v idx
+  indexFrom v idx (t ∷ w) = answer do
+    here ← sum limit idx (acceptsBit KBWG v)
+    (q, before) ← passedAfter g counts v t
+    next ← sum limit here before
+    on (indexFrom (node g q) next w)
 
   -- "answers a number, or none where the Rust gives `!0`; start 0 and the empty word give none"
-  unfoldable pub indexFrom : ℕ → ℕ → Word → Answer
-  indexFrom p idx [] = nothing
-  indexFrom p idx (t ∷ []) = answer do
-    (before, v) ← passed p idx t
-    elim (accepts KBWG v && not (eqb before limit)) [ true ↦ on (gives (before ∷ [])) | false ↦ on nothing ]
-  indexFrom p idx (t ∷ u ∷ w) = answer do
-    (before, v) ← passed p idx t
-    next ← sum limit before (acceptsBit KBWG v)
-    on (indexFrom (arc KBWG v) next (u ∷ w))
+  unfoldable pub indexOfWord : ℕ → Word → Answer
+  indexOfWord start [] = nothing
+  indexOfWord start (t ∷ w) = answer do
+    (q, before) ← passedFirst g counts start t
+    on (indexFrom (node g q) before w)
 
 -- ---- `get_word_by_index`
 -- what the walk does at a node of the run: its tile ends the word, or comes before a word of the arc, with the number left
@@ -59,9 +97,7 @@ pub data Turn : Type 0 where
 module _ (counts : List ℕ) where
   -- the words that begin at node v itself, `words_here` in the Rust
   unfoldable pub wordsHere : ℕ → ℕ → Try ℕ
-  wordsHere v p = do
-    c ← lent counts p
-    elim (isEnd KBWG v) [ true ↦ on c | false ↦ lent counts (suc p) >>= λ d. difference c d ]
+  wordsHere v p = elim (isEnd KBWG v) [ true ↦ lent counts p | false ↦ wordsBetween counts p (suc p) ]
 
   -- along the run that begins at the head of the nodes left, at place p
   unfoldable pub turnIn : Graph → ℕ → ℕ → Try Turn
@@ -89,13 +125,15 @@ module _ (counts : List ℕ) where
       ]
 
 -- ---- the calls, over what is lent
--- "Run lookup is `seek`, where -1 is none."
-unfoldable pub seek : Graph → ℕ → ℕ → Answer
-seek g p t = answer (stepTo (lentPart g) p t >>= λ q. on (gives (q ∷ [])))
+-- "Run lookup is `seek`, where -1 is none."; it answers "with the node found, how many words of the run come before it" (02, C-16)
+unfoldable pub seek : Graph → List ℕ → ℕ → ℕ → Answer
+seek g counts p t = answer do
+  (q, before) ← passedFrom (lentPart g) (lentPart counts) p t
+  on (gives (q ∷ before ∷ []))
 
 -- "`get_word_index` answers a number, or none"
 unfoldable pub wordIndex : ℕ → Graph → List ℕ → ℕ → Word → Answer
-wordIndex limit g counts p w = indexFrom limit (lentPart g) (lentPart counts) p 0 w
+wordIndex limit g counts p w = indexOfWord limit (lentPart g) (lentPart counts) p w
 
 -- the tiles put, and the answer, for a buffer of so many tiles
 unfoldable pub wordByIndex : List ℕ → Graph → ℕ → ℕ → ℕ → Word × Answer

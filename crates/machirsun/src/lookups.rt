@@ -3,6 +3,7 @@ ghost use mathlib.Core.Path.{_≡_};
 ghost use lib.ListN.{length};
 ghost use Rattle.graph.specs.Counting.{countLimit};
 ghost use Rattle.lookup.specs.Walks.{seek, wordIndex, wordByIndex};
+ghost use Rattle.lookup.specs.WordsBefore.{NamesBefore};
 ghost use Rattle.cursor.specs.RunSteps.{moves};
 ghost use Rattle.flat.specs.FlatLookups.{soughtOf, flatSought, madeAt, cursorOf, flatCursor, indexOf, flatIndex, FlatWordPut};
 use cursor::Stepped;
@@ -14,13 +15,14 @@ use flat::flat_index;
 use flat::flat_sought;
 use flat::flat_word;
 
-// The node with the tile in the run that the arc of a node leads to.
+// The node with the tile in the run that the arc of a node leads to, and how many words of the run come before it.
 #[no_mangle]
-pub extern "C" fn machirsun_seek(nodes: &[u32], place: u32, tile: u8) -> FlatSought
-    ensures answer { λ r. ⌜ soughtOf r ≡ seek (now (nodes .entry)) place tile ⌝ }
+pub extern "C" fn machirsun_seek(nodes: &[u32], counts: &[u32], place: u32, tile: u8) -> FlatSought
+    ensures answer { λ r. ⌜ soughtOf r ≡ seek (now (nodes .entry)) (now (counts .entry)) place tile ⌝ }
+    ensures names { λ r. ⌜ NamesBefore (now (nodes .entry)) (now (counts .entry)) place tile (soughtOf r) ⌝ }
     ensures flat { λ r. ⌜ r ≡ flatSought (soughtOf r) ⌝ }
 {
-    flat_sought(lookup::seek(nodes, place, tile))
+    flat_sought(lookup::seek(nodes, counts, place, tile))
 }
 
 // A cursor at a node. At one that is not lent it is refused, and so is each step from it.

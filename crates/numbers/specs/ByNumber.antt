@@ -16,12 +16,12 @@ use Rattle.laws.specs.Cases.{split, and-left, and-right}
 use Rattle.answers.specs.Answers.{gives, nothing}
 use Rattle.lookup.specs.Steps.{Try, on, stop, _>>=_}
 use Rattle.node.specs.Nodes.{tile, arc, accepts, acceptsBit, KBWG, isEnd}
-use Rattle.graph.specs.Runs.{Graph, node, run}
+use Rattle.graph.specs.Runs.{Graph, node}
 use Rattle.graph.specs.Words.{Word, spelled, words, count}
 use Rattle.graph.specs.WordsAscend.{From, words-nonempty}
 use Rattle.graph.specs.CountLaws.{words-end, words-on}
 use Rattle.lookup.specs.StepsLaws.{difference-on}
-use Rattle.lookup.specs.Walks.{Turn, last, down, wordsHere, turnIn, wordFrom}
+use Rattle.lookup.specs.Walks.{Turn, last, down, wordsBetween, wordsHere, turnIn, wordFrom}
 use Rattle.numbers.specs.RunWords.{accepts-one, accepts-zero, spelled-alone, spelled-both, spelled-none, spelled-arc, own-word}
 use Rattle.numbers.specs.RunWords.{size, first-word, count-splits, at-later}
 use Rattle.numbers.specs.Walkable.{Walkable}
@@ -32,11 +32,11 @@ module _ (g : Graph) (nodes counted : List ℕ) (walk : Walkable g nodes counted
   W q = words KBWG g q
 
   here-is : (p : ℕ) → p < length g → wordsHere counted (node g p) p ≡ on (size g (node g p))
-  unfolding wordsHere
+  unfolding wordsHere wordsBetween
   here-is p h =
       split (isEnd KBWG (node g p))
-      (λ e. rw (walk .count-lent p h) (rw e (rw (words-end KBWG g p h (walk .clear p) e))))
-      (λ e. rw (walk .count-lent p h) (rw e (rw (walk .count-lent (suc p) (walk .steps .runs p h e))
+      (λ e. rw (e, wordsHere) (rw (walk .count-lent p h) (rw (words-end KBWG g p h (walk .clear p) e))))
+      (λ e. rw (e, wordsHere) (rw (walk .count-lent p h) (rw (walk .count-lent (suc p) (walk .steps .runs p h e))
       (let l = ap length (words-on KBWG g p h (walk .clear p) e) ∙ length-append (spelled KBWG W (node g p)) (W (suc p)) in
       difference-on (count KBWG g p) (count KBWG g (suc p)) (omega arith) ∙ ap on (omega arith)))))
 

@@ -14,16 +14,17 @@ use Rattle.graph.specs.Counting.{Counts}
 use Rattle.lookup.specs.Steps.{lentPart}
 use Rattle.lookup.specs.Walks.{wordByIndex}
 use Rattle.lookup.specs.WalkedLaws.{by-index-cut}
-use Rattle.numbers.specs.LentLaws.{walkable, lent-parts}
+use Rattle.lookup.specs.GraphLent.{GraphLent, lent-parts}
+use Rattle.numbers.specs.LentLaws.{walkable}
 use Rattle.numbers.specs.ByNumber.{named, other-numbers}
 use Rattle.numbers.specs.Walkable.{Walkable}
-use Rattle.numbers.specs.WordNumbers.{GraphLent, wordAt}
+use Rattle.numbers.specs.WordNumbers.{wordAt}
 
 module _ (limit : ℕ) (g : Graph) (c : Counts limit g) (nodes counted : List ℕ) (is : GraphLent g nodes counted) where
   pub walk-lent : Walkable g (lentPart nodes) (lentPart counted)
   walk-lent =
       let fits = fit g (c .fit) in
-      walkable g fits (lentPart nodes) (lentPart counted) (lent-parts g fits nodes counted is) (c .loopless)
+      walkable g fits (lentPart nodes) (lentPart counted) (lent-parts g nodes counted is fits) (c .loopless)
 
   module _ (p i room : ℕ) (h : p < length g) where
     pub named-lent : i < count KBWG g p → length (wordAt g p i) ≤ room

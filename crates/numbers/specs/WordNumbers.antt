@@ -3,20 +3,13 @@
 use mathlib.Core.Path.{_≡_}
 use mathlib.Core.List.{List, [], _∷_, List·Memᴰ}
 use Prim.Native.Nat.{ℕ, _≤_, _<_}
-use lib.ListN.{length, getD, take, drop}
+use lib.ListN.{length, getD, drop}
 use Rattle.answers.specs.Answers.{gives, nothing}
 use Rattle.node.specs.Nodes.{KBWG}
 use Rattle.graph.specs.Runs.{Graph, run}
 use Rattle.graph.specs.Words.{Word, inOrder, spelled, words}
 use Rattle.graph.specs.Order.{Ascending}
-use Rattle.graph.specs.Counting.{counts}
 use Rattle.lookup.specs.Walks.{wordByIndex, wordIndex}
-
--- "both conversions are lent these nodes and counts": the graph stands at the head of the lent nodes, and its counts at the head of the
--- lent counts; either list may be longer
-pub record GraphLent (g : Graph) (nodes counted : List ℕ) : Type 0 where
-  pub nodes-are : take (length g) nodes ≡ g
-  pub counts-are : take (length g) counted ≡ counts g
 
 -- the word with the number i among those from p
 abbrev pub wordAt : Graph → ℕ → ℕ → Word

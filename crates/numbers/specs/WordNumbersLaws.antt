@@ -11,22 +11,21 @@ use Rattle.laws.specs.Members.{at-in}
 use Rattle.answers.specs.Answers.{Answer, gives, nothing}
 use Rattle.answers.specs.RowLaws.{row-never-gives, rows-passed}
 use Rattle.node.specs.Nodes.{KBWG}
-use Rattle.graph.specs.Runs.{Graph, node, ascends}
+use Rattle.graph.specs.Runs.{Graph, ascends}
 use Rattle.graph.specs.Words.{Word, words, count}
 use Rattle.graph.specs.Order.{_≺_, Ascending}
 use Rattle.graph.specs.Checks.{graphRow}
-use Rattle.graph.specs.ChecksLaws.{Fit, fit}
 use Rattle.graph.specs.Counting.{counts, countRow, IsCounted, unfit, all, Counts}
 use Rattle.graph.specs.WordsAscend.{≺-differ, words-ascend}
 use Rattle.graph.specs.WordsEquation.{words-equation}
 use Rattle.lookup.specs.Steps.{lentPart}
 use Rattle.lookup.specs.Walks.{wordIndex}
 use Rattle.laws.specs.Tables.{table-length}
-use Rattle.numbers.specs.LentLaws.{count-at}
+use Rattle.lookup.specs.GraphLent.{GraphLent, count-at}
 use Rattle.numbers.specs.LentNumbers.{walk-lent, named-lent, none-lent}
 use Rattle.numbers.specs.ByWord.{IndexIs, number, no-word, indexed}
 use Rattle.numbers.specs.Walkable.{Walkable}
-use Rattle.numbers.specs.WordNumbers.{GraphLent, wordAt, WordNumbers}
+use Rattle.numbers.specs.WordNumbers.{wordAt, WordNumbers}
 
 once-only : (l : List Word) → Ascending l → (i j : ℕ) → i < length l → j < length l → getD l i [] ≡ getD l j [] → i ≡ j
 once-only [] a i j h k e = absurd (omega arith)
@@ -36,31 +35,27 @@ once-only (w ∷ l) a (suc i) zero h k e = absurd (≺-differ (all-mem (w ≺_) 
 once-only (w ∷ l) a (suc i) (suc j) h k e = ap suc (once-only l (a .1) i j (omega arith) (omega arith) e)
 
 module _ (limit : ℕ) (g : Graph) (c : Counts limit g) (up : ascends KBWG g ≡ true) (nodes counted : List ℕ) (is : GraphLent g nodes counted) where
-  fits : Fit g
-  fits = fit g (c .fit)
-
   walk : Walkable g (lentPart nodes) (lentPart counted)
   walk = walk-lent limit g c nodes counted is
 
   abbrev Index : ℕ → Word → Answer → Type 0
-  Index p w x = IndexIs g (lentPart nodes) (lentPart counted) walk up limit p 0 w x
+  Index p w x = IndexIs g (lentPart nodes) (lentPart counted) walk up limit p w x
 
   index-of : (p : ℕ) → 0 < p → p < length g → (w : Word) → Index p w (wordIndex limit nodes counted p w)
   unfolding wordIndex
-  index-of p z h w = indexed g (lentPart nodes) (lentPart counted) walk up limit w p 0 h (omega arith) (let f = c .few p h in omega arith)
+  index-of p z h w = indexed g (lentPart nodes) (lentPart counted) walk up limit w p h (omega arith) (let f = c .few p h in omega arith)
 
   back : (p i : ℕ) → i < count KBWG g p → {x : Answer} → Index p (wordAt g p i) x → x ≡ gives (i ∷ [])
-  back p i h (number {i = j} l e n) =
-      let s = once-only (words KBWG g p) (words-ascend KBWG g up p) j i l h e in ap (λ k. gives (k ∷ [])) (omega arith)
+  back p i h (number {i = j} l e) = ap (λ k. gives (k ∷ [])) (once-only (words KBWG g p) (words-ascend KBWG g up p) j i l h e)
   back p i h (no-word n) = absurd (n (at-in (words KBWG g p) i [] h))
 
   other : (p : ℕ) (w : Word) → (List·Memᴰ w (words KBWG g p) → ⊥) → {x : Answer} → Index p w x → x ≡ nothing
-  other p w n (number {i = j} l e m) = absurd (n (Memᴰ·cast (sym e) (at-in (words KBWG g p) j [] l)))
+  other p w n (number {i = j} l e) = absurd (n (Memᴰ·cast (sym e) (at-in (words KBWG g p) j [] l)))
   other p w n (no-word m) = refl
 
   pub numbered : (p : ℕ) → 0 < p → p < length g → WordNumbers limit g nodes counted p
   numbered p z h =
-      let e = count-at g fits nodes counted is p h .1 in
+      let e = count-at g nodes counted is p h .1 in
       record {
         equation = words-equation KBWG g p (walk .clear p);
         count-is = e;

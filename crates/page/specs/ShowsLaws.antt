@@ -20,7 +20,8 @@ use Rattle.graph.specs.Counting.{Counts}
 use Rattle.export.specs.Written.{Written}
 use Rattle.lookup.specs.Steps.{on}
 use Rattle.lookup.specs.StepsLaws.{on-eq}
-use Rattle.numbers.specs.WordNumbers.{GraphLent, wordAt}
+use Rattle.lookup.specs.GraphLent.{GraphLent}
+use Rattle.numbers.specs.WordNumbers.{wordAt}
 use Rattle.numbers.specs.LentNumbers.{named-lent, cut-lent, none-lent}
 use Rattle.page.specs.Rows.{Widths, ShownWord, wordRows, rowOf, pageRows}
 use Rattle.page.specs.Shown.{shownAt, shownFrom}

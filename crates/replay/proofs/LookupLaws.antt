@@ -17,11 +17,13 @@ use Rattle.flat.specs.declared.lookups.FlatWord.{FlatWord}
 use Rattle.replay.specs.Lookups.{soughtFields, cursorFields, indexFields, wordFields, seekReply, stepReply, indexReply, wordWalk, wordReplyIn, unmarked}
 
 module _ (ws : List ℕ) where
-  pub seek-fields : (r : FlatSought) (g : List ℕ) (p t b : ℕ) → g ≡ drop 2 ws → p ≡ getD ws 0 0 → t ≡ getD ws 1 0 % 256 → b ≡ flag (r .found)
-      → soughtOf r ≡ seek g p t → r ≡ flatSought (soughtOf r) → r .refusal ∷ b ∷ r .place ∷ [] ≡ seekReply ws
+  pub seek-fields : (r : FlatSought) (rest g counts : List ℕ) (n p t b : ℕ) → rest ≡ drop 3 ws → n ≡ getD ws 2 0 → g ≡ take n rest
+      → counts ≡ drop n rest → p ≡ getD ws 0 0 → t ≡ getD ws 1 0 % 256 → b ≡ flag (r .found) → soughtOf r ≡ seek g counts p t
+      → r ≡ flatSought (soughtOf r) → r .refusal ∷ b ∷ r .place ∷ r .before ∷ [] ≡ seekReply ws
   unfolding seekReply
-  seek-fields r g p t b eg ep et eb said flat =
-      let args : seek g p t ≡ seek (drop 2 ws) (getD ws 0 0) (getD ws 1 0 % 256) = rw (eg, ep, et) in
+  seek-fields r rest g counts n p t b er en eg ec ep et eb said flat =
+      let args : seek g counts p t ≡ seek (take (getD ws 2 0) (drop 3 ws)) (drop (getD ws 2 0) (drop 3 ws)) (getD ws 0 0) (getD ws 1 0 % 256)
+      = rw (eg, ec, ep, et, en, er) in
       rw eb (ap soughtFields (flat ∙ ap flatSought (said ∙ args)))
 
   pub step-fields : (r : FlatCursor) (g : List ℕ) (p b : ℕ) → g ≡ drop 1 ws → p ≡ getD ws 0 0 → b ≡ flag (r .done)

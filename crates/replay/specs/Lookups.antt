@@ -18,7 +18,7 @@ use Rattle.flat.specs.declared.lookups.FlatWord.{FlatWord}
 
 -- ---- the fields of the flat answers, in their order
 abbrev pub soughtFields : FlatSought → List ℕ
-soughtFields r = r .refusal ∷ flag (r .found) ∷ r .place ∷ []
+soughtFields r = r .refusal ∷ flag (r .found) ∷ r .place ∷ r .before ∷ []
 
 abbrev pub cursorFields : FlatCursor → List ℕ
 cursorFields r = r .refusal ∷ flag (r .done) ∷ r .at ∷ []
@@ -30,9 +30,12 @@ abbrev pub wordFields : FlatWord → List ℕ
 wordFields r = r .refusal ∷ flag (r .found) ∷ r .tiles ∷ []
 
 -- ---- the replies
--- P TILE, and the nodes
+-- P TILE N, N nodes and the counts
 unfoldable pub seekReply : List ℕ → List ℕ
-seekReply ws = soughtFields (flatSought (seek (drop 2 ws) (getD ws 0 0) (getD ws 1 0 % 256)))
+seekReply ws =
+    let n = getD ws 2 0 in
+    let graph = drop 3 ws in
+    soughtFields (flatSought (seek (take n graph) (drop n graph) (getD ws 0 0) (getD ws 1 0 % 256)))
 
 -- P, and the nodes
 unfoldable pub stepReply : List ℕ → List ℕ

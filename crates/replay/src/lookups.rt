@@ -10,13 +10,23 @@ ghost use mathlib.Core.Path.{_≡_};
 ghost use Rattle.stored.specs.Answers.{same};
 ghost use Rattle.replay.specs.Lookups.{seekReply, stepReply, indexReply, wordReply, wordReplyIn, unmarked};
 
-// P TILE, and the nodes.
+// P TILE N, N nodes and the counts.
 pub(crate) fn seek(stored: &[u64], words: &[u32]) -> bool
     ensures { λ r. ⌜ r ≡ same (now (stored .entry)) (seekReply (now (words .entry))) ⌝ }
 {
-    let nodes = words_from(words, 2);
-    let sought = machirsun::machirsun_seek(nodes, word_at(words, 0), byte_at(words, 1));
-    same_words(stored, &[sought.refusal, bit(sought.found), sought.place])
+    let graph = words_from(words, 3);
+    let count = word_at(words, 2) as usize;
+    let sought = machirsun::machirsun_seek(
+        words_to(graph, count),
+        words_from(graph, count),
+        word_at(words, 0),
+        byte_at(words, 1),
+    );
+    let found = bit(sought.found);
+    same_words(
+        stored,
+        &[sought.refusal, found, sought.place, sought.before],
+    )
 }
 
 // P, and the nodes: one step.

@@ -4,7 +4,7 @@
 mod requests;
 
 use super::graphs::kwg_of;
-use super::outcome::{ABSENT, DONE, FOUND};
+use super::outcome::{DONE, FOUND};
 use super::{Case, Family};
 use crate::kwg::{Kwg, Node, Node24};
 use crate::numbers::{Inputs, Unreadable};
@@ -52,16 +52,25 @@ fn alpha(
     })
 }
 
+// The Rust's `seek` takes no counts. The words before the node are the difference
+// that its `get_word_index` takes at a tile: the count of the run's first node less
+// that of the node found.
 fn seek(graph: &Kwg<Node24>, words: &[u32], inputs: &mut Inputs) -> Result<Case, Unreadable> {
+    let counts = inputs.words_of(words.len() as u64)?;
     let place = inputs.index()?;
     let tile = inputs.byte()?;
     inputs.end()?;
     let answer = match graph.seek(place, tile) {
-        -1 => ABSENT.to_vec(),
-        found => vec![DONE, FOUND, found as u64],
+        -1 => vec![DONE, 0, 0, 0],
+        found => {
+            let first = counts[graph[place].arc_index() as usize];
+            let before = first.checked_sub(counts[found as usize]);
+            let before = before.ok_or("a difference of counts is below 0")?;
+            vec![DONE, FOUND, found as u64, before.into()]
+        }
     };
-    let asked = [place as u32, tile.into()];
-    Ok(Case::of_words([&asked, words].concat(), answer))
+    let asked = [place as u32, tile.into(), words.len() as u32];
+    Ok(Case::of_words([&asked, words, &counts].concat(), answer))
 }
 
 // The Rust has no call for it: its loops over a run are written out, each with

@@ -32,7 +32,8 @@ pub fn print() {
     bench.seek_along("`seek`, along all words", &words, 1);
     bench.seek_anywhere(&mut random);
     let few: Words = words.iter().step_by(WORDS / FEW).cloned().collect();
-    let small = Bench::new(lexicon::dawg(&few));
+    let mut small = Bench::new(lexicon::dawg(&few));
+    small.own_counts();
     let name = format!("`seek`, along {FEW} words {AGAIN} times");
     small.seek_along(&name, &few, AGAIN);
     bench.run_cursor();

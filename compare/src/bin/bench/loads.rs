@@ -68,6 +68,10 @@ impl Bench {
         row("repack, there and back", in_turns(ours, rust));
     }
 
+    pub fn own_counts(&mut self) {
+        count(&self.nodes, &mut self.counts, &mut self.work);
+    }
+
     pub fn count(&mut self) {
         let Self {
             nodes,

@@ -5,7 +5,7 @@ use crate::bench::{Bench, row};
 use crate::clock::in_turns;
 use compare::lexicon::Words;
 use compare::random::Random;
-use compare::rust_side::Graph;
+use compare::rust_side::{self, Graph};
 use machirsun::RunCursor;
 use machirsun::ffi::{Cursor, Sought};
 use std::hint::black_box;
@@ -62,34 +62,33 @@ impl Bench {
         row("number to word, all", times);
     }
 
-    // Along every word, so often: each step needs the one before.
+    // Along every word, so often: each step needs the one before. The counts must be there.
     pub fn seek_along(&self, name: &str, words: &Words, times: usize) {
         let seeks = Seeks::of(self);
         let again = |along: &dyn Fn(&Vec<u8>) -> u32| {
             (0..times).fold(0, |total, _| u32::wrapping_add(total, sum(words, along)))
         };
-        let ours = |word: &Vec<u8>| along(word, |p, t| seeks.ours(p, t)).unwrap_or(0);
-        let theirs = |word: &Vec<u8>| along(word, |p, t| seeks.theirs(p, t)).unwrap_or(0);
-        let called = |word: &Vec<u8>| along(word, |p, t| seeks.called(p, t)).unwrap_or(0);
+        let ours = |word: &Vec<u8>| along(word, |p, t| seeks.ours(p, t));
+        let theirs = |word: &Vec<u8>| along(word, |p, t| seeks.theirs(p, t));
+        let called = |word: &Vec<u8>| along(word, |p, t| seeks.called(p, t));
         for word in words {
             let end = ours(word);
-            assert!(end > 0);
             assert_eq!((end, end), (theirs(word), called(word)));
         }
         row(name, in_turns(|| again(&ours), || again(&theirs)));
         row(CALLED, in_turns(|| again(&ours), || again(&called)));
     }
 
-    // At every node for any tile, which mostly is not there.
+    // At every node for any tile, which mostly is not there. The counts must be there.
     pub fn seek_anywhere(&self, random: &mut Random) {
         let seeks = Seeks::of(self);
         let places = 0..self.nodes.len() as u32;
         let any: Vec<(u32, u8)> = places
             .map(|place| (place, random.within(1, 27) as u8))
             .collect();
-        let ours = |&(place, tile): &(u32, u8)| seeks.ours(place, tile).unwrap_or(0);
-        let theirs = |&(place, tile): &(u32, u8)| seeks.theirs(place, tile).unwrap_or(0);
-        let called = |&(place, tile): &(u32, u8)| seeks.called(place, tile).unwrap_or(0);
+        let ours = |&(place, tile): &(u32, u8)| both(seeks.ours(place, tile));
+        let theirs = |&(place, tile): &(u32, u8)| both(seeks.theirs(place, tile));
+        let called = |&(place, tile): &(u32, u8)| both(seeks.called(place, tile));
         for &(place, tile) in &any {
             let found = seeks.ours(place, tile);
             assert_eq!(found, seeks.theirs(place, tile));
@@ -153,38 +152,57 @@ impl Bench {
 // Run lookup in one graph: the engine's, the Rust's, and the Rust's behind a call.
 struct Seeks<'a> {
     nodes: &'a [u32],
+    counts: &'a [u32],
     rust: &'a Graph,
-    behind: extern "C" fn(&Graph, u32, u8) -> Sought,
+    behind: extern "C" fn(&Graph, *const u32, usize, u32, u8) -> Sought,
 }
+
+// The node's place, and the words of its run before it.
+type Found = Option<(u32, u32)>;
 
 impl<'a> Seeks<'a> {
     fn of(bench: &'a Bench) -> Self {
         Self {
             nodes: &bench.nodes,
+            counts: &bench.counts,
             rust: &bench.rust,
             behind: black_box(behind_a_call::seek),
         }
     }
 
     #[inline(always)]
-    fn ours(&self, place: u32, tile: u8) -> Option<u32> {
-        machirsun::seek(self.nodes, place, tile).expect("every step is lent")
+    fn ours(&self, place: u32, tile: u8) -> Found {
+        let sought = machirsun::seek(self.nodes, self.counts, place, tile);
+        let sought = sought.expect("every step is lent")?;
+        Some((sought.place, sought.before))
     }
 
     #[inline(always)]
-    fn theirs(&self, place: u32, tile: u8) -> Option<u32> {
-        u32::try_from(self.rust.seek(place as i32, tile)).ok()
+    fn theirs(&self, place: u32, tile: u8) -> Found {
+        rust_side::sought(self.rust, self.counts, place, tile)
     }
 
     #[inline(always)]
-    fn called(&self, place: u32, tile: u8) -> Option<u32> {
-        let sought = (self.behind)(self.rust, place, tile);
-        sought.found.then_some(sought.place)
+    fn called(&self, place: u32, tile: u8) -> Found {
+        let counts = self.counts;
+        let sought = (self.behind)(self.rust, counts.as_ptr(), counts.len(), place, tile);
+        sought.found.then_some((sought.place, sought.before))
     }
 }
 
-fn along(word: &[u8], seek: impl Fn(u32, u8) -> Option<u32>) -> Option<u32> {
-    word.iter().try_fold(0, |place, &tile| seek(place, tile))
+// The end of a word, which must be there, and the words passed on the way to it.
+fn along(word: &[u8], seek: impl Fn(u32, u8) -> Found) -> u32 {
+    let (mut place, mut passed) = (0, 0);
+    for &tile in word {
+        let (found, before) = seek(place, tile).expect("the word is there");
+        place = found;
+        passed += before;
+    }
+    place ^ passed
+}
+
+fn both(found: Found) -> u32 {
+    found.map_or(0, |(place, before)| place ^ before)
 }
 
 fn sum<T>(all: &[T], mut answer: impl FnMut(&T) -> u32) -> u32 {

@@ -1,6 +1,6 @@
 // The list `letters`.
 
-use super::super::graphs::{ascend, nodes_of, pack_all, run_from};
+use super::super::graphs::{ascend, kwg_of, nodes_of, pack_all, run_from};
 use super::super::layout::{Fields, Layout};
 use super::super::samples::{empty_graph, graph, words_of};
 use super::{ACCEPTS_ALPHA, ALPHA_CROSS_SET, LETTER_BITS, SEEK, STEP};
@@ -35,17 +35,23 @@ const fn kind(low: u64, high: u64, ascends: bool) -> Kind {
 struct Graph {
     words: Vec<u32>,
     nodes: Vec<Fields>,
+    // The Rust's own; of a graph that it does not count, numbers that fall from
+    // node to node.
+    counts: Vec<u32>,
 }
 
 impl Graph {
     fn of_words(words: Vec<u32>) -> Self {
-        let nodes = nodes_of(&words);
-        Self { words, nodes }
+        let counts = kwg_of(&words).count_words_alloc();
+        Self {
+            counts: counts.map_or_else(|_| falling(words.len()), Vec::from),
+            nodes: nodes_of(&words),
+            words,
+        }
     }
 
     fn of_nodes(nodes: Vec<Fields>) -> Self {
-        let words = pack_all(&nodes);
-        Self { words, nodes }
+        Self::of_words(pack_all(&nodes))
     }
 
     // The nodes of the run that a node's arc leads to; none for arc 0.
@@ -76,10 +82,25 @@ fn head(call: u64, graph: &Graph) -> Vec<u64> {
     numbers
 }
 
+fn falling(len: usize) -> Vec<u32> {
+    (0..len as u32).rev().collect()
+}
+
 fn ask_seek(requests: &mut Requests, graph: &Graph, place: usize, tile: u8) {
-    let mut numbers = head(SEEK, graph);
-    numbers.extend([place as u64, tile.into()]);
-    requests.ask(&numbers);
+    ask_seek_by(requests, graph, &graph.counts, place, tile);
+}
+
+// By these counts, but not where the words before the node would be below 0.
+fn ask_seek_by(requests: &mut Requests, graph: &Graph, counts: &[u32], place: usize, tile: u8) {
+    let run = graph.run_after(&graph.nodes[place]);
+    let first = graph.nodes[place].arc_index as usize;
+    let found = run.iter().position(|node| node.tile == tile);
+    if found.is_none_or(|at| counts[first + at] <= counts[first]) {
+        let mut numbers = head(SEEK, graph);
+        numbers.extend(counts.iter().map(|&count| u64::from(count)));
+        numbers.extend([place as u64, tile.into()]);
+        requests.ask(&numbers);
+    }
 }
 
 fn ask_step(requests: &mut Requests, graph: &Graph, place: usize) {
@@ -173,15 +194,27 @@ fn random_graph(random: &mut Random, len: usize, kind: &Kind) -> Graph {
     Graph::of_nodes(nodes)
 }
 
-// From every node two tiles that are there, and one that is perhaps not.
+fn any_count(random: &mut Random) -> u32 {
+    match random.within(0, 3) {
+        0 => random.word(),
+        1 => u32::MAX,
+        _ => random.within(0, 4) as u32,
+    }
+}
+
+// From every node two tiles that are there, by the graph's counts and by any others,
+// and one that is perhaps not.
 fn random_graphs(requests: &mut Requests) {
     let mut random = Random::new(21);
+    let mut other_counts = Random::new(25);
     for len in 2..=12 {
         for kind in &KINDS {
             let graph = random_graph(&mut random, len, kind);
+            let other: Vec<u32> = (0..len).map(|_| any_count(&mut other_counts)).collect();
             for place in 0..len {
                 for node in graph.run_after(&graph.nodes[place]).iter().rev().take(2) {
                     ask_seek(requests, &graph, place, node.tile);
+                    ask_seek_by(requests, &graph, &other, place, node.tile);
                 }
                 let any = random.within(kind.tiles.0, kind.tiles.1 + 1) as u8;
                 ask_seek(requests, &graph, place, any);

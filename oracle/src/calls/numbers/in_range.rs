@@ -27,14 +27,17 @@ fn index_of(nodes: &[Fields], counts: &[u32], start: usize, word: &[u8]) -> Opti
         if place == 0 {
             break;
         }
-        index = index.checked_add(counts[place])?;
+        let first = counts[place];
+        index = index.checked_add(first)?;
         while nodes[place].tile != tile {
             if nodes[place].is_end {
                 return Some(index);
             }
             place += 1;
         }
-        index = index.checked_sub(counts[place])?;
+        // The words of the run before the node are a number of their own.
+        first.checked_sub(counts[place])?;
+        index -= counts[place];
         if tiles < word.len() {
             index = index.checked_add(nodes[place].accepts.into())?;
         }

@@ -17,8 +17,8 @@ use Rattle.lookup.specs.Steps.{Try, on, stop}
 use Rattle.lookup.specs.Walks.{Turn, last, down, wordsHere, turnIn, wordFrom}
 use Rattle.lookup.specs.declared.by_number.WordByIndex.{WordByIndex}
 use Rattle.lookup.specs.declared.by_number.WordByIndex.the-variants as T
-use Rattle.lookup.specs.declared.by_number.Here.{Here}
-use Rattle.lookup.specs.Said.{hereTry, saidWord, WordPut}
+use Rattle.lookup.specs.declared.run.Between.{Between}
+use Rattle.lookup.specs.Said.{betweenTry, saidWord, WordPut}
 use Rattle.lookup.proofs.WordByIndexLaws.{past-own, HasWords, turn-out, turn-last, turn-stop, turn-down, turn-none, turn-next}
 use Rattle.lookup.proofs.Buffer.{left-start, by-stop, by-full, by-last, by-down, by-next}
 use Rattle.lookup.proofs.by_number.word_from.Statement.{statement}
@@ -83,8 +83,8 @@ module _ (c : tie.After-words-here Inv-loop μ-loop) where
   longer : eqb (at ended .loop .idx) 0 && accepts KBWG (v ended) ≡ false
   longer = ends ended (c .before .if1 .left)
 
-  here-is : {r : Here} → c .words-here .result ≡ r → wordsHere (counts (at ended)) (v ended) (at ended .loop .p) ≡ hereTry r
-  here-is e = sym (c .words-here .ensures) ∙ ap hereTry e
+  here-is : {r : Between} → c .words-here .result ≡ r → wordsHere (counts (at ended)) (v ended) (at ended .loop .p) ≡ betweenTry r
+  here-is e = sym (c .words-here .ensures) ∙ ap betweenTry e
 
   stopped-here : {r : Answer} → wordsHere (counts (at ended)) (v ended) (at ended .loop .p) ≡ stop r → turn (at ended) ≡ stop r
   stopped-here e = turn-stop (counts (at ended)) (g (at ended)) (at ended .loop .p) (at ended .loop .idx) (inside ended) longer e

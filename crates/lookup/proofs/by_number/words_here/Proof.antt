@@ -1,13 +1,14 @@
 -- `words_here` meets its contract: where the count after the node is lent, so is its own.
 use mathlib.Core.Path.{_≡_, sym, _∙_}
-use mathlib.Core.Bool.{false}
+use Prim.Native.Nat.{_+_}
 use native.Mathlib.Omega.{arith}
 use lib.Dec.{ltb}
 use lib.ListN.{length}
 use borrow.Author.Tests.{ltb-true, ltb-false}
 use Rattle.laws.specs.Cases.{split}
-use Rattle.node.specs.Nodes.{KBWG, isEnd}
-use Rattle.lookup.proofs.WordByIndexLaws.{here-out, here-end, here-last, here-below, here-words}
+use Rattle.lookup.specs.Walks.{wordsBetween, wordsHere}
+use Rattle.lookup.proofs.WordByIndexLaws.{here-on, here-out, here-end}
+use Rattle.lookup.proofs.PassedLaws.{between-out, between-other, between-below, between-words}
 use borrow.Author.Needs.{needs}
 use Rattle.lookup.proofs.by_number.words_here.Statement.{statement}
 use Rattle.lookup.proofs.by_number.words_here.Tie as tie
@@ -16,7 +17,7 @@ is-end-requires : tie.Need-is-end-requires
 is-end-requires c κs = search needs
 
 returns : tie.Need-returns
-returns c = sym (here-out _ _ _ (c .if2 .taken))
+returns c = let e = c .before in sym (here-out _ _ _ (sym (e .before .is-end .ensures) ∙ e .if1 .taken) (c .if2 .taken))
 
 mul-t8 : tie.Need-mul-t8
 mul-t8 c = search needs
@@ -25,11 +26,15 @@ shared-slice-read-t11 : tie.Need-shared-slice-read-t11
 shared-slice-read-t11 c = search needs
 
 returns-2 : tie.Need-returns-2
-returns-2 c = let e = c .before .before in sym (here-end _ _ _ (c .before .if2 .left) (sym (e .before .is-end .ensures) ∙ e .if1 .taken))
+returns-2 c = let e = c .before .before in sym (here-end _ _ _ (sym (e .before .is-end .ensures) ∙ e .if1 .taken) (c .before .if2 .left))
 
 -- a node that is no end
-more : (c : tie.Else1) → isEnd KBWG (c .before .before .before .args .v) ≡ false
-more c = sym (c .before .is-end .ensures) ∙ c .if1 .left
+module _ (c : tie.Else1) where
+  abbrev asked : tie.Start
+  asked = c .before .before .before
+
+  goes-on : wordsHere (asked .args .counts .now) (asked .args .v) (asked .args .p) ≡ wordsBetween (asked .args .counts .now) (asked .args .p) (asked .args .p + 1)
+  goes-on = here-on _ _ _ (sym (c .before .is-end .ensures) ∙ c .if1 .left)
 
 add-if3 : tie.Need-add-if3
 add-if3 c = search needs
@@ -37,9 +42,9 @@ add-if3 c = search needs
 returns-3 : tie.Need-returns-3
 returns-3 c =
     let a = c .before .before .before .before .args in
-    split (ltb (a .p) (length (a .counts .now)))
-    (λ t. sym (here-last _ _ _ (ltb-true _ _ t) (more (c .before)) (c .if3 .taken)))
-    (λ t. sym (here-out _ _ _ (ltb-false _ _ t)))
+    sym (goes-on (c .before) ∙ split (ltb (a .p) (length (a .counts .now)))
+    (λ t. between-other _ _ _ (ltb-true _ _ t) (c .if3 .taken))
+    (λ t. between-out _ _ _ (ltb-false _ _ t)))
 
 mul-own : tie.Need-mul-own
 mul-own c = search needs
@@ -57,10 +62,10 @@ shared-slice-read-next : tie.Need-shared-slice-read-next
 shared-slice-read-next c = search needs
 
 returns-4 : tie.Need-returns-4
-returns-4 c = let l = c .before .before .before in sym (here-below _ _ _ (omega arith) (more (l .before)) (l .if3 .left) (c .if4 .taken))
+returns-4 c = let l = c .before .before .before in sym (goes-on (l .before) ∙ between-below _ _ _ (omega arith) (l .if3 .left) (c .if4 .taken))
 
 returns-5 : tie.Need-returns-5
-returns-5 c = let l = c .before .before .before in sym (here-words _ _ _ (omega arith) (more (l .before)) (l .if3 .left) (c .if4 .left))
+returns-5 c = let l = c .before .before .before in sym (goes-on (l .before) ∙ between-words _ _ _ (omega arith) (l .if3 .left) (c .if4 .left))
 
 pub words-here-spec : {M : Type 1} → statement M
 words-here-spec =

@@ -11,7 +11,10 @@ flat-sought-requires : tie.Need-flat-sought-requires
 flat-sought-requires c κs = search needs
 
 returns : tie.Need-returns
-returns c = (c .flat-sought .ensures .0 ∙ c .before .seek .ensures, c .flat-sought .ensures .1)
+returns c =
+    let said = c .flat-sought .ensures in
+    let sought = c .before .seek .ensures in
+    (said .0 ∙ sought .0, ((λ g row up is h. said .0 ∙ sought .1 g row up is h), said .1))
 
 pub machirsun-seek-spec : {M : Type 1} → statement M
 machirsun-seek-spec = tie.close (tie.spec seek-requires flat-sought-requires returns)

@@ -12,6 +12,18 @@ words-from-requires c κs = search needs
 word-at-requires : tie.Need-word-at-requires
 word-at-requires c κs = search needs
 
+cast-count : tie.Need-cast-count
+cast-count c = search needs
+
+words-to-requires : tie.Need-words-to-requires
+words-to-requires c κs = search needs
+
+words-from-requires-2 : tie.Need-words-from-requires-2
+words-from-requires-2 c κs = search needs
+
+word-at-requires-2 : tie.Need-word-at-requires-2
+word-at-requires-2 c κs = search needs
+
 byte-at-requires : tie.Need-byte-at-requires
 byte-at-requires c κs = search needs
 
@@ -31,14 +43,18 @@ returns : tie.Need-returns
 returns c =
     let tile = c .before .before .before .before in
     let place = tile .before in
-    let nodes = place .before in
-    let args = nodes .before .before .before .args in
+    let counts = place .before in
+    let nodes = counts .before in
+    let count = nodes .before in
+    let graph = count .before in
+    let args = graph .before .before .before .args in
     let asked = c .before .before .before .machirsun-seek in
     c .same-words .ensures
     ∙ ap (same (args .stored .now))
-    (seek-fields (args .words .now) (asked .result) _ _ _ _ (nodes .words-from .ensures) (place .word-at .ensures) (tile .byte-at .ensures)
-    (c .before .before .bit .ensures .0)
-    (asked .ensures .0) (asked .ensures .1))
+    (seek-fields (args .words .now) (asked .result) _ _ _ _ _ _ _ (graph .words-from .ensures) (count .word-at .ensures)
+    (nodes .words-to .ensures)
+    (counts .words-from2 .ensures) (place .word-at2 .ensures) (tile .byte-at .ensures) (c .before .before .bit .ensures .0)
+    (asked .ensures .0) (asked .ensures .1 .1))
 
 pub seek-spec : {M : Type 1} → statement M
 seek-spec =
@@ -46,6 +62,10 @@ seek-spec =
     (tie.spec
     words-from-requires
     word-at-requires
+    cast-count
+    words-to-requires
+    words-from-requires-2
+    word-at-requires-2
     byte-at-requires
     machirsun-seek-requires
     bit-requires
