@@ -89,18 +89,19 @@ impl Checker {
 
     /// By the graph's own counts, where runs ascend, the words before a node of a run are those of the run that begin below its tile.
     pub fn words_before_mean_words(&mut self, graph: &Graph, place: u32) {
-        let (Some(counts), Some(node)) = (graph.counts.clone(), graph.nodes.get(place as usize))
-        else {
+        let (Some(counts), Some(node)) = (&graph.counts, graph.nodes.get(place as usize)) else {
             return;
         };
         let first = node >> 8;
-        let few = counts[first as usize] <= MOST_WORDS && steps_to_count(graph) <= MOST_STEPS;
-        if first == 0 || !few || !ascend(&graph.nodes) {
+        if first == 0 || counts[first as usize] > MOST_WORDS {
+            return;
+        }
+        if steps_to_count(graph) > MOST_STEPS || !ascend(&graph.nodes) {
             return;
         }
         let words = words(&graph.nodes, first as usize);
         for node in run(&graph.nodes, first as usize) {
-            let got = self.seek(graph, &counts, place, node.tile).before;
+            let got = self.seek(graph, counts, place, node.tile).before;
             let below = words.iter().filter(|word| word[0] < node.tile).count();
             let number = |value: u64| Outcome::of(Answer::gives(value));
             let input = || format!("{}, place {place}, {node:?}", graph.description());
