@@ -4,9 +4,10 @@ use mathlib.Core.Bool.{not}
 use mathlib.Core.Logic.{_≢_}
 use mathlib.Core.List.{List, []}
 use Prim.Native.Nat.{ℕ, _-_, _≤_, _<_}
-use borrow.Author.Tests.{eq-eqb, ne-eqb}
-use lib.Dec.{eqb}
+use borrow.Author.Tests.{eq-eqb, ne-eqb, ltb-true, ltb-false}
+use lib.Dec.{eqb, ltb}
 use lib.ListN.{length, getD, drop}
+use Rattle.laws.specs.Cases.{split}
 use Rattle.answers.specs.Answers.{nothing, refused}
 use Rattle.node.specs.Nodes.{KBWG, arc}
 use Rattle.graph.specs.Runs.{Graph, node}
@@ -18,23 +19,26 @@ use Rattle.lookup.proofs.RunSearchLaws.{found-lent, arc-of-none, arc-of
 
 -- ---- by the counts of two places
 module _ (counts : List ℕ) (p q : ℕ) where
-  pub between-out : length counts ≤ p → wordsBetween counts p q ≡ stop (refused 14 [])
+  between-out : length counts ≤ p → wordsBetween counts p q ≡ stop (refused 14 [])
   unfolding wordsBetween
   between-out h = rw (lent-out counts p h)
 
-  module _ (h : p < length counts) where
-    pub between-other : length counts ≤ q → wordsBetween counts p q ≡ stop (refused 14 [])
+  -- where the other count is not lent, whether the first is or not
+  pub between-unlent : length counts ≤ q → wordsBetween counts p q ≡ stop (refused 14 [])
+  unfolding wordsBetween
+  between-unlent k =
+      split (ltb p (length counts))
+      (λ t. rw (lent-on counts p (ltb-true p (length counts) t)) (rw (lent-out counts q k)))
+      (λ t. between-out (ltb-false p (length counts) t))
+
+  module _ (h : p < length counts) (k : q < length counts) where
+    pub between-below : getD counts p 0 < getD counts q 0 → wordsBetween counts p q ≡ stop (refused 15 [])
     unfolding wordsBetween
-    between-other k = rw (lent-on counts p h) (rw (lent-out counts q k))
+    between-below b = rw (lent-on counts p h) (rw (lent-on counts q k) (difference-below (getD counts p 0) (getD counts q 0) b))
 
-    module _ (k : q < length counts) where
-      pub between-below : getD counts p 0 < getD counts q 0 → wordsBetween counts p q ≡ stop (refused 15 [])
-      unfolding wordsBetween
-      between-below b = rw (lent-on counts p h) (rw (lent-on counts q k) (difference-below (getD counts p 0) (getD counts q 0) b))
-
-      pub between-words : getD counts q 0 ≤ getD counts p 0 → wordsBetween counts p q ≡ on (getD counts p 0 - getD counts q 0)
-      unfolding wordsBetween
-      between-words b = rw (lent-on counts p h) (rw (lent-on counts q k) (difference-on (getD counts p 0) (getD counts q 0) b))
+    pub between-words : getD counts q 0 ≤ getD counts p 0 → wordsBetween counts p q ≡ on (getD counts p 0 - getD counts q 0)
+    unfolding wordsBetween
+    between-words b = rw (lent-on counts p h) (rw (lent-on counts q k) (difference-on (getD counts p 0) (getD counts q 0) b))
 
 -- ---- by an arc
 module _ (g : Graph) (counts : List ℕ) (v t : ℕ) where
@@ -76,7 +80,7 @@ on-parts (on a) f e = (a, refl, e)
 on-parts (stop r) f e = stop-on e
 
 module _ (g : Graph) (counts : List ℕ) (p t : ℕ) {q b : ℕ} where
-  pub passed-lent : passed g counts p t ≡ on (q, b) → q < length g
+  passed-lent : passed g counts p t ≡ on (q, b) → q < length g
   unfolding passed
   passed-lent e =
       let f = on-parts (findIn (drop p g) p t) _ e in

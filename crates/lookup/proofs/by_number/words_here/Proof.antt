@@ -2,13 +2,9 @@
 use mathlib.Core.Path.{_≡_, sym, _∙_}
 use Prim.Native.Nat.{_+_}
 use native.Mathlib.Omega.{arith}
-use lib.Dec.{ltb}
-use lib.ListN.{length}
-use borrow.Author.Tests.{ltb-true, ltb-false}
-use Rattle.laws.specs.Cases.{split}
 use Rattle.lookup.specs.Walks.{wordsBetween, wordsHere}
 use Rattle.lookup.proofs.WordByIndexLaws.{here-on, here-out, here-end}
-use Rattle.lookup.proofs.PassedLaws.{between-out, between-other, between-below, between-words}
+use Rattle.lookup.proofs.PassedLaws.{between-unlent, between-below, between-words}
 use borrow.Author.Needs.{needs}
 use Rattle.lookup.proofs.by_number.words_here.Statement.{statement}
 use Rattle.lookup.proofs.by_number.words_here.Tie as tie
@@ -40,11 +36,7 @@ add-if3 : tie.Need-add-if3
 add-if3 c = search needs
 
 returns-3 : tie.Need-returns-3
-returns-3 c =
-    let a = c .before .before .before .before .args in
-    sym (goes-on (c .before) ∙ split (ltb (a .p) (length (a .counts .now)))
-    (λ t. between-other _ _ _ (ltb-true _ _ t) (c .if3 .taken))
-    (λ t. between-out _ _ _ (ltb-false _ _ t)))
+returns-3 c = sym (goes-on (c .before) ∙ between-unlent _ _ _ (c .if3 .taken))
 
 mul-own : tie.Need-mul-own
 mul-own c = search needs

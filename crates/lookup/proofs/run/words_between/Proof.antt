@@ -1,21 +1,13 @@
 -- `words_between` meets its contract: where the later count is lent, so is the first.
 use mathlib.Core.Path.{sym}
 use native.Mathlib.Omega.{arith}
-use lib.Dec.{ltb}
-use lib.ListN.{length}
 use borrow.Author.Needs.{needs}
-use borrow.Author.Tests.{ltb-true, ltb-false}
-use Rattle.laws.specs.Cases.{split}
-use Rattle.lookup.proofs.PassedLaws.{between-out, between-other, between-below, between-words}
+use Rattle.lookup.proofs.PassedLaws.{between-unlent, between-below, between-words}
 use Rattle.lookup.proofs.run.words_between.Statement.{statement}
 use Rattle.lookup.proofs.run.words_between.Tie as tie
 
 returns : tie.Need-returns
-returns c =
-    let a = c .before .args in
-    split (ltb (a .p) (length (a .counts .now)))
-    (λ t. sym (between-other _ _ _ (ltb-true _ _ t) (c .if1 .taken)))
-    (λ t. sym (between-out _ _ _ (ltb-false _ _ t)))
+returns c = sym (between-unlent _ _ _ (c .if1 .taken))
 
 mul-first : tie.Need-mul-first
 mul-first c = search needs
