@@ -1,5 +1,5 @@
 /* Loads a lexicon in pieces, looks a word up, says how many words begin before its first letter, names a number, reads words as viewers type
- * them and shows the page of words from that number on: words FILE WORD NUMBER. Its letters are A to Z, tiles 1 to 26. */
+ * them, shows the page of words from that number on and plays a short round: words FILE WORD NUMBER. Its letters are A to Z, tiles 1 to 26. */
 #include <stdio.h>
 #include <stdlib.h>
 #include <string.h>
@@ -215,6 +215,43 @@ static int show_page(const uint32_t *nodes, const uint32_t *counts, size_t n, ui
     return 0;
 }
 
+/* A word arrives, or leaves, and a line says how many words are not in play then. */
+static void play(const uint32_t *nodes, const uint32_t *counts, size_t n, const char *word, bool arrives, uint8_t *bits, size_t bytes)
+{
+    uint8_t tiles[LONGEST];
+    size_t length;
+    machirsun_in_play answer;
+
+    read_word(word, tiles, &length);
+    answer = (arrives ? machirsun_arrive : machirsun_leave)(nodes, n, counts, n, nodes[0] >> 8, tiles, length, bits, bytes);
+    printf("%s %s: ", word, arrives ? "arrives" : "leaves");
+    if (answer.refusal != 0)
+        printf("refusal %u\n", answer.refusal);
+    else if (answer.found)
+        printf("%u words are not in play, the lowest is word %u\n", answer.remaining, answer.lowest);
+    else
+        printf("all words are in play\n");
+}
+
+/* A short round: the word and two others arrive, one of them again, which is refused, and then it leaves. The record has a bit for each word. */
+static int play_round(const uint32_t *nodes, const uint32_t *counts, size_t n, const char *word)
+{
+    size_t bytes = counts[nodes[0] >> 8] / 8 + 1;
+    uint8_t *bits = calloc(bytes, 1);
+
+    if (bits == NULL) {
+        fprintf(stderr, "there is no memory for %zu bytes\n", bytes);
+        return 1;
+    }
+    play(nodes, counts, n, word, true, bits, bytes);
+    play(nodes, counts, n, "CAPTION", true, bits, bytes);
+    play(nodes, counts, n, "CAPTIONS", true, bits, bytes);
+    play(nodes, counts, n, "CAPTION", true, bits, bytes);
+    play(nodes, counts, n, "CAPTION", false, bits, bytes);
+    free(bits);
+    return 0;
+}
+
 int main(int argc, char **argv)
 {
     FILE *file;
@@ -266,6 +303,8 @@ int main(int argc, char **argv)
         status = read_typed(nodes, counts, n);
     if (status == 0)
         status = show_page(nodes, counts, n, number);
+    if (status == 0)
+        status = play_round(nodes, counts, n, argv[2]);
     free(nodes);
     free(counts);
     free(work);

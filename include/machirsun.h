@@ -1,4 +1,4 @@
-/* Machirsun: word graphs loaded, counted, looked up and exported, and words read from text.
+/* Machirsun: word graphs loaded, counted, looked up and exported, words read from text, and a record of words in play.
  *
  * Link with libmachirsun.a, which `rt staticlib machirsun` writes to target/staticlib/ (x86-64 Linux).
  *
@@ -51,16 +51,17 @@ extern "C" {
  *   9   the last node is no end                                                        finish, count_words, to_macondo, to_lxd
  *  10   under 2 nodes or over 16,777,216                                               count_words, to_macondo, to_lxd
  *  11   a lent list is too short. count_words: counts under N or work under 2 x N;     count_words, letter_bits, to_macondo, to_lxd,
- *       letter_bits: either list under N; to_macondo, to_lxd: work under 8 x N, or,    write_page
+ *       letter_bits: either list under N; to_macondo, to_lxd: work under 8 x N, or,    write_page, arrive, leave
  *       last of all checks, the file buffer under the file's length; write_page:
- *       the page buffer under 960 bytes
+ *       the page buffer under 960 bytes; arrive, leave: the record has fewer bits
+ *       than the start's count
  *  12   a node can be reached from itself; carries the lowest such node                count_words
  *  13   some node (to_lxd: the start) has 4,294,967,295 words or more                  count_words, to_lxd
  *  14   a step leads to a node or a count that is not lent                             seek, cursor_at, cursor_step, word_index,
  *                                                                                      word_by_index, accepts_alpha, alpha_cross_set,
- *                                                                                      write_page
- *  15   a difference is below 0, or a sum above 4,294,967,295: the counts are not      seek, word_index, word_by_index, write_page
- *       the graph's
+ *                                                                                      write_page, arrive, leave
+ *  15   a difference is below 0, or a sum above 4,294,967,295: the counts are not      seek, word_index, word_by_index, write_page,
+ *       the graph's                                                                    arrive, leave
  *  16   the word buffer is full; read_words: tiles or sizes has no more room           word_by_index, next_word, read_words
  *  17   the tally has over 64 entries                                                  accepts_alpha, alpha_cross_set
  *  18   no label, or over 50                                                           to_macondo
@@ -77,6 +78,9 @@ extern "C" {
  *  26   a byte of the title or a shown label is outside 20 to 7E hexadecimal           write_page
  *  27   a line of the label file is bad; carries its number, from 1, as bad            next_word, read_words
  *  28   the text cannot be read: no label matches; carries the byte's place as bad     next_word, read_words
+ *  29   the word is not in the lexicon, or its number is not below the start's count   arrive, leave
+ *  30   the word is in play already                                                    arrive
+ *  31   the word is not in play                                                        leave
  *
  * Where several apply, the first in the order that the call's comment gives is answered.
  */
@@ -108,7 +112,10 @@ enum {
     MACHIRSUN_TOO_MANY_NODES = 25,
     MACHIRSUN_NOT_PRINTABLE = 26,
     MACHIRSUN_BAD_LABEL_LINE = 27,
-    MACHIRSUN_UNREADABLE = 28
+    MACHIRSUN_UNREADABLE = 28,
+    MACHIRSUN_NO_WORD = 29,
+    MACHIRSUN_ALREADY_IN_PLAY = 30,
+    MACHIRSUN_NOT_IN_PLAY = 31
 };
 
 /* ---- Layouts and formats: 0 is the first, every other number the second -------------------------------------------------------- */
@@ -395,6 +402,38 @@ typedef struct machirsun_typed_list {
  * stays, and so do the entries of sizes past the words. */
 machirsun_typed_list machirsun_read_words(const uint8_t *labels, size_t labels_len, const uint8_t *text, size_t text_len, size_t at,
                                           uint8_t *tiles, size_t tiles_len, size_t *sizes, size_t sizes_len);
+
+/* ---- Words in play ---------------------------------------------------------------------------------------------------------------
+ *
+ * During a round words arrive, and may leave again. Which are in play is kept in a record that the caller lends: bit n mod 8 of byte n / 8,
+ * bit 0 being the lowest, stands for word number n of the start, by machirsun_word_index, and is set while that word is in play. The caller
+ * makes the record empty before the first call, all bytes 0, with at least count / 8 bytes, rounded up, where count is the start's:
+ * counts[start]. Start 0 is a lexicon of no words: its count is 0, and counts[0] is not read.
+ *
+ * Only bits below the count are read. A call that is not refused changes one of them, a refused call none; bits from the count on may be
+ * anything, and stay. The record does not hold its start or its counts: lend the same to each call. With others over the same record, its bits
+ * stand for the words that have those numbers there, and the answers are of those.
+ */
+
+/* found: some word is not in play, and lowest is the lowest number among those. remaining: how many they are. Where found is false and nothing
+ * is refused, every word is in play. */
+typedef struct machirsun_in_play {
+    uint32_t refusal;
+    bool found;
+    uint32_t remaining;
+    uint32_t lowest;
+} machirsun_in_play;
+
+/* A word arrives: sets its bit, and answers the words that are not in play after that. Order: 14 where the start's node is not lent, or its
+ * count (for start 0 the node alone), whatever the word; 11; 14 or 15 as machirsun_word_index meets them; 29, from start 0 for every word; 30.
+ * After any refusal the record is as before. */
+machirsun_in_play machirsun_arrive(const uint32_t *nodes, size_t nodes_len, const uint32_t *counts, size_t counts_len, uint32_t start,
+                                   const uint8_t *word, size_t word_len, uint8_t *bits, size_t bits_len);
+
+/* A word leaves: clears its bit, and answers the words that are not in play after that, itself among them. Order: as above, with 31 in the
+ * place of 30. After any refusal the record is as before. */
+machirsun_in_play machirsun_leave(const uint32_t *nodes, size_t nodes_len, const uint32_t *counts, size_t counts_len, uint32_t start,
+                                  const uint8_t *word, size_t word_len, uint8_t *bits, size_t bits_len);
 
 #ifdef __cplusplus
 }

@@ -11,10 +11,12 @@ pub struct Answer {
     pub arc: u32,
     /// Found, done or accepts.
     pub flag: bool,
-    /// The one number that the call answers: nodes, a place, tiles, a set, bytes written.
+    /// The one number that the call answers: nodes, a place, tiles, a set, bytes written, the lowest number of a word that is not in play.
     pub value: u64,
     /// The words of a run before the node found.
     pub before: u64,
+    /// How many words are not in play.
+    pub remaining: u64,
     /// Of a text that is read: the line or the place that a refusal carries, where the line read starts and ends, the place after its
     /// ending, and how many words were read.
     pub bad: u64,

@@ -2,6 +2,7 @@
 //! report.
 
 mod files;
+mod in_play;
 mod loading;
 mod numbers;
 mod pages;
@@ -10,6 +11,7 @@ mod typed;
 mod whole_texts;
 
 pub use files::Fit;
+pub use in_play::Playing;
 pub use numbers::Counting;
 pub use typed::{Labels, Reading};
 
@@ -19,6 +21,10 @@ use crate::paper::counting::{TOO_MANY, counts, size_and_shape};
 use crate::random::Random;
 use crate::report::{Call, Report};
 use crate::rust_side::{self, Alphabets, Refused};
+
+// The most words, and the most steps to list them, of a graph whose words are listed.
+const MOST_WORDS: u32 = 60;
+const MOST_STEPS: u64 = 5_000;
 
 /// A graph with what all calls on it share.
 pub struct Graph {
@@ -54,6 +60,17 @@ impl Graph {
         self.rust.as_ref().filter(|_| paper.refusal == 0)
     }
 
+    fn steps_to_count(&self) -> u64 {
+        rust_side::recounting(&self.nodes, &self.settled)
+    }
+
+    /// Whether the words from a node can be listed.
+    pub fn has_few_words(&self, place: u32) -> bool {
+        let counts = self.counts.as_ref();
+        let count = counts.and_then(|counts| counts.get(place as usize));
+        count.is_some_and(|&count| count <= MOST_WORDS) && self.steps_to_count() <= MOST_STEPS
+    }
+
     fn description(&self) -> String {
         let words: Vec<String> = self.nodes.iter().map(|word| format!("{word:x}")).collect();
         format!("nodes [{}]", words.join(" "))
@@ -70,6 +87,7 @@ pub struct Checker {
     spoil: Option<Spoil>,
     counting: Counting,
     reading: Reading,
+    playing: Playing,
 }
 
 impl Checker {
@@ -81,6 +99,7 @@ impl Checker {
             spoil: None,
             counting: Box::new(engine::count_words),
             reading: Reading::default(),
+            playing: Box::new(engine::in_play),
         }
     }
 
@@ -104,6 +123,14 @@ impl Checker {
     pub fn reading(seed: u64, reading: Reading) -> Self {
         Self {
             reading,
+            ..Self::new(seed)
+        }
+    }
+
+    /// For the tests: a checker of an engine that has words in play in its own way.
+    pub fn playing(seed: u64, playing: Playing) -> Self {
+        Self {
+            playing,
             ..Self::new(seed)
         }
     }

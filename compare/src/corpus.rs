@@ -3,7 +3,9 @@
 mod all_calls;
 mod big;
 mod code_points;
+pub mod evenings;
 mod headers;
+mod in_play;
 mod label_files;
 mod lexicons;
 mod limits;
@@ -12,8 +14,10 @@ pub mod loops;
 mod odd;
 mod page_limits;
 mod pages;
+pub mod play_limits;
 mod small;
 mod texts;
+mod thinned;
 pub mod typed;
 
 use crate::checker::Checker;
@@ -57,4 +61,6 @@ pub fn run(checker: &mut Checker, size: Size, seed: u64) {
     typed::run(checker, size, &mut random());
     loops::run(checker, size, &mut random());
     code_points::run(checker, size);
+    play_limits::run(checker, size, &mut random());
+    evenings::run(checker, size, &mut random());
 }

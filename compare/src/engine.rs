@@ -1,8 +1,10 @@
 //! The calls of the static library, each with its answer in the common form. Each pointer and its length come from one slice, and written
 //! buffers from `&mut` slices, so that each `unsafe` block keeps what the header asks for.
 
+mod in_play;
 mod typed;
 
+pub use in_play::in_play;
 pub use typed::{next_word, read_words};
 
 use crate::answer::Answer;
@@ -37,6 +39,22 @@ pub struct PageOf<'a> {
     pub title: &'a [u8],
     pub start: u32,
     pub first: u32,
+}
+
+/// What a word does, and which call that is.
+#[derive(Clone, Copy, Debug, PartialEq, Eq)]
+pub enum Turn {
+    Arrives,
+    Leaves,
+}
+
+/// What the calls for words in play are asked for, besides the nodes and the record.
+#[derive(Clone, Copy, Debug)]
+pub struct PlayOf<'a> {
+    pub turn: Turn,
+    pub counts: &'a [u32],
+    pub start: u32,
+    pub word: &'a [u8],
 }
 
 /// A label file, and the text that is read from a place on.

@@ -142,11 +142,11 @@ pub fn chain_from_0(runs: usize) -> Vec<u32> {
     [node(0, false, false, 0)].into_iter().chain(on).collect()
 }
 
-/// A graph with just so many words from the start, at least 1: each run of two nodes has both arcs to the run before, and so twice the
-/// words, and one more where its first node accepts.
+/// A graph with just so many words from the start: each run of two nodes has both arcs to the run before, and so twice the words, and one more
+/// where its first node accepts.
 pub fn with_words(count: u64) -> Vec<u32> {
-    let bits = 63 - count.leading_zeros();
-    let mut nodes = vec![0, 0, node(1, true, true, 0)];
+    let bits = count.max(1).ilog2();
+    let mut nodes = vec![0, 0, node(1, count > 0, true, 0)];
     let mut before = 2;
     for bit in (0..bits).rev() {
         let place = nodes.len() as u32;

@@ -3,6 +3,7 @@
 
 pub mod alpha;
 pub mod counting;
+pub mod in_play;
 pub mod loading;
 pub mod lxd;
 pub mod macondo;

@@ -25,11 +25,13 @@ pub enum Call {
     WritePage,
     NextWord,
     ReadWords,
+    Arrive,
+    Leave,
 }
 
 use Call::*;
 
-pub const CALLS: [Call; 19] = [
+pub const CALLS: [Call; 21] = [
     Begin,
     Feed,
     Finish,
@@ -49,6 +51,8 @@ pub const CALLS: [Call; 19] = [
     WritePage,
     NextWord,
     ReadWords,
+    Arrive,
+    Leave,
 ];
 
 #[derive(Clone, Copy, Default)]
@@ -61,8 +65,8 @@ pub struct Line {
     pub refusals: [u64; REFUSALS],
 }
 
-/// 0, and the refusals 1 to 28.
-pub const REFUSALS: usize = 29;
+/// 0, and the refusals 1 to 31.
+pub const REFUSALS: usize = 32;
 
 /// Where the engine and what it is held to differ.
 pub struct Difference {

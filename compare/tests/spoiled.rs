@@ -14,6 +14,8 @@ enum Change {
     Flag,
     /// The words before the node found.
     Before,
+    /// How many words are not in play.
+    Remaining,
     /// The bytes taken, in a load's state.
     Taken,
     /// What begin refused by, in a whole load.
@@ -43,6 +45,7 @@ fn spoil(change: Change, outcome: &mut Outcome) {
         Value => answer.value ^= 1,
         Flag => answer.flag ^= true,
         Before => answer.before ^= 1,
+        Remaining => answer.remaining ^= 1,
         Begun => answer.begun ^= 1,
         Bad => answer.bad ^= 1,
         Start => answer.start ^= 1,
@@ -95,6 +98,7 @@ fn changes(call: Call) -> Vec<Change> {
         Call::ToMacondo | Call::ToLxd => (&[Value], 2),
         Call::NextWord => (&[Value, Flag, Bad, Start, End, After], 1),
         Call::ReadWords => (&[Value, Flag, Bad, Words, After], 2),
+        Call::Arrive | Call::Leave => (&[Value, Flag, Remaining], 3),
     };
     let places = [FIRST, LAST, GUARD_BEFORE, GUARD_AFTER];
     let entries = (0..buffers).flat_map(|buffer| places.map(|place| Entry(buffer, place)));

@@ -1,17 +1,17 @@
 // The families of calls. A new family is a module and a line in FAMILIES.
 
-mod graphs;
+pub mod graphs;
 mod labels;
-mod layout;
+pub mod layout;
 mod letters;
 mod loading;
 mod lxd;
 mod macondo;
 mod nodes;
 mod numbers;
-mod outcome;
+pub mod outcome;
 mod pages;
-mod samples;
+pub mod samples;
 mod trial;
 mod typed;
 

@@ -2,6 +2,7 @@
 
 mod answers;
 mod calls;
+mod evenings;
 mod numbers;
 mod random;
 mod requests;
@@ -11,7 +12,8 @@ mod worker;
 use std::process::ExitCode;
 use wolges::{alphabet, bites, error, kwg, lexport, text, word_list};
 
-const USAGE: &str = "usage: oracle requests LIST... | oracle answers";
+const USAGE: &str = "usage: oracle requests LIST... | oracle answers
+       oracle evenings | oracle evening-answers";
 
 fn main() -> ExitCode {
     let arguments: Vec<String> = std::env::args().skip(1).collect();
@@ -19,6 +21,8 @@ fn main() -> ExitCode {
     let done = match words[..] {
         ["requests", ref lists @ ..] if !lists.is_empty() => requests::write(lists),
         ["answers"] => answers::write(),
+        ["evenings"] => evenings::write_calls(),
+        ["evening-answers"] => evenings::write_answers(),
         ["worker"] => worker::run(),
         _ => Err(format!("{USAGE}\nlists: {}", calls::list_names())),
     };

@@ -56,6 +56,11 @@ impl Inputs<'_> {
     // A list of bytes, its length before it.
     pub fn bytes(&mut self) -> Result<Vec<u8>, Unreadable> {
         let len = self.number(u64::MAX)?;
+        self.bytes_of(len)
+    }
+
+    // So many bytes, without their length.
+    pub fn bytes_of(&mut self, len: u64) -> Result<Vec<u8>, Unreadable> {
         (0..len).map(|_| self.byte()).collect()
     }
 
@@ -70,9 +75,14 @@ impl Inputs<'_> {
         (0..len).map(|_| self.word()).collect()
     }
 
+    // How many are left.
+    pub fn left(&self) -> u64 {
+        self.0.len() as u64
+    }
+
     // Every call ends its reading with this, for an input too many is a slip.
     pub fn end(&self) -> Result<(), Unreadable> {
-        match self.0.len() {
+        match self.left() {
             0 => Ok(()),
             more => Err(format!("{more} inputs too many")),
         }

@@ -31,8 +31,12 @@ pub fn write(lists: &[&str]) -> Result<(), String> {
             .ok_or_else(|| format!("no list {list:?}; lists: {}", calls::list_names()))?;
         (family.requests)(&mut requests);
     }
+    write_lines(&requests.lines)
+}
+
+pub fn write_lines(lines: &[String]) -> Result<(), String> {
     let mut out = BufWriter::new(std::io::stdout().lock());
-    for line in &requests.lines {
+    for line in lines {
         writeln!(out, "{line}").map_err(|e| e.to_string())?;
     }
     out.flush().map_err(|e| e.to_string())

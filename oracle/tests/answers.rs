@@ -456,6 +456,131 @@ fn what_lines_of_the_rust_cannot_hold_is_not_asked() {
     );
 }
 
+// A line of an evening, with the length of its list after the first number.
+fn with_length(line: &str) -> String {
+    let (kind, list) = line.split_once(' ').unwrap_or((line, ""));
+    let len = list.split_whitespace().count();
+    format!("{kind} {len} {list}").trim_end().to_string() + "\n"
+}
+
+// Holds an evening to the answer that stands beside each call. What is said of the
+// run.
+fn evening(begin: &str, calls: &[(&str, &str)]) -> String {
+    let lines: String = calls.iter().map(|(call, _)| with_length(call)).collect();
+    let begins = with_length(begin);
+    let output = oracle(&["evening-answers"], &format!("# {begin}\n{begins}{lines}"));
+    assert!(output.status.success());
+    let answers: String = calls.iter().map(|(_, said)| format!("{said}\n")).collect();
+    assert_eq!(text(output.stdout), answers, "{begin}");
+    text(output.stderr)
+}
+
+#[test]
+fn an_evening_is_answered_by_its_history() {
+    // The words are 1, 1 2 and 2 2, from node 2.
+    let begin = "0 2 1 5 576 64 1153 1090 194 3 0 3 1 1";
+    let calls = [
+        ("2 1", "31 0 0 0 0"),
+        ("1 1 2", "0 1 2 0 2"),
+        ("1 1 2", "30 0 0 0 2"),
+        ("1 1", "0 1 1 2 3"),
+        ("1 2", "29 0 0 0 3"),
+        ("2", "29 0 0 0 3"),
+        ("1 2 2", "0 0 0 0 7"),
+        ("2 1", "0 1 1 0 6"),
+        ("2 1 2", "0 1 2 0 4"),
+        ("2 1 2", "31 0 0 0 4"),
+    ];
+    let said = evening(begin, &calls);
+    assert_eq!(
+        said,
+        "10 calls, 1 evenings by the Rust, 0 by what is lent\n"
+    );
+    // From the middle of the run there is 2 2, from nodes 0 and 1 nothing; and a record
+    // that is too short or longer than it has to be.
+    let graph = "5 576 64 1153 1090 194 3 0 3 1 1";
+    for (head, first, second) in [
+        ("3 1", "29 0 0 0 0", "0 0 0 0 1"),
+        ("1 0", "29 0 0 0", "29 0 0 0"),
+        ("0 2", "29 0 0 0 0 0", "29 0 0 0 0 0"),
+        ("2 0", "11 0 0 0", "11 0 0 0"),
+        ("2 2", "0 1 2 1 1 0", "0 1 1 1 5 0"),
+    ] {
+        let calls = [("1 1", first), ("1 2 2", second)];
+        evening(&format!("0 {head} {graph}"), &calls);
+    }
+}
+
+#[test]
+fn an_evening_by_other_counts_is_answered_by_what_is_lent() {
+    let graph = "5 576 64 1153 1090 194";
+    for (start, counts, answers) in [
+        // A start and a count that are not lent; start 0 needs no count.
+        (9, "3 0 3 1 1", ["14 0 0 0 0"; 3]),
+        (2, "3 0", ["14 0 0 0 0"; 3]),
+        (0, "", ["29 0 0 0 0"; 3]),
+        // Counts of further tiles that are not lent, a difference below 0, and a
+        // number that is not below the count.
+        (2, "3 0 3 1", ["0 1 2 1 1", "14 0 0 0 1", "14 0 0 0 1"]),
+        (2, "3 0 1 2 1", ["0 0 0 0 1", "29 0 0 0 1", "15 0 0 0 1"]),
+        (2, "3 0 2 0 1", ["0 1 1 1 1", "0 0 0 0 3", "29 0 0 0 3"]),
+        // Two words with one number; and of a great count only a difference.
+        (2, "3 0 3 2 1", ["0 1 2 1 1", "0 1 1 2 3", "30 0 0 0 3"]),
+        (
+            2,
+            "3 0 3 1 4294967295",
+            ["0 1 2 1 1", "0 1 1 2 3", "0 0 0 0 7"],
+        ),
+    ] {
+        let begin = format!("0 {start} 1 {graph} {counts}");
+        let calls = [
+            ("1 1", answers[0]),
+            ("1 1 2", answers[1]),
+            ("1 2 2", answers[2]),
+        ];
+        let said = evening(begin.trim_end(), &calls);
+        assert_eq!(said, "3 calls, 0 evenings by the Rust, 1 by what is lent\n");
+    }
+}
+
+#[test]
+fn an_unreadable_evening_stops_the_run() {
+    let long = format!("0 1001 2 1 0{}", " 0".repeat(998));
+    for lines in [
+        "1 1 1",
+        "3 1 1",
+        "",
+        "0 2 2 1",
+        "0 7 2 1 5 576 64 1153 1090",
+        "0 3 2 1001 0",
+        "0 4 2 1 0 01",
+        "0 3 2 1 0\n1 1 256",
+        "0 3 2 1 0\n1  1 1",
+        "0 3 2 1 0\n1 1 1 2",
+        "0 3 2 1 0\n1 2 1",
+        &long,
+    ] {
+        let output = oracle(&["evening-answers"], &format!("# first\n{lines}\n"));
+        assert!(!output.status.success(), "{lines:?} is answered");
+        let line = 1 + lines.split('\n').count();
+        assert!(text(output.stderr).contains(&format!("line {line}:")));
+        assert!(output.stdout.is_empty());
+    }
+}
+
+#[test]
+fn the_evenings_are_the_same_each_time_and_fully_answered() {
+    let evenings = text(oracle(&["evenings"], "").stdout);
+    assert_eq!(evenings, text(oracle(&["evenings"], "").stdout));
+
+    let output = oracle(&["evening-answers"], &evenings);
+    assert!(output.status.success());
+    let calls = evenings
+        .lines()
+        .filter(|line| !line.starts_with(['#', '0']));
+    assert_eq!(text(output.stdout).lines().count(), calls.count());
+}
+
 #[test]
 fn what_an_alphabet_or_a_text_cannot_hold_is_not_asked() {
     let graph = "5 576 64 1153 1090 194";

@@ -1,8 +1,9 @@
 //! Loads a lexicon in pieces, looks a word up, says how many words begin before its first letter, names a number, reads words as viewers type
-//! them and shows the page of words from that number on: words FILE WORD NUMBER. Its letters are A to Z, tiles 1 to 26.
+//! them, shows the page of words from that number on and plays a short round: words FILE WORD NUMBER. Its letters are A to Z, tiles 1 to 26.
 
 use machirsun::{
-    count_words, seek, word_by_index, word_index, write_page, Layout, Loader, TypedText, PAGE,
+    arrive, count_words, leave, seek, word_by_index, word_index, write_page, Layout, Loader,
+    TypedText, PAGE,
 };
 use std::error::Error;
 use std::fs::File;
@@ -97,6 +98,41 @@ fn read_typed(nodes: &[u32], counts: &[u32]) -> Result<(), Box<dyn Error>> {
     Ok(())
 }
 
+/// A word arrives, or leaves, and a line says how many words are not in play then.
+fn play(
+    nodes: &[u32],
+    counts: &[u32],
+    word: &str,
+    arrives: bool,
+    bits: &mut [u8],
+) -> Result<(), String> {
+    let (start, tiles) = (nodes[0] >> 8, read_word(word)?);
+    let (does, answer) = if arrives {
+        ("arrives", arrive(nodes, counts, start, &tiles, bits))
+    } else {
+        ("leaves", leave(nodes, counts, start, &tiles, bits))
+    };
+    print!("{word} {does}: ");
+    match answer.map(|left| (left.count, left.lowest)) {
+        Err(refusal) => println!("refusal {}", refusal.number()),
+        Ok((count, Some(lowest))) => {
+            println!("{count} words are not in play, the lowest is word {lowest}")
+        }
+        Ok((_, None)) => println!("all words are in play"),
+    }
+    Ok(())
+}
+
+/// A short round: the word and two others arrive, one of them again, which is refused, and then it leaves. The record has a bit for each word.
+fn play_round(nodes: &[u32], counts: &[u32], word: &str) -> Result<(), String> {
+    let mut bits = vec![0; counts[(nodes[0] >> 8) as usize] as usize / 8 + 1];
+    play(nodes, counts, word, true, &mut bits)?;
+    play(nodes, counts, "CAPTION", true, &mut bits)?;
+    play(nodes, counts, "CAPTIONS", true, &mut bits)?;
+    play(nodes, counts, "CAPTION", true, &mut bits)?;
+    play(nodes, counts, "CAPTION", false, &mut bits)
+}
+
 fn run(arguments: &[String]) -> Result<(), Box<dyn Error>> {
     let [_, path, word, number] = arguments else {
         return Err("usage: words FILE WORD NUMBER".into());
@@ -137,6 +173,8 @@ fn run(arguments: &[String]) -> Result<(), Box<dyn Error>> {
     for row in page.chunks(COLUMNS) {
         println!("{}", std::str::from_utf8(row)?);
     }
+
+    play_round(&nodes, &counts, word)?;
     Ok(())
 }
 

@@ -133,6 +133,14 @@ pub struct TypedList {
     pub after: usize,
 }
 
+#[repr(C)]
+pub struct InPlay {
+    pub refusal: u32,
+    pub found: bool,
+    pub remaining: u32,
+    pub lowest: u32,
+}
+
 extern "C" {
     pub fn machirsun_begin(
         announced: usize,
@@ -297,4 +305,28 @@ extern "C" {
         sizes: *mut usize,
         sizes_len: usize,
     ) -> TypedList;
+
+    pub fn machirsun_arrive(
+        nodes: *const u32,
+        nodes_len: usize,
+        counts: *const u32,
+        counts_len: usize,
+        start: u32,
+        word: *const u8,
+        word_len: usize,
+        bits: *mut u8,
+        bits_len: usize,
+    ) -> InPlay;
+
+    pub fn machirsun_leave(
+        nodes: *const u32,
+        nodes_len: usize,
+        counts: *const u32,
+        counts_len: usize,
+        start: u32,
+        word: *const u8,
+        word_len: usize,
+        bits: *mut u8,
+        bits_len: usize,
+    ) -> InPlay;
 }

@@ -63,6 +63,12 @@ pub enum Refusal {
     BadLabelLine { line: usize },
     /// 28: no label matches at this place of the text.
     Unreadable { place: usize },
+    /// 29: the word is not in the lexicon, or its number is not below the start's count.
+    NoWord,
+    /// 30: the word is in play already.
+    AlreadyInPlay,
+    /// 31: the word is not in play.
+    NotInPlay,
     /// A number that this crate does not know: the library linked is a later one.
     Unknown(u32),
 }
@@ -96,6 +102,9 @@ impl Refusal {
             24 => Refusal::NotAscending,
             25 => Refusal::TooManyNodes,
             26 => Refusal::NotPrintable,
+            29 => Refusal::NoWord,
+            30 => Refusal::AlreadyInPlay,
+            31 => Refusal::NotInPlay,
             other => Refusal::Unknown(other),
         }
     }
@@ -140,6 +149,9 @@ impl Refusal {
             Refusal::NotPrintable => 26,
             Refusal::BadLabelLine { .. } => 27,
             Refusal::Unreadable { .. } => 28,
+            Refusal::NoWord => 29,
+            Refusal::AlreadyInPlay => 30,
+            Refusal::NotInPlay => 31,
             Refusal::Unknown(number) => number,
         }
     }
@@ -186,6 +198,9 @@ impl fmt::Display for Refusal {
             Refusal::NotPrintable => write!(f, "the title or a shown label is outside 20 to 7E"),
             Refusal::BadLabelLine { line } => write!(f, "line {line} of the label file is bad"),
             Refusal::Unreadable { place } => write!(f, "no label matches at place {place}"),
+            Refusal::NoWord => write!(f, "the word is not in the lexicon"),
+            Refusal::AlreadyInPlay => write!(f, "the word is in play already"),
+            Refusal::NotInPlay => write!(f, "the word is not in play"),
             Refusal::Unknown(number) => write!(f, "refusal {number}"),
         }
     }

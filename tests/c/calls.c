@@ -109,6 +109,12 @@ FIELD(machirsun_typed_list, tiles, 24, 8);
 FIELD(machirsun_typed_list, after, 32, 8);
 WHOLE(machirsun_typed_list, 40);
 
+FIELD(machirsun_in_play, refusal, 0, 4);
+FIELD(machirsun_in_play, found, 4, 1);
+FIELD(machirsun_in_play, remaining, 8, 4);
+FIELD(machirsun_in_play, lowest, 12, 4);
+WHOLE(machirsun_in_play, 16);
+
 /* ---- What is compared ------------------------------------------------------------------------------------------------------------ */
 
 static unsigned compared, differences;
@@ -896,6 +902,117 @@ static void reads_lists(void)
     UNLISTED(list("1\tA\n0\tA", "", 9, 0, 0), MACHIRSUN_BAD_LABEL_LINE, 2, "");
 }
 
+/* ---- Words in play ----------------------------------------------------------------------------------------------------------------- */
+
+static bool same_in_play(machirsun_in_play answer, uint32_t refusal, bool found, uint32_t remaining, uint32_t lowest)
+{
+    return answer.refusal == refusal && answer.found == found && answer.remaining == remaining && answer.lowest == lowest;
+}
+
+/* The words of G: one bit each of the first byte. */
+static void words_of_g_in_play(void)
+{
+    static const uint8_t a[1] = {1}, ab[2] = {1, 2}, bb[2] = {2, 2};
+    uint8_t bits[2] = {0xF8, 0xEE};
+
+    SAME(same_in_play(machirsun_arrive(LENT(G), LENT(COUNTS_OF_G), 2, LENT(a), LENT(bits)), 0, true, 2, 1));
+    SAME_LIST(bits, (uint8_t[]){0xF9, 0xEE});
+    SAME(same_in_play(machirsun_arrive(LENT(G), LENT(COUNTS_OF_G), 2, LENT(bb), LENT(bits)), 0, true, 1, 1));
+    SAME_LIST(bits, (uint8_t[]){0xFD, 0xEE});
+    SAME(same_in_play(machirsun_arrive(LENT(G), LENT(COUNTS_OF_G), 2, LENT(a), LENT(bits)), MACHIRSUN_ALREADY_IN_PLAY, false, 0, 0));
+    SAME(same_in_play(machirsun_leave(LENT(G), LENT(COUNTS_OF_G), 2, LENT(ab), LENT(bits)), MACHIRSUN_NOT_IN_PLAY, false, 0, 0));
+    SAME_LIST(bits, (uint8_t[]){0xFD, 0xEE});
+    SAME(same_in_play(machirsun_arrive(LENT(G), LENT(COUNTS_OF_G), 2, LENT(ab), bits, 1), 0, false, 0, 0));
+    SAME_LIST(bits, (uint8_t[]){0xFF, 0xEE});
+    SAME(same_in_play(machirsun_leave(LENT(G), LENT(COUNTS_OF_G), 2, LENT(bb), bits, 1), 0, true, 1, 2));
+    SAME_LIST(bits, (uint8_t[]){0xFB, 0xEE});
+    SAME(same_in_play(machirsun_leave(LENT(G), LENT(COUNTS_OF_G), 2, LENT(a), LENT(bits)), 0, true, 2, 0));
+    SAME_LIST(bits, (uint8_t[]){0xFA, 0xEE});
+
+    /* The same record by another start: B B is word 0 of node 3's one. */
+    SAME(same_in_play(machirsun_arrive(LENT(G), LENT(COUNTS_OF_G), 3, LENT(bb), LENT(bits)), 0, false, 0, 0));
+    SAME_LIST(bits, (uint8_t[]){0xFB, 0xEE});
+}
+
+/* The words are the tiles 1 to 19, each alone: two bytes of the record, and three bits of the third. */
+static void words_in_play_over_bytes(void)
+{
+    uint32_t nodes[21] = {0x240, 0x40}, counts[21], work[42], i;
+    uint8_t bits[4] = {0, 0, 0xF8, 0xEE}, expected[4] = {0, 0, 0xF8, 0xEE}, word[1];
+
+    for (i = 0; i < 19; i++)
+        nodes[2 + i] = (i == 18 ? 0xC0 : 0x80) | (i + 1);
+    SAME(machirsun_count_words(LENT(nodes), LENT(counts), LENT(work)).refusal == 0);
+    SAME(machirsun_arrive(LENT(nodes), LENT(counts), 2, word, 0, bits, 2).refusal == MACHIRSUN_LIST_TOO_SHORT);
+    for (i = 0; i < 19; i++) {
+        word[0] = (uint8_t)(i + 1);
+        expected[i / 8] |= (uint8_t)(1 << i % 8);
+        SAME(same_in_play(machirsun_arrive(LENT(nodes), LENT(counts), 2, LENT(word), bits, 3), 0, i < 18, 18 - i, i < 18 ? i + 1 : 0));
+        SAME_LIST(bits, expected);
+    }
+    for (i = 19; i-- > 0;) {
+        word[0] = (uint8_t)(i + 1);
+        expected[i / 8] &= (uint8_t)~(1 << i % 8);
+        SAME(same_in_play(machirsun_leave(LENT(nodes), LENT(counts), 2, LENT(word), LENT(bits)), 0, true, 19 - i, i));
+        SAME_LIST(bits, expected);
+    }
+}
+
+static void same_refused(int line, machirsun_in_play answer, uint32_t refusal, const uint8_t bits[2], uint8_t fill)
+{
+    compare(same_in_play(answer, refusal, false, 0, 0) && bits[0] == fill && bits[1] == fill, "a refused word", line);
+}
+
+/* Both calls refuse by this number, whatever is in the record, and leave it. Of G and the record so many entries are lent. */
+static void refused_in_play(int line, uint32_t refusal, size_t nodes_len, const uint32_t *counts, size_t counts_len, uint32_t start,
+                            const uint8_t *word, size_t word_len, size_t bits_len)
+{
+    static const uint8_t fills[3] = {0, 0x55, 0xFF};
+    size_t i;
+
+    for (i = 0; i < LENGTH(fills); i++) {
+        uint8_t bits[2] = {fills[i], fills[i]};
+        machirsun_in_play answer = machirsun_arrive(G, nodes_len, counts, counts_len, start, word, word_len, bits, bits_len);
+
+        same_refused(line, answer, refusal, bits, fills[i]);
+        answer = machirsun_leave(G, nodes_len, counts, counts_len, start, word, word_len, bits, bits_len);
+        same_refused(line, answer, refusal, bits, fills[i]);
+    }
+}
+
+#define NOT_PLAYED(refusal, ...) refused_in_play(__LINE__, refusal, __VA_ARGS__)
+
+/* In the order of the checks, each with a fault that a later one would find where there is such. */
+static void refuses_words_in_play(void)
+{
+    static const uint8_t a[1] = {1}, b[1] = {2}, bb[2] = {2, 2};
+    static const uint32_t foreign[5] = {3, 0, 3, 4, 1}, past[5] = {3, 0, 3, 0, 1}, none[5] = {0}, many[5] = {3, 0, 4294967295, 0, 1};
+    static const uint32_t nine[5] = {3, 0, 9, 10, 1};
+
+    NOT_PLAYED(MACHIRSUN_NOT_LENT, 5, LENT(foreign), 5, LENT(bb), 0);
+    NOT_PLAYED(MACHIRSUN_NOT_LENT, 5, LENT(foreign), 4294967295, b, 0, 0);
+    NOT_PLAYED(MACHIRSUN_NOT_LENT, 2, LENT(foreign), 2, LENT(bb), 0);
+    NOT_PLAYED(MACHIRSUN_NOT_LENT, 5, foreign, 2, 2, LENT(bb), 0);
+    NOT_PLAYED(MACHIRSUN_NOT_LENT, 5, foreign, 2, 2, b, 0, 2);
+    NOT_PLAYED(MACHIRSUN_NOT_LENT, 0, LENT(foreign), 0, LENT(a), 0);
+    NOT_PLAYED(MACHIRSUN_LIST_TOO_SHORT, 5, LENT(foreign), 2, LENT(bb), 0);
+    NOT_PLAYED(MACHIRSUN_LIST_TOO_SHORT, 5, foreign, 3, 2, LENT(bb), 0);
+    NOT_PLAYED(MACHIRSUN_LIST_TOO_SHORT, 5, LENT(nine), 2, LENT(bb), 1);
+    NOT_PLAYED(MACHIRSUN_LIST_TOO_SHORT, 5, LENT(many), 2, LENT(b), 2);
+    NOT_PLAYED(MACHIRSUN_NOT_LENT, 5, COUNTS_OF_G, 3, 2, LENT(bb), 1);
+    NOT_PLAYED(MACHIRSUN_NOT_LENT, 3, LENT(COUNTS_OF_G), 2, LENT(bb), 1);
+    NOT_PLAYED(MACHIRSUN_OUT_OF_RANGE, 5, LENT(foreign), 2, LENT(bb), 1);
+    NOT_PLAYED(MACHIRSUN_OUT_OF_RANGE, 5, LENT(nine), 2, LENT(bb), 2);
+    NOT_PLAYED(MACHIRSUN_NO_WORD, 5, LENT(COUNTS_OF_G), 2, LENT(b), 1);
+    NOT_PLAYED(MACHIRSUN_NO_WORD, 5, LENT(COUNTS_OF_G), 2, b, 0, 1);
+    NOT_PLAYED(MACHIRSUN_NO_WORD, 5, LENT(COUNTS_OF_G), 0, LENT(a), 2);
+    NOT_PLAYED(MACHIRSUN_NO_WORD, 1, COUNTS_OF_G, 0, 0, LENT(a), 0);
+
+    /* Numbers that are not below the start's count: 3 of 3, and 0 of 0. */
+    NOT_PLAYED(MACHIRSUN_NO_WORD, 5, LENT(past), 2, LENT(bb), 1);
+    NOT_PLAYED(MACHIRSUN_NO_WORD, 5, LENT(none), 2, LENT(a), 0);
+}
+
 int main(void)
 {
     begins();
@@ -920,6 +1037,9 @@ int main(void)
     refuses_words();
     refuses_label_files();
     reads_lists();
+    words_of_g_in_play();
+    words_in_play_over_bytes();
+    refuses_words_in_play();
     printf("calls from C: %u compared, %u differences\n", compared, differences);
     return differences == 0 ? 0 : 1;
 }

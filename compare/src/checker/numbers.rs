@@ -11,10 +11,6 @@ use crate::paper::words::words;
 use crate::report::Call;
 use crate::rust_side::{self, PANICKED, Refused};
 
-// The most words, and the most steps to list them, of a graph whose words are listed.
-const MOST_WORDS: u32 = 60;
-const MOST_STEPS: u64 = 5_000;
-
 // The Rust's counter may call itself so often; where it would do so more often it is not asked.
 const MOST_CALLS: u64 = 2_000_000;
 
@@ -50,7 +46,7 @@ impl Checker {
             return;
         };
         let count = counts[start as usize];
-        if count > MOST_WORDS || steps_to_count(graph) > MOST_STEPS {
+        if !graph.has_few_words(start) {
             return;
         }
         let words = words(&graph.nodes, start as usize);
@@ -93,10 +89,7 @@ impl Checker {
             return;
         };
         let first = node >> 8;
-        if first == 0 || counts[first as usize] > MOST_WORDS {
-            return;
-        }
-        if steps_to_count(graph) > MOST_STEPS || !ascend(&graph.nodes) {
+        if first == 0 || !graph.has_few_words(first) || !ascend(&graph.nodes) {
             return;
         }
         let words = words(&graph.nodes, first as usize);
@@ -190,14 +183,10 @@ fn sought(answer: Option<(u32, u32)>) -> Answer {
     }
 }
 
-fn steps_to_count(graph: &Graph) -> u64 {
-    rust_side::recounting(&graph.nodes, &graph.settled)
-}
-
 // The Rust's answer and counts, zeros where it refuses; none where it is not asked.
 fn rust_count(graph: &Graph, paper: &Answer) -> Option<(Answer, Vec<u32>)> {
     let comparable = matches!(paper.refusal, 0 | 12 | 13);
-    if !comparable || steps_to_count(graph) > MOST_CALLS {
+    if !comparable || graph.steps_to_count() > MOST_CALLS {
         return None;
     }
     let zeros = vec![0; graph.nodes.len()];

@@ -1,5 +1,6 @@
 //! One graph through all calls.
 
+use super::in_play::in_play;
 use super::loads::{file_of, load};
 use super::pages::pages;
 use super::texts;
@@ -20,6 +21,7 @@ pub fn all_calls(checker: &mut Checker, random: &mut Random, nodes: Vec<u32>, as
     lookups(checker, random, &graph, asked);
     counting(checker, random, &graph);
     pages(checker, random, &graph);
+    in_play(checker, random, &graph);
     sets(checker, random, &graph);
     files(checker, random, &graph);
     checker.nothing_changed(&graph);
@@ -116,8 +118,8 @@ fn small_or_any(random: &mut Random) -> u32 {
     }
 }
 
-// A word of a few tiles that are in the graph, or at times of any.
-fn any_word(random: &mut Random, graph: &Graph) -> Vec<u8> {
+/// A word of a few tiles that are in the graph, or at times of any.
+pub fn any_word(random: &mut Random, graph: &Graph) -> Vec<u8> {
     let len = random.within(0, 5);
     let tile = |random: &mut Random| match random.within(0, 20) {
         0 => random.byte(),

@@ -170,18 +170,20 @@ fn two_refusals(checker: &mut Checker) {
     }
 }
 
+/// Graphs, each with its start and the tiles that lead to where a tile more is met: a second run of two nodes; a first run of two, the second of
+/// which accepts; three runs; the five nodes of 01.
+pub const FURTHER_TILES: [(&[u32], u32, &[u8]); 4] = [
+    (&[0x140, 0x2c1, 0x81, 0xc2], 1, &[1]),
+    (&[0x140, 0x01, 0x3c2, 0xc1], 1, &[2]),
+    (&[0x140, 0x2c1, 0x401, 0x4c2, 0x81, 0xc2], 1, &[1, 2]),
+    (&[0x240, 0x40, 0x481, 0x442, 0xc2], 2, &[1]),
+];
+
 // Counts that are not the graph's, or not all lent, at the further tiles of a word: the sum with the flag, then the run lookup with
-// its own refusals, then the sum with the words before. Each graph with its start and the tiles that lead to where a tile more is met:
-// a second run of two nodes; a first run of two, the second of which accepts; three runs; the five nodes of 01.
+// its own refusals, then the sum with the words before.
 fn further_tiles(checker: &mut Checker) {
-    let graphs: [(&[u32], u32, &[u8]); 4] = [
-        (&[0x140, 0x2c1, 0x81, 0xc2], 1, &[1]),
-        (&[0x140, 0x01, 0x3c2, 0xc1], 1, &[2]),
-        (&[0x140, 0x2c1, 0x401, 0x4c2, 0x81, 0xc2], 1, &[1, 2]),
-        (&[0x240, 0x40, 0x481, 0x442, 0xc2], 2, &[1]),
-    ];
     let near = [0, 1, u32::MAX - 1, u32::MAX];
-    for (nodes, start, tiles) in graphs {
+    for (nodes, start, tiles) in FURTHER_TILES {
         let graph = Graph::new(nodes.to_vec());
         let varied = nodes.len() - start as usize;
         for number in 0..near.len().pow(varied as u32) {

@@ -8,6 +8,7 @@ use super::pages::{
     titled, two_pages,
 };
 use super::texts::with_each;
+use super::thinned::Thinned;
 use crate::checker::{Checker, Graph};
 use crate::engine::PageOf;
 use crate::graphs::line;
@@ -15,11 +16,7 @@ use crate::lexicon::node;
 use crate::random::Random;
 
 pub fn run(checker: &mut Checker, size: Size, random: &mut Random) {
-    let mut pages = Thinned {
-        checker,
-        one_in: 1,
-        met: 0,
-    };
+    let mut pages = Thinned::new(checker);
     texts(pages.one_in(size.of(9_973, 997, 1)));
     long_words(pages.one_in(size.of(211, 5, 1)));
     greatest_numbers(pages.one_in(size.of(3, 1, 1)));
@@ -31,23 +28,10 @@ pub fn run(checker: &mut Checker, size: Size, random: &mut Random) {
     }
 }
 
-// A list of pages of which one in so many is asked for.
-struct Thinned<'a> {
-    checker: &'a mut Checker,
-    one_in: usize,
-    met: usize,
-}
-
 impl Thinned<'_> {
-    fn one_in(&mut self, one_in: usize) -> &mut Self {
-        self.one_in = one_in;
-        self
-    }
-
     fn page(&mut self, graph: &Graph, asked: &PageOf, page_len: usize) {
-        self.met += 1;
-        if self.met.is_multiple_of(self.one_in) {
-            self.checker.page(graph, asked, page_len);
+        if let Some(checker) = self.asked() {
+            checker.page(graph, asked, page_len);
         }
     }
 }

@@ -2,7 +2,8 @@
 
 use super::Size;
 use super::all_calls::{Nodes, all_calls};
-use crate::checker::Checker;
+use super::in_play::short_words;
+use crate::checker::{Checker, Graph};
 use crate::graphs::{every_node, nth};
 use crate::random::Random;
 
@@ -19,7 +20,8 @@ pub fn run(checker: &mut Checker, size: Size, random: &mut Random) {
         let nodes = every_node(tiles, arcs);
         for number in (0..nodes.len().pow(len)).step_by(one_in) {
             let graph = nth(&nodes, len, number);
-            all_calls(checker, random, graph, Nodes::Every);
+            all_calls(checker, random, graph.clone(), Nodes::Every);
+            short_words(checker, random, &Graph::new(graph), len.max(2) - 1);
         }
     }
 }

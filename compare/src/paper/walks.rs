@@ -12,7 +12,7 @@ pub fn node(nodes: &[u32], p: u32) -> Step<Node> {
     nodes.get(p as usize).map(|&word| kbwg(word)).ok_or(14)
 }
 
-fn count(counts: &[u32], p: u32) -> Step<u32> {
+pub fn count(counts: &[u32], p: u32) -> Step<u32> {
     counts.get(p as usize).copied().ok_or(14)
 }
 

@@ -10,6 +10,11 @@ pub data Answer : Type 0 where
   nothing : Answer
   refused : ℕ → List ℕ → Answer
 
+abbrev pub IsRefusal : Answer → Type 0
+IsRefusal (gives vs) = ⊥
+IsRefusal nothing = ⊥
+IsRefusal (refused n vs) = Unit
+
 -- an answer as one number: that of its refusal, or 0
 abbrev pub refusalIn : Answer → ℕ
 refusalIn (gives vs) = 0

@@ -15,6 +15,7 @@ ghost use Prim.Native.Nat.{_+_, _*_, _≤_, _<_};
 ghost use lib.ListN.{length};
 ghost use Rattle.dictionary.specs.Tree.{Tree, Searched, stored};
 ghost use Rattle.dictionary.specs.KeyNumbered.{KeyNumbered};
+use base::whole;
 
 // What a search comes to: the number of the key, or the place of the link that is to lead to it. The first key needs no link.
 enum Search {
@@ -27,13 +28,6 @@ enum Search {
 pub struct KeyNumber {
     pub number: u32,
     pub count: u32,
-}
-
-// A key by its halves.
-fn whole(high: u32, low: u32) -> u64
-    ensures { λ r. ⌜ r ≡ high * 4294967296 + low ⌝ }
-{
-    high as u64 * 0x100000000 + low as u64
 }
 
 // Looks for a key among those of the tree.

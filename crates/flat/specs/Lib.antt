@@ -8,3 +8,4 @@ pub mod PlainLaws
 pub mod StateLaws
 pub mod FlatPages
 pub mod FlatTyped
+pub mod FlatPlays

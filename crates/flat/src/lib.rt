@@ -4,6 +4,7 @@ mod files;
 mod loading;
 mod lookups;
 mod pages;
+mod playing;
 mod sets;
 mod typing;
 
@@ -34,6 +35,8 @@ pub use lookups::flat_index;
 pub use lookups::flat_sought;
 pub use lookups::flat_word;
 pub use pages::page_refusal;
+pub use playing::FlatInPlay;
+pub use playing::flat_in_play;
 pub use sets::FlatAccepts;
 pub use sets::FlatCross;
 pub use sets::bits_refusal;

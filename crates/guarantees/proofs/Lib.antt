@@ -1,6 +1,8 @@
--- Demand 3 and pages as theorems, and the five nodes that meet their premises and those of run lookup.
+-- Demand 3, pages and evenings as theorems, and the five nodes that meet their premises and those of run lookup.
 pub mod Demand3Laws
 pub mod PagesLaws
 pub mod Witness
 pub mod PageWitness
 pub mod SeekWitness
+pub mod EveningLaws
+pub mod EveningWitness

@@ -1,3 +1,4 @@
 pub mod Starred
 pub mod Demand3
 pub mod Pages
+pub mod Evening

@@ -1,14 +1,14 @@
 -- Single bits of a number, counted from 0, the lowest.
 use mathlib.Core.Path.{_≡_, refl, sym, ap, _∙_}
-use mathlib.Core.Bool.{Bool, false, _||_}
+use mathlib.Core.Bool.{Bool, true, false, _||_, not}
 use mathlib.Core.Logic.{_≢_}
 use Prim.Native.Nat.{ℕ, zero, suc, _+_, _-_, _*_, _%_, _/_, _^_, _<_}
 use native.Mathlib.Nat.{zero-add, add-mul-div-right, add-mul-mod-self-right, div-eq-of-lt, pow-suc, mul-comm, mul-assoc, zero-div}
 use native.Mathlib.Omega.{arith}
 use borrow.Author.Tests.{eqb-true, eqb-false, ltb-true, ltb-false}
-use lib.Bits.{bitOr, or-shr, or-mod}
+use lib.Bits.{bitOr, or-shr, or-mod, bitXor, xor-shr, xor-mod}
 use lib.Dec.{eqb, ltb}
-use lib.Pow.{pow-pos, pow-add, pow-lt}
+use lib.Pow.{pow-pos, pow-add, pow-lt, ones-split, ones-lt, high}
 use Rattle.laws.specs.Cases.{split}
 
 abbrev pub hasBit : ℕ → ℕ → Bool
@@ -63,3 +63,31 @@ pub or-bit : (a b r : ℕ) → hasBit (bitOr a b) r ≡ hasBit a r || hasBit b r
 or-bit a b r =
     ap (λ k. eqb k 1) (ap (λ k. k % 2) (or-shr a b r) ∙ or-mod (a / 2 ^ r) (b / 2 ^ r) 1)
     ∙ or-of-bits (a / 2 ^ r % 2) (b / 2 ^ r % 2) (omega arith) (omega arith)
+
+-- a, turned over where b holds
+abbrev pub turnedIf : Bool → Bool → Bool
+turnedIf a true = not a
+turnedIf a false = a
+
+xor-of-bits : (x y : ℕ) → x < 2 → y < 2 → eqb (bitXor x y) 1 ≡ turnedIf (eqb x 1) (eqb y 1)
+xor-of-bits zero zero h k = refl
+xor-of-bits zero (suc zero) h k = refl
+xor-of-bits (suc zero) zero h k = refl
+xor-of-bits (suc zero) (suc zero) h k = refl
+xor-of-bits (suc (suc x)) y h k = absurd (omega arith)
+xor-of-bits zero (suc (suc y)) h k = absurd (omega arith)
+xor-of-bits (suc zero) (suc (suc y)) h k = absurd (omega arith)
+
+pub xor-bit : (a b r : ℕ) → hasBit (bitXor a b) r ≡ turnedIf (hasBit a r) (hasBit b r)
+xor-bit a b r =
+    ap (λ k. eqb k 1) (ap (λ k. k % 2) (xor-shr a b r) ∙ xor-mod (a / 2 ^ r) (b / 2 ^ r) 1)
+    ∙ xor-of-bits (a / 2 ^ r % 2) (b / 2 ^ r % 2) (omega arith) (omega arith)
+
+-- a number whose n bits are all set
+pub ones-bit : (n r : ℕ) → r < n → hasBit (2 ^ n - 1) r ≡ true
+ones-bit n r h =
+    let s : n ≡ suc (n - suc r) + r = omega arith in
+    let p = pow-suc 2 (n - suc r) in
+    let odd : (2 ^ suc (n - suc r) - 1) % 2 ≡ 1 = let q = pow-pos (n - suc r) in omega arith in
+    ap (λ k. eqb (k / 2 ^ r % 2) 1) (ap (λ k. 2 ^ k - 1) s ∙ ones-split (suc (n - suc r)) r)
+    ∙ ap (λ k. eqb (k % 2) 1) (high (2 ^ suc (n - suc r) - 1) r (ones-lt r)) ∙ ap (λ k. eqb k 1) odd

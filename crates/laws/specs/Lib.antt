@@ -15,3 +15,4 @@ pub mod Ordering
 pub mod Without
 pub mod Tests
 pub mod Tables
+pub mod Same

@@ -2,7 +2,7 @@
 use mathlib.Core.Path.{_≡_, refl, sym, ap, ap₂, _∙_}
 use mathlib.Core.Bool.{Bool, true, false, true≢false}
 use mathlib.Core.Logic.{⊎-elim}
-use mathlib.Core.List.{List, [], _∷_, map, List·Memᴰ}
+use mathlib.Core.List.{List, [], _∷_, _++_, map, List·Memᴰ}
 use mathlib.Core.List.{List·Memᴰ·head, List·Memᴰ·tail, List·Memᴰ·not-nil, List·Memᴰ·cases-cons, List·Memᴰ·append-cases, Memᴰ·append-left, Memᴰ·append-right}
 use Prim.Native.Nat.{ℕ, zero, suc, zero-le, _≤_, _<_}
 use native.Mathlib.Omega.{arith}
@@ -93,6 +93,13 @@ module _ {A : Type 0} (f : A → Bool) where
       let h = filtered-length l in
       split (f x) (λ t. rw (t, filtered) (omega arith)) (λ t. rw (t, filtered) (omega arith))
 
+  pub filtered-append : (l m : List A) → filtered f (l ++ m) ≡ filtered f l ++ filtered f m
+  filtered-append [] m = refl
+  filtered-append (x ∷ l) m =
+      split (f x)
+      (λ t. rw (t, filtered) (ap (x ∷_) (filtered-append l m)))
+      (λ t. rw (t, filtered) (filtered-append l m))
+
   pub some-of : (l : List A) → someOf f l ≡ true → (x : A) × List·Memᴰ x l × (f x ≡ true)
   some-of [] e = absurd (true≢false (sym e))
   some-of (a ∷ l) e =
@@ -129,6 +136,17 @@ module _ {A B : Type 0} (f : A → List B) where
       (λ i. Memᴰ·append-left (joinAll (map f l)) (rw i at n))
       (λ k. Memᴰ·append-right (f z) (join-in l x y k n))
       (List·Memᴰ·cases-cons m)
+
+module _ {A : Type 0} (f h : A → Bool) where
+  -- tests that agree on the entries keep the same
+  pub filtered-same : (l : List A) → ((x : A) → List·Memᴰ x l → f x ≡ h x) → filtered f l ≡ filtered h l
+  filtered-same [] e = refl
+  filtered-same (x ∷ l) e =
+      let r = filtered-same l (λ y m. e y (List·Memᴰ·tail m)) in
+      let here = e x (List·Memᴰ·head refl) in
+      split (h x)
+      (λ t. rw (here ∙ t, t, filtered) (ap (x ∷_) r))
+      (λ t. rw (here ∙ t, t, filtered) r)
 
 -- a weaker test keeps more
 module _ {A : Type 0} (f h : A → Bool) (weaker : (x : A) → f x ≡ true → h x ≡ true) where

@@ -4,10 +4,11 @@ mod files;
 mod loading;
 mod lookups;
 mod pages;
+mod playing;
 mod sets;
 mod typing;
 
-// The calls that crate `replay` makes. Every `extern "C"` function is in the static library.
+// The calls that the crates `replay` and `evening_cases` make. Every `extern "C"` function is in the static library.
 pub use counting::machirsun_count_words;
 pub use files::machirsun_to_lxd;
 pub use files::machirsun_to_macondo;
@@ -20,6 +21,8 @@ pub use lookups::machirsun_seek;
 pub use lookups::machirsun_word_by_index;
 pub use lookups::machirsun_word_index;
 pub use pages::machirsun_write_page;
+pub use playing::machirsun_arrive;
+pub use playing::machirsun_leave;
 pub use sets::machirsun_accepts_alpha;
 pub use sets::machirsun_alpha_cross_set;
 pub use sets::machirsun_letter_bits;

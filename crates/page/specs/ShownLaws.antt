@@ -11,7 +11,7 @@ use borrow.Author.Tests.{ltb-false, eqb-true}
 use lib.ListN.{length}
 use Rattle.laws.specs.Cases.{split, or-false-left, or-false-right}
 use Rattle.laws.specs.Lists.{someOf}
-use Rattle.answers.specs.Answers.{Answer, gives, nothing, refused, Row, firstOf}
+use Rattle.answers.specs.Answers.{Answer, gives, nothing, refused, IsRefusal, Row, firstOf}
 use Rattle.answers.specs.RowLaws.{row-passed, row-refusal, gives≢refused}
 use Rattle.graph.specs.Words.{Word}
 use Rattle.lookup.specs.Steps.{Try, on, stop, _>>=_}
@@ -23,11 +23,6 @@ use Rattle.page.specs.Shown.{shownBy, shownAt, shownFrom}
 use Rattle.page.specs.Page.{shownTiles, outside, checking, lentRow, labelRow, pageWritten, pageWords, writePage}
 
 -- ---- what goes on has the property, and what stops is a refusal
-abbrev IsRefusal : Answer → Type 0
-IsRefusal (gives vs) = ⊥
-IsRefusal nothing = ⊥
-IsRefusal (refused n vs) = Unit
-
 abbrev OnOrRefused : {A : Type 0} → (A → Type 0) → Try A → Type 0
 OnOrRefused P x = Comes P IsRefusal x
 

@@ -6,12 +6,7 @@ use Prim.Native.Nat.{ℕ}
 use lib.Dec.{eqb}
 use lib.ListN.{length, take, drop}
 use Rattle.stored.specs.declared.answers.Verdict.{Verdict}
-
-unfoldable pub same : List ℕ → List ℕ → Bool
-same [] [] = true
-same [] (y ∷ ys) = false
-same (x ∷ xs) [] = false
-same (x ∷ xs) (y ∷ ys) = eqb x y && same xs ys
+unfoldable pub use Rattle.laws.specs.Same.{same}
 
 abbrev pub verdictOf : Bool → Verdict
 verdictOf true = Verdict.Same

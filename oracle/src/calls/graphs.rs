@@ -102,6 +102,35 @@ impl Graph {
     }
 }
 
+// The words from a node, in the order of their numbers. Node 0 starts none.
+pub fn words_from(graph: &Graph, start: usize) -> Vec<Vec<u8>> {
+    let mut words = Vec::new();
+    let mut place = start;
+    while place > 0 {
+        let node = &graph.nodes[place];
+        if node.accepts {
+            words.push(vec![node.tile]);
+        }
+        for rest in words_from(graph, node.arc_index as usize) {
+            words.push([vec![node.tile], rest].concat());
+        }
+        place = if node.is_end { 0 } else { place + 1 };
+    }
+    words
+}
+
+// Words that a graph may not have: none of the word's tiles, fewer, one more,
+// one of them another, and tile 0.
+pub fn words_near(word: &[u8]) -> Vec<Vec<u8>> {
+    let mut near = vec![vec![], vec![0], [word, &[1]].concat()];
+    if let Some((&last, start)) = word.split_last() {
+        near.push(start.to_vec());
+        near.push([start, &[(last + 1) % 64]].concat());
+        near.push([&[63], &word[1..]].concat());
+    }
+    near
+}
+
 // A graph of so many nodes: of few tiles, of a few in ascending runs, or of any.
 pub fn random_graph(random: &mut Random, len: usize, kind: u32) -> Graph {
     let tiles = [3, 5, 64][kind as usize];
@@ -173,6 +202,32 @@ pub fn random_words(random: &mut Random, count: usize, letters: u64, longest: u6
                 .collect()
         })
         .collect()
+}
+
+// Exactly so many words.
+pub fn words_in_number(random: &mut Random, count: usize, letters: u64, longest: u64) -> Words {
+    let mut words = Words::new();
+    while words.len() < count {
+        words.append(&mut random_words(random, 1, letters, longest));
+    }
+    words
+}
+
+// The words of a GADDAG: for each place in a word what stands before it from back
+// to front, tile 0, and the rest; the whole word turned has no tile 0.
+pub fn turned(words: &Words) -> Words {
+    let mut all = Words::new();
+    for word in words {
+        for cut in 1..=word.len() {
+            let (front, rest) = word.split_at(cut);
+            let mut tiles: Vec<u8> = front.iter().rev().copied().collect();
+            if !rest.is_empty() {
+                tiles.push(0);
+            }
+            all.insert([&tiles, rest].concat());
+        }
+    }
+    all
 }
 
 // Whether a run stands before the runs that it leads to, or after them.

@@ -25,6 +25,15 @@ pub const NOT_PRINTABLE: u64 = 26;
 pub const NO_ROOM: u64 = 16;
 pub const BAD_LABEL_LINE: u64 = 27;
 pub const UNREADABLE: u64 = 28;
+// Of a word that comes into play or leaves it: the record has too few bits; a start,
+// a node or a count is not lent; a difference is below 0 or a sum too great; there is
+// no such word; it is in play already; it is not in play.
+pub const TOO_SHORT: u64 = 11;
+pub const NOT_LENT: u64 = 14;
+pub const OUT_OF_RANGE: u64 = 15;
+pub const NO_WORD: u64 = 29;
+pub const ALREADY_IN_PLAY: u64 = 30;
+pub const NOT_IN_PLAY: u64 = 31;
 
 // Of a lookup: whether there is such a word or node; where there is not, the
 // whole answer.

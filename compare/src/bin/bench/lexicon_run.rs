@@ -29,6 +29,7 @@ pub fn print() {
     bench.words_to_numbers(&words);
     bench.numbers_to_words(&words);
     bench.pages(&mut Random::new(23));
+    bench.in_play(&mut Random::new(17), &words);
     bench.seek_along("`seek`, along all words", &words, 1);
     bench.seek_anywhere(&mut random);
     let few: Words = words.iter().step_by(WORDS / FEW).cloned().collect();

@@ -6,6 +6,7 @@ mod bench;
 mod clock;
 mod files;
 mod hostile;
+mod in_play;
 mod lexicon_run;
 mod loads;
 mod lookups;
@@ -19,4 +20,5 @@ fn main() {
     hostile::print();
     println!();
     typed::print_hostile();
+    in_play::print_hostile();
 }

@@ -1,6 +1,6 @@
 // The list `numbers`.
 
-use super::super::graphs::{Graph, pack_all, random_graph, random_nodes};
+use super::super::graphs::{Graph, pack_all, random_graph, random_nodes, words_from, words_near};
 use super::super::layout::{Fields, Layout};
 use super::super::samples::{doubled_chain, empty_graph, graph, words_of};
 use super::{COUNT, NUMBER_TO_WORD, WORD_TO_NUMBER, in_range, loops};
@@ -57,23 +57,6 @@ fn ask_number(requests: &mut Requests, graph: &Graph, counts: &[u32], start: usi
     }
 }
 
-// The words from a node, in the order of their numbers. Node 0 starts none.
-fn words_from(graph: &Graph, start: usize) -> Vec<Vec<u8>> {
-    let mut words = Vec::new();
-    let mut place = start;
-    while place > 0 {
-        let node = &graph.nodes[place];
-        if node.accepts {
-            words.push(vec![node.tile]);
-        }
-        for rest in words_from(graph, node.arc_index as usize) {
-            words.push([vec![node.tile], rest].concat());
-        }
-        place = if node.is_end { 0 } else { place + 1 };
-    }
-    words
-}
-
 // All places of a short list; of a longer one the first two, the middle and
 // the last two.
 fn some_places(len: usize) -> Vec<usize> {
@@ -82,18 +65,6 @@ fn some_places(len: usize) -> Vec<usize> {
     } else {
         vec![0, 1, len / 2, len - 2, len - 1]
     }
-}
-
-// Words that a graph may not have: none of the word's tiles, fewer, one more,
-// one of them another, and tile 0.
-fn words_near(word: &[u8]) -> Vec<Vec<u8>> {
-    let mut near = vec![vec![], vec![0], [word, &[1]].concat()];
-    if let Some((&last, start)) = word.split_last() {
-        near.push(start.to_vec());
-        near.push([start, &[(last + 1) % 64]].concat());
-        near.push([&[63], &word[1..]].concat());
-    }
-    near
 }
 
 // From a node: numbers up to one past the count, words, and words near them.
