@@ -58,13 +58,14 @@ module _ (limit : ℕ) (nodes : Graph) (counts : List ℕ) (start : ℕ) (lex : 
     fits : length lex ≤ 8 * length bits
     fits = let s = agrees .size in omega arith
 
-    pub record Step (c : Call) : Type 0 where
+    -- the call answers what the history says, and record and history agree after it
+    pub record Follows (c : Call) : Type 0 where
       pub answer : plays c bits .answer ≡ answerAfter lex accepted c
       pub agree : Agrees lex first (plays c bits .bits) (noted (answerAfter lex accepted c) c accepted)
 
     -- a refusal changes neither
     refusing-step : (c : Call) (k : ℕ) → firstOf (historyRow lex accepted c) ≡ some (refused k [])
-        → plays c bits ≡ record { answer = refused k []; bits = bits } → Step c
+        → plays c bits ≡ record { answer = refused k []; bits = bits } → Follows c
     unfolding answerAfter
     refusing-step c k e p =
         let a : answerAfter lex accepted c ≡ refused k [] = ap (λ o. orElse o (remaining (countAfter lex (c ∷ accepted)) (numbersAfter lex (c ∷ accepted)))) e in
@@ -106,7 +107,7 @@ module _ (limit : ℕ) (nodes : Graph) (counts : List ℕ) (start : ℕ) (lex : 
       count-then = let p = places-left (arrived (c ∷ accepted)) [] lex in ap length numbers-then ∙ omega arith
 
       accepting-step : firstOf (historyRow lex accepted c) ≡ none → {b : Bool} → allowed (c .move) (inPlay bits i) ≡ on b
-          → inLexicon limit nodes counts start (c .word) (length bits) ≡ on (i, length lex) → Step c
+          → inLexicon limit nodes counts start (c .word) (length bits) ≡ on (i, length lex) → Follows c
       unfolding answerAfter
       accepting-step e a k =
           let told = remaining (countAfter lex (c ∷ accepted)) (numbersAfter lex (c ∷ accepted)) in
@@ -127,12 +128,12 @@ module _ (limit : ℕ) (nodes : Graph) (counts : List ℕ) (start : ℕ) (lex : 
 
       -- its bit refuses the move
       refused-by : (move : Move) (k : ℕ) → firstOf (historyRow lex accepted (record { move = move; word = word })) ≡ some (refused k [])
-          → allowed move (inPlay bits i) ≡ stop (refused k []) → Step (record { move = move; word = word })
+          → allowed move (inPlay bits i) ≡ stop (refused k []) → Follows (record { move = move; word = word })
       refused-by move k e a =
           refusing-step (record { move = move; word = word }) k e
           (play-known limit move nodes counts start word bits known ∙ not-allowed move bits i (length lex) a)
 
-      moving : (move : Move) (b : Bool) → arrived accepted word ≡ b → Step (record { move = move; word = word })
+      moving : (move : Move) (b : Bool) → arrived accepted word ≡ b → Follows (record { move = move; word = word })
       moving M.Arrives true e =
           refused-by M.Arrives 30 (stops-at 1 (historyRow lex accepted (record { move = M.Arrives; word = word })) (ap not has, e))
           (ap (allowed M.Arrives) (there true e))
@@ -149,14 +150,14 @@ module _ (limit : ℕ) (nodes : Graph) (counts : List ℕ) (start : ℕ) (lex : 
           (ap (allowed M.Leaves) (there false e))
 
     -- ---- a call of any other word
-    unknown-step : (c : Call) → someOf (same (c .word)) lex ≡ false → Step c
+    unknown-step : (c : Call) → someOf (same (c .word)) lex ≡ false → Follows c
     unknown-step c e =
         refusing-step c 29 (stops-at 0 (historyRow lex accepted c) (ap not e))
         (play-unknown limit (c .move) nodes counts start (c .word) bits
         (no-number limit nodes counts start (c .word) (length bits) (meets .total) fits
         (ap numberOf (meets .unknown (c .word) (λ m. true≢false (sym (same-refl (c .word)) ∙ none-of (same (c .word)) lex e (c .word) m))))))
 
-    pub step : (c : Call) → Step c
+    pub step : (c : Call) → Follows c
     step c =
         split (someOf (same (c .word)) lex)
         (λ t.

@@ -59,15 +59,15 @@ answers =
     ∷ gives (1 ∷ 0 ∷ [])
     ∷ []
 
-abbrev played : List ℕ → Evening
-played first = playAll countLimit G (counts G) 2 calls first
+abbrev evening-over : List ℕ → Evening
+evening-over first = playAll countLimit G (counts G) 2 calls first
 
 -- a record of one byte whose bits past the count are set, one of no bytes, and start 0
 pub record EveningMet : Type 0 where
-  pub by-calls : played (0xF8 ∷ []) ≡ record { answers = answers; bits = 0xFE ∷ [] }
+  pub by-calls : evening-over (0xF8 ∷ []) ≡ record { answers = answers; bits = 0xFE ∷ [] }
   pub by-history : answersAfter (lexicon G 2) [] calls ≡ answers
-  pub trusted : Trusted (lexicon G 2) (0xF8 ∷ []) calls (played (0xF8 ∷ []))
-  pub too-few : Trusted (lexicon G 2) [] calls (played [])
+  pub trusted : Trusted (lexicon G 2) (0xF8 ∷ []) calls (evening-over (0xF8 ∷ []))
+  pub too-few : Trusted (lexicon G 2) [] calls (evening-over [])
   pub no-words : Trusted [] [] calls (playAll countLimit G (counts G) 0 calls [])
 
 empty : (k : ℕ) → k < 3 → inPlay (0xF8 ∷ []) k ≡ false

@@ -1,3 +1,3 @@
-pub mod RowLaws
+pub mod UpFromLaws
 pub mod GroupLaws
 pub mod ScanLaws

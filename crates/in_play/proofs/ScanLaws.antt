@@ -17,7 +17,7 @@ use Rattle.laws.specs.Members.{filtered-length, filtered-append}
 use Rattle.answers.specs.Answers.{gives}
 use Rattle.in_play.specs.InPlay.{inPlay, upFrom, notInPlay, remaining}
 use Rattle.in_play.specs.Groups.{joined, clearBits, lastClear, firstOr}
-use Rattle.in_play.proofs.RowLaws.{told-count, told-lowest, lowest-below, up-append, up-length}
+use Rattle.in_play.proofs.UpFromLaws.{told-count, told-lowest, lowest-below, up-append, up-length}
 use Rattle.in_play.proofs.GroupLaws.{Bytes, low-bits, clear-below, clear-bit}
 
 module _ (bits : List ℕ) (total : ℕ) where
