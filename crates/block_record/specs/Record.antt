@@ -43,4 +43,4 @@ pub record HoldsBlocks (n : ℕ) (size : ℕ → ℕ) (base : ℕ) (w : List ℕ
   pub many : used n w ≡ t .blocks
   pub sum : t .nodes ≡ base + total size o
   pub new : (p : ℕ) → p < n → member p o ≡ false → getD w p 0 ≡ 0
-  pub old : (p : ℕ) → p < n → member p o ≡ true → getD w p 0 ≡ blockAt size base o p + 1
+  pub old : (p : ℕ) → p < n → member p o ≡ true → getD w p 0 ≡ blockAt eqb size base o p + 1

@@ -69,18 +69,18 @@ in-snoc x (y ∷ o) p = split (eqb x y) (λ t. rw t) (λ t. rw t (in-snoc x o p)
 
 -- ---- what is met
 module _ (children : ℕ → List ℕ) where
-  pub met-old : (c : ℕ) (o : List ℕ) (p : ℕ) → member p o ≡ true → met children c o p ≡ o
+  pub met-old : (c : ℕ) (o : List ℕ) (p : ℕ) → member p o ≡ true → met eqb children c o p ≡ o
   unfolding met
   met-old zero o p h = refl
   met-old (suc c) o p h = rw (h, met)
 
   pub met-new : (c : ℕ) (o : List ℕ) (p : ℕ) → c ≢ 0 → member p o ≡ false
-      → met children c o p ≡ each (λ s q. met children (c - 1) s q) (o ++ p ∷ []) (children p)
+      → met eqb children c o p ≡ each (λ s q. met eqb children (c - 1) s q) (o ++ p ∷ []) (children p)
   unfolding met
   met-new zero o p h e = absurd (h refl)
   met-new (suc c) o p h e =
       let z : c ≡ suc c - 1 = omega arith in
-      rw (e, met) (ap (λ k. each (λ s q. met children k s q) (o ++ p ∷ []) (children p)) z)
+      rw (e, met) (ap (λ k. each (λ s q. met eqb children k s q) (o ++ p ∷ []) (children p)) z)
 
 -- ---- totals and places as the order grows
 module _ (size : ℕ → ℕ) where
@@ -94,7 +94,7 @@ module _ (size : ℕ → ℕ) where
   each-total f h o [] = omega arith
   each-total f h o (p ∷ ps) = omega (arith, h o p, each-total f h (f o p) ps)
 
-  met-total : (children : ℕ → List ℕ) (c : ℕ) (o : List ℕ) (p : ℕ) → total size o ≤ total size (met children c o p)
+  met-total : (children : ℕ → List ℕ) (c : ℕ) (o : List ℕ) (p : ℕ) → total size o ≤ total size (met eqb children c o p)
   unfolding met
   met-total children zero o p = omega arith
   met-total children (suc c) o p =
@@ -102,18 +102,18 @@ module _ (size : ℕ → ℕ) where
       (λ e. rw (e, met) (omega arith))
       (λ e.
       let a = total-snoc o p in
-      let b = each-total (λ s q. met children c s q) (met-total children c) (o ++ p ∷ []) (children p) in
+      let b = each-total (λ s q. met eqb children c s q) (met-total children c) (o ++ p ∷ []) (children p) in
       rw (e, met) (omega arith))
 
-  pub all-total : (children : ℕ → List ℕ) (c : ℕ) (o ps : List ℕ) → total size o ≤ total size (each (λ s q. met children c s q) o ps)
-  all-total children c o ps = each-total (λ s q. met children c s q) (met-total children c) o ps
+  pub all-total : (children : ℕ → List ℕ) (c : ℕ) (o ps : List ℕ) → total size o ≤ total size (each (λ s q. met eqb children c s q) o ps)
+  all-total children c o ps = each-total (λ s q. met eqb children c s q) (met-total children c) o ps
 
-  at-old : (base : ℕ) (o : List ℕ) (p q : ℕ) → member q o ≡ true → blockAt size base (o ++ p ∷ []) q ≡ blockAt size base o q
+  at-old : (base : ℕ) (o : List ℕ) (p q : ℕ) → member q o ≡ true → blockAt eqb size base (o ++ p ∷ []) q ≡ blockAt eqb size base o q
   unfolding blockAt
   at-old base [] p q h = absurd (true≢false (sym h))
   at-old base (x ∷ o) p q h = split (eqb q x) (λ e. rw (e, blockAt)) (λ e. rw (e, blockAt) (at-old (base + size x) o p q (rw e at h)))
 
-  at-new : (base : ℕ) (o : List ℕ) (p : ℕ) → member p o ≡ false → blockAt size base (o ++ p ∷ []) p ≡ base + total size o
+  at-new : (base : ℕ) (o : List ℕ) (p : ℕ) → member p o ≡ false → blockAt eqb size base (o ++ p ∷ []) p ≡ base + total size o
   unfolding blockAt total
   at-new base [] p h = rw (eq-eqb p p refl, blockAt) (omega arith)
   at-new base (x ∷ o) p h =
@@ -161,7 +161,7 @@ module _ {n : ℕ} {size : ℕ → ℕ} {base : ℕ} {w : List ℕ} {t : BlockTa
   entry-other : (q : ℕ) → q < n → q ≢ p → getD pushed q 0 ≡ getD w q 0
   entry-other q m e = entry q m ∙ getD-set-other w p q (t .nodes + 1) 0 e
 
-  entry-own : getD pushed p 0 ≡ blockAt size base (o ++ p ∷ []) p + 1
+  entry-own : getD pushed p 0 ≡ blockAt eqb size base (o ++ p ∷ []) p + 1
   entry-own =
       entry p l ∙ getD-set-same w p (t .nodes + 1) 0 (omega arith)
       ∙ (let a = at-new size base o p fresh in let b = h .sum in omega arith)
@@ -178,7 +178,7 @@ module _ {n : ℕ} {size : ℕ → ℕ} {base : ℕ} {w : List ℕ} {t : BlockTa
             let other = eqb-false q p (or-false-right (member q o) (eqb q p) f) in
             entry-other q m other ∙ h .new q m (or-false-left (member q o) (eqb q p) f);
         old = λ q m e. split (eqb q p)
-            (λ i. subst (λ x. getD pushed x 0 ≡ blockAt size base (o ++ p ∷ []) x + 1) (sym (eqb-true q p i)) entry-own)
+            (λ i. subst (λ x. getD pushed x 0 ≡ blockAt eqb size base (o ++ p ∷ []) x + 1) (sym (eqb-true q p i)) entry-own)
             (λ i.
             let before : member q o ≡ true =
             split (member q o) (λ k. k) (λ k. absurd (true≢false (sym e ∙ in-snoc q o p ∙ ap (λ x. x || eqb q p) k ∙ i))) in

@@ -32,14 +32,13 @@ abbrev pub filtered : {A : Type 0} → (A → Bool) → List A → List A
 filtered f [] = []
 filtered f (x ∷ xs) = elim (f x) [ true ↦ x ∷ filtered f xs | false ↦ filtered f xs ]
 
-abbrev pub member : ℕ → List ℕ → Bool
-member x [] = false
-member x (y ∷ ys) = eqb x y || member x ys
-
 -- whether some entry passes
 abbrev pub someOf : {A : Type 0} → (A → Bool) → List A → Bool
 someOf f [] = false
 someOf f (x ∷ xs) = f x || someOf f xs
+
+abbrev pub member : ℕ → List ℕ → Bool
+member x l = someOf (eqb x) l
 
 -- the lists one after the other
 abbrev pub joinAll : {A : Type 0} → List (List A) → List A

@@ -101,13 +101,13 @@ module _ (g : Graph) (labels : List ℕ) where
 
   -- so the file can be written
   pub numbered-plan : Fit g → unlabelled g labels ≡ false → someOf (byteless labels) (reached g) ≡ false → {w₀ w : List ℕ} {f : Walked}
-      → RunsNumbered g w₀ w (met (arcsFrom g) 64 [] (startNode g 0)) true (startNode g 0) 64 f
+      → RunsNumbered g w₀ w (met eqb (arcsFrom g) 64 [] (startNode g 0)) true (startNode g 0) 64 f
       → f .words ≢ most → length g + length g < length w → Planned g labels w (f .words) (f .tally)
   unfolding runs
   numbered-plan sound labelled bytes n few room =
       record { found = checks-passed _ (surveys-too n) sound labelled bytes few; room = room; held = n .held }
 
-pub many-nodes : (g : Graph) → 2 ^ 22 < 2 + total (runSize g) (met (arcsFrom g) 64 [] (startNode g 0)) → 2 ^ 22 < 2 + length (reached g)
+pub many-nodes : (g : Graph) → 2 ^ 22 < 2 + total (runSize g) (met eqb (arcsFrom g) 64 [] (startNode g 0)) → 2 ^ 22 < 2 + length (reached g)
 unfolding runs
 many-nodes g m = let e = reached-size g in omega arith
 

@@ -37,14 +37,14 @@ module _ (children : ℕ → List ℕ) (c : ℕ) (o : List ℕ) (p : ℕ) where
   unfolding metBy
   met-by-none e = rw (eq-eqb p 0 e, metBy)
 
-  met-by-arc : p ≢ 0 → metBy children c o p ≡ met children c o p
+  met-by-arc : p ≢ 0 → metBy children c o p ≡ met eqb children c o p
   unfolding metBy
   met-by-arc e = rw (ne-eqb p 0 e, metBy)
 
 module _ (g : Graph) where
   -- the runs met from the arcs of nodes, with so many runs left in the chain
   abbrev pub walk : ℕ → List ℕ → List ℕ → List ℕ
-  walk left seen vs = each (met (arcsFrom g) left) seen (map (arc KBWG) (filtered hasArc vs))
+  walk left seen vs = each (met eqb (arcsFrom g) left) seen (map (arc KBWG) (filtered hasArc vs))
 
   -- ---- an arc
   module _ {w : List ℕ} {t : BlockTally} (r : RunsRecorded g w t) (left : ℕ) where
@@ -64,7 +64,7 @@ module _ (g : Graph) where
 
     -- to a run that is numbered already
     known-answer : (q : ℕ) → q < length g → getD w q 0 ≢ 0 → Below g w q
-        → NumberedAs g w w (met (arcsFrom g) left here q) true q left (lookedUp (length g) w q t left)
+        → NumberedAs g w w (met eqb (arcsFrom g) left here q) true q left (lookedUp (length g) w q t left)
     known-answer q l n b =
         split (eqb (getD w (depthAt (length g) q) 0) 0)
         (λ z. rw (z, lookedUp) (loop-deep g w q b l (n, eqb-true _ _ z) left))
@@ -81,11 +81,11 @@ module _ (g : Graph) where
         })))
 
     pub known-run : {r : RunNumbering} (q : ℕ) → q < length g → getD w q 0 ≢ 0 → Below g w q → r ≡ lookedUp (length g) w q t left
-        → NumberedAs g w w (met (arcsFrom g) left here q) true q left r
-    known-run q l n b e = subst (NumberedAs g w w (met (arcsFrom g) left here q) true q left) (sym e) (known-answer q l n b)
+        → NumberedAs g w w (met eqb (arcsFrom g) left here q) true q left r
+    known-run q l n b e = subst (NumberedAs g w w (met eqb (arcsFrom g) left here q) true q left) (sym e) (known-answer q l n b)
 
   pub arc-run : (w₀ w o : List ℕ) (left v : ℕ) (r : RunNumbering) {q : ℕ} → q ≡ arc KBWG v → q ≢ 0
-      → NumberedAs g w₀ w (met (arcsFrom g) left o q) true q left r
+      → NumberedAs g w₀ w (met eqb (arcsFrom g) left o q) true q left r
       → NumberedAs g w₀ w (metBy (arcsFrom g) left o (arc KBWG v)) (hasArc v) (arc KBWG v) left r
   arc-run w₀ w o left v r {q} e n h = rw (← e, met-by-arc (arcsFrom g) left o q n, ne-eqb q 0 n) h
 
@@ -98,10 +98,10 @@ module _ (g : Graph) where
     blocks-left = holds-room (h .runs) p l new
 
     pub run-met : (left : ℕ) (o₀ : List ℕ) → left ≢ 0 → o₀ ≡ o ++ p ∷ []
-        → walk (left - 1) o₀ (runOf g p) ≡ met (arcsFrom g) left o p
+        → walk (left - 1) o₀ (runOf g p) ≡ met eqb (arcsFrom g) left o p
     run-met left o₀ e q = ap (λ x. walk (left - 1) x (runOf g p)) q ∙ sym (met-new (arcsFrom g) left o p e fresh)
 
-    pub run-over : (left : ℕ) → left ≢ 0 → 2 ^ 22 - t .nodes < runSize g p → 2 ^ 22 < 2 + total (runSize g) (met (arcsFrom g) left o p)
+    pub run-over : (left : ℕ) → left ≢ 0 → 2 ^ 22 - t .nodes < runSize g p → 2 ^ 22 < 2 + total (runSize g) (met eqb (arcsFrom g) left o p)
     run-over left e d =
         let a = total-snoc (runSize g) o p in
         let b = all-total (runSize g) (arcsFrom g) (left - 1) (o ++ p ∷ []) (arcsFrom g p) in

@@ -4,6 +4,7 @@
 ghost use mathlib.Core.Path.{_≡_};
 ghost use mathlib.Core.Bool.{true};
 ghost use Prim.Native.Nat.{_*_, _≤_, _<_};
+ghost use lib.Dec.{eqb};
 ghost use lib.ListN.{length, getD, set};
 ghost use Rattle.base.specs.Numbers.{most};
 ghost use Rattle.node.specs.Nodes.{KBWG, arc};
@@ -171,7 +172,7 @@ pub fn number_run(
     requires { ⌜ getD (now work) p 0 ≡ 0 ⌝ }
     requires { ⌜ Below (now nodes) (now work) p ⌝ }
     ensures { λ r. ⌜ NumberedAs (now (nodes .entry)) (now (work .entry)) (now (work .exit))
-        (met (arcsFrom (now (nodes .entry))) «chain_left» (orderIn (length (now (nodes .entry))) (now (work .entry)) t) p) true p «chain_left» r ⌝ }
+        (met eqb (arcsFrom (now (nodes .entry))) «chain_left» (orderIn (length (now (nodes .entry))) (now (work .entry)) t) p) true p «chain_left» r ⌝ }
 {
     if chain_left == 0 {
         return RunNumbering::TooDeep;

@@ -51,7 +51,7 @@ header nodes title date words = toBytes 64 ++ (toBytes nodes ++ (field 32 title 
 module _ (g : Graph) where
   -- the runs from the start, in the order in which they are first met, depth first
   unfoldable pub runs : List ℕ
-  runs = met (arcsFrom g) 64 [] (startNode g 0)
+  runs = met eqb (arcsFrom g) 64 [] (startNode g 0)
 
   -- the nodes of the runs met from the start; a node stands once for each of these runs that it is in
   abbrev pub reached : List ℕ
@@ -63,7 +63,7 @@ module _ (g : Graph) where
 
   -- "a run takes consecutive places when first met", after nodes 0 and 1
   abbrev pub runPlace : ℕ → ℕ
-  runPlace p = blockAt runSize 2 runs p
+  runPlace p = blockAt eqb runSize 2 runs p
 
   -- where an arc to p leads in the file
   unfoldable pub child : ℕ → ℕ

@@ -12,6 +12,7 @@ use lib.ListN.{length, drop, length-drop}
 use lib.Seq.{drop-cons, getD-drop}
 use Rattle.laws.specs.Cases.{split}
 use Rattle.laws.specs.Members.{in-join}
+use Rattle.laws.specs.Same.{exact-number}
 use Rattle.node.specs.Nodes.{KBWG, arc, isEnd}
 use Rattle.graph.specs.Runs.{Graph, run, lastEnds, startNode}
 use Rattle.graph.specs.ChecksLaws.{Closed, Fit, last-of, start-inside}
@@ -48,13 +49,13 @@ module _ (g : Graph) where
   pub start-place : runPlace g (startNode g 0) ≡ 2
   unfolding runs
   start-place =
-      let r = first-met (arcsFrom g) 63 (startNode g 0) in
-      ap (λ l. blockAt (runSize g) 2 l (startNode g 0)) (r .1) ∙ block-first (runSize g) 2 (startNode g 0) (r .0)
+      let r = first-met exact-number (arcsFrom g) 63 (startNode g 0) in
+      ap (λ l. blockAt eqb (runSize g) 2 l (startNode g 0)) (r .1) ∙ block-first exact-number (runSize g) 2 (startNode g 0) (r .0)
 
   module _ (f : Fit g) where
     pub runs-inside : (p : ℕ) → List·Memᴰ p (runs g) → p < length g
     unfolding runs
-    runs-inside = every-met (arcsFrom g) (λ p. p < length g) (λ p q h m. arcs-inside g (f .steps) p q m) 64 (startNode g 0)
+    runs-inside = every-met exact-number (arcsFrom g) (λ p. p < length g) (λ p q h m. arcs-inside g (f .steps) p q m) 64 (startNode g 0)
         (start-inside f 0 (omega arith))
 
     pub runs-within : length (runs g) ≤ length (reached g)
@@ -66,19 +67,19 @@ module _ (g : Graph) where
     -- the run from p is in place before the nodes end
     pub place-within : (p : ℕ) → List·Memᴰ p (runs g) → (2 ≤ runPlace g p) × (runPlace g p < 2 + length (reached g))
     place-within p m =
-        let a = block-within (runSize g) (runs g) 2 p m in
+        let a = block-within exact-number (runSize g) (runs g) 2 p m in
         let b = size-some p (runs-inside p m) in
         let e = reached-size in
-        (block-from (runSize g) (runs g) 2 p, omega arith)
+        (block-from eqb (runSize g) (runs g) 2 p, omega arith)
 
     module _ (ended : deeper g 64 (startNode g 0) ≡ false) where
       pub start-in-runs : List·Memᴰ (startNode g 0) (runs g)
       unfolding runs
-      start-in-runs = start-met (arcsFrom g) 64 (startNode g 0) (shallow-low g (arcsFrom g) (λ p q m. m) 64 (startNode g 0) ended)
+      start-in-runs = start-met exact-number (arcsFrom g) 64 (startNode g 0) (shallow-low g (arcsFrom g) (λ p q m. m) 64 (startNode g 0) ended)
 
       arcs-in-runs : (p q : ℕ) → List·Memᴰ p (runs g) → List·Memᴰ q (arcsFrom g p) → List·Memᴰ q (runs g)
       unfolding runs
-      arcs-in-runs p q = children-met (arcsFrom g) 64 (startNode g 0) (shallow-low g (arcsFrom g) (λ x y m. m) 64 (startNode g 0) ended) p q
+      arcs-in-runs p q = children-met exact-number (arcsFrom g) 64 (startNode g 0) (shallow-low g (arcsFrom g) (λ x y m. m) 64 (startNode g 0) ended) p q
 
       pub arc-in-runs : (v : ℕ) → List·Memᴰ v (reached g) → arc KBWG v ≢ 0 → List·Memᴰ (arc KBWG v) (runs g)
       arc-in-runs v m n =

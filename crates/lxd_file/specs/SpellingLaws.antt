@@ -8,6 +8,7 @@ use native.Mathlib.Omega.{arith}
 use lib.ListN.{length, getD, drop, length-map}
 use Rattle.laws.specs.Lists.{none-left, drop-map}
 use Rattle.laws.specs.Members.{join-in, map-same}
+use Rattle.laws.specs.Same.{exact-number}
 use Rattle.answers.specs.Answers.{firstOf}
 use Rattle.node.specs.Nodes.{KBWG, arc}
 use Rattle.graph.specs.Runs.{Graph, run, startNode}
@@ -38,7 +39,7 @@ module _ (g : Graph) (labels : List ℕ) (ok : LxdAccepted g labels) where
   -- ---- a run of the graph stands in the file as its copy
   copy-at : (p : ℕ) → List·Memᴰ p (runs g) → (rest : List ℕ) × (drop (runPlace g p) copies ≡ map (lxdNode g labels) (runOf g p) ++ rest)
   copy-at p m =
-      let b = block-at (runSize g) (runOf g) (λ q. refl) (runs g) 2 p m in
+      let b = block-at exact-number (runSize g) (runOf g) (λ q. refl) (runs g) 2 p m in
       let e : runPlace g p ≡ suc (suc (b .0)) = let x = b .2 in omega arith in
       let h = lxdNode g labels in
       (map h (b .1), rw e (drop-map h (b .0) (reached g) ∙ ap (map h) (b .3) ∙ map-append h (runOf g p) (b .1)))

@@ -11,6 +11,7 @@ use Rattle.laws.specs.Cases.{split}
 use Rattle.laws.specs.Firsts.{placeIn, firsts}
 use Rattle.laws.specs.Lists.{member, joinAll}
 use Rattle.laws.specs.Members.{at-in, map-same, member-mem, mem-member}
+use Rattle.laws.specs.Same.{exact-number}
 use Rattle.node.specs.Nodes.{KBWG, tile, arc}
 use Rattle.endian.specs.Bytes.{bigEndian}
 use Rattle.graph.specs.Runs.{Graph}
@@ -132,7 +133,7 @@ module _ {g : Graph} {labels : List ℕ} (c : MacondoReady g labels) (f : Format
       split (member q l)
       (λ m.
       let o = t .first .holds .old q h m in
-      let b = block-within (sizeOf g labels) l 0 q (member-mem q l m) in
+      let b = block-within exact-number (sizeOf g labels) l 0 q (member-mem q l m) in
       let s = t .first .holds .sum in
       omega arith)
       (λ m. let n = t .first .holds .new q h m in omega arith)

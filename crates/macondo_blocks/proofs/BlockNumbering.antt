@@ -7,6 +7,7 @@ use mathlib.Core.List.{List, [], _∷_, _++_, map, List·Memᴰ}
 use Prim.Native.Nat.{ℕ, suc, _+_, _-_, _*_, _≤_, _<_, max}
 use native.Mathlib.Numerals.{add-one}
 use native.Mathlib.Omega.{arith}
+use lib.Dec.{eqb}
 use lib.ListN.{length, getD, set, take}
 use lib.Seq.{slice, slice-cons, slice-empty, length-take-le}
 use borrow.Author.Tests.{lt-ltb, le-ltb}
@@ -104,7 +105,7 @@ module _ {g : Graph} {labels w : List ℕ} {t : BlockTally} (r : BlocksRecorded 
 -- ---- the arcs of a block walked, with c runs left for it
 -- what is met once those from place i on are walked
 abbrev pub metFrom : Graph → List ℕ → ℕ → List ℕ → ℕ → List ℕ → ℕ → List ℕ
-metFrom g labels c arcs count seen i = each (λ s q. met (childrenOf g labels) (c - 1) s q) seen (map (arc KBWG) (slice i count arcs))
+metFrom g labels c arcs count seen i = each (λ s q. met eqb (childrenOf g labels) (c - 1) s q) seen (map (arc KBWG) (slice i count arcs))
 
 -- those before place i are walked, from the list and the tally after the block of p itself was put in; the longest chain from what they
 -- lead to has `runs` runs
@@ -149,8 +150,8 @@ module _ {g : Graph} {labels : List ℕ} {c p : ℕ} {arcs : List ℕ} {count : 
           past = kept-then (k .past) (n .numbered .past);
           holds = holds-here (n .numbered .holds);
           same = ap (λ o. metFrom g labels c arcs count o (i + 1))
-              (n .numbered .holds .order ∙ ap (met (childrenOf g labels) (c - 1) (orderIn (length g) w t)) e)
-              ∙ ap (λ l. each (λ s q. met (childrenOf g labels) (c - 1) s q) (orderIn (length g) w t) (map (arc KBWG) l)) (sym on) ∙ k .same;
+              (n .numbered .holds .order ∙ ap (met eqb (childrenOf g labels) (c - 1) (orderIn (length g) w t)) e)
+              ∙ ap (λ l. each (λ s q. met eqb (childrenOf g labels) (c - 1) s q) (orderIn (length g) w t) (map (arc KBWG) l)) (sym on) ∙ k .same;
           depths = n .depths;
           left = λ x l f. k .left x l (n .left x l f);
           deepest = subst (λ x. Deepest g p x (map (arc KBWG) (slice (i + 1) count arcs))) (sym z)
@@ -173,11 +174,11 @@ module _ {g : Graph} {labels : List ℕ} {c p : ℕ} {arcs : List ℕ} {count : 
       none-to-come : slice i count arcs ≡ []
       none-to-come = let at-end : i ≡ count = omega (arith, k .within) in rw at-end (slice-empty count arcs)
 
-      all-met : orderIn (length g) w t ≡ met (childrenOf g labels) c (orderIn (length g) v u) p
+      all-met : orderIn (length g) w t ≡ met eqb (childrenOf g labels) c (orderIn (length g) v u) p
       all-met =
-          sym (ap (λ l. each (λ s q. met (childrenOf g labels) (c - 1) s q) (orderIn (length g) w t) (map (arc KBWG) l)) none-to-come)
+          sym (ap (λ l. each (λ s q. met eqb (childrenOf g labels) (c - 1) s q) (orderIn (length g) w t) (map (arc KBWG) l)) none-to-come)
           ∙ k .same ∙ ap (λ o. metFrom g labels c arcs count o 0) (o .numbered .holds .order)
-          ∙ ap (λ l. each (λ s q. met (childrenOf g labels) (c - 1) s q) (orderIn (length g) v u ++ p ∷ []) (map (arc KBWG) l)) e
+          ∙ ap (λ l. each (λ s q. met eqb (childrenOf g labels) (c - 1) s q) (orderIn (length g) v u ++ p ∷ []) (map (arc KBWG) l)) e
           ∙ sym (met-new (childrenOf g labels) c (orderIn (length g) v u) p z (fresh-of (r .holds) p h new))
 
       depth-found : Depth g p (runs + 1)
@@ -230,7 +231,7 @@ module _ (w w′ : List ℕ) {g : Graph} {labels : List ℕ} (ready : MacondoRea
       → NumberingIs g labels s w v r
   clear-numbering t z s v (Done r) n = (
     record {
-      holds = holds-at (ap (λ o. met (childrenOf g labels) 64 (blocksIn (length g) w′ o) s) z) (n .numbered .holds);
+      holds = holds-at (ap (λ o. met eqb (childrenOf g labels) 64 (blocksIn (length g) w′ o) s) z) (n .numbered .holds);
       past = kept-then clear-past (n .numbered .past);
     },
     n .depth,

@@ -3,6 +3,7 @@ use mathlib.Core.Path.{_≡_}
 use mathlib.Core.Bool.{true, false}
 use mathlib.Core.List.{List, [], _∷_, _++_}
 use Prim.Native.Nat.{ℕ, _*_, _≤_, _<_}
+use lib.Dec.{eqb}
 use lib.ListN.{length, take}
 use lib.Seq.{slice}
 use Rattle.laws.specs.Lists.{All, filtered}
@@ -50,7 +51,7 @@ pub record BlocksNumbered (g : Graph) (labels : List ℕ) (w w′ : List ℕ) (t
 -- the same of a block and what its arcs lead to, where a record stands and a chain of c runs is left: the runs in the longest chain from
 -- it, which are no more; the depths of all blocks that are not being followed; and that no other block is followed than before
 pub record BlocksReached (g : Graph) (labels w : List ℕ) (t : BlockTally) (c p : ℕ) (w′ : List ℕ) (r : Reached) : Type 0 where
-  pub numbered : BlocksNumbered g labels w w′ (r .tally) (met (childrenOf g labels) c (orderIn (length g) w t) p)
+  pub numbered : BlocksNumbered g labels w w′ (r .tally) (met eqb (childrenOf g labels) c (orderIn (length g) w t) p)
   pub depth : Depth g p (r .runs)
   pub within : r .runs ≤ c
   pub depths : Depths g w′

@@ -6,9 +6,11 @@ use mathlib.Core.Logic.{⊎-elim}
 use mathlib.Core.List.{List, [], _∷_, map, List·Memᴰ, List·Memᴰ·not-nil, List·Memᴰ·cases-cons}
 use Prim.Native.Nat.{ℕ, suc, _+_, _^_, _≤_, _<_}
 use native.Mathlib.Omega.{arith}
+use lib.Dec.{eqb}
 use lib.ListN.{length, length-map}
 use Rattle.laws.specs.Firsts.{placeIn, place-lt, firsts-all, firsts-length, firsts-from}
 use Rattle.laws.specs.Members.{in-map, map-in, in-join}
+use Rattle.laws.specs.Same.{exact-number}
 use Rattle.node.specs.Nodes.{KBWG, tile, arc}
 use Rattle.graph.specs.Runs.{Graph, startNode}
 use Rattle.graph.specs.ChecksLaws.{start-inside}
@@ -62,14 +64,14 @@ module _ (g : Graph) (labels : List ℕ) (f : Format) where
   -- a block's number is at most the number of nodes, and below it for a block of the file
   number-most : (q : ℕ) → blockNumber g labels f q ≤ length (macondoNodes g labels f)
   number-most q =
-      let a = block-upto (sizeOf g labels) (blocks g labels f) 0 q in
+      let a = block-upto eqb (sizeOf g labels) (blocks g labels f) 0 q in
       let b = nodes-length in
       omega arith
 
   pub number-within : (p : ℕ) → List·Memᴰ p (blocks g labels f)
       → blockNumber g labels f p + sizeOf g labels p ≤ length (macondoNodes g labels f)
   number-within p m =
-      let a = block-within (sizeOf g labels) (blocks g labels f) 0 p m in
+      let a = block-within exact-number (sizeOf g labels) (blocks g labels f) 0 p m in
       let b = nodes-length in
       omega arith
 
@@ -78,8 +80,8 @@ module _ (g : Graph) (labels : List ℕ) (f : Format) where
   unfolding blocks
   start-number =
       let s = startNode g (marks f .root) in
-      let r = first-met (childrenOf g labels) 63 s in
-      ap (λ l. blockAt (sizeOf g labels) 0 l s) (r .1) ∙ block-first (sizeOf g labels) 0 s (r .0)
+      let r = first-met exact-number (childrenOf g labels) 63 s in
+      ap (λ l. blockAt eqb (sizeOf g labels) 0 l s) (r .1) ∙ block-first exact-number (sizeOf g labels) 0 s (r .0)
 
 module _ {g : Graph} {labels : List ℕ} (c : MacondoReady g labels) (f : Format) where
   pub format-start-inside : startNode g (marks f .root) < length g
@@ -92,7 +94,7 @@ module _ {g : Graph} {labels : List ℕ} (c : MacondoReady g labels) (f : Format
   pub block-inside : (p : ℕ) → List·Memᴰ p (blocks g labels f) → p < length g
   unfolding blocks
   block-inside =
-      every-met (childrenOf g labels) (λ p. p < length g) (λ p q h m. child-inside p q m) 64 (startNode g (marks f .root)) format-start-inside
+      every-met exact-number (childrenOf g labels) (λ p. p < length g) (λ p q h m. child-inside p q m) 64 (startNode g (marks f .root)) format-start-inside
 
   pub blocks-most-nodes : length (blocks g labels f) ≤ length g
   unfolding blocks
@@ -143,8 +145,8 @@ module _ {g : Graph} {labels : List ℕ} (c : MacondoReady g labels) (f : Format
 
     pub start-block : List·Memᴰ (startNode g (marks f .root)) (blocks g labels f)
     unfolding blocks
-    start-block = start-met (childrenOf g labels) 64 (startNode g (marks f .root)) low
+    start-block = start-met exact-number (childrenOf g labels) 64 (startNode g (marks f .root)) low
 
     pub child-block : (p q : ℕ) → List·Memᴰ p (blocks g labels f) → List·Memᴰ q (arcsFrom g p) → List·Memᴰ q (blocks g labels f)
     unfolding blocks
-    child-block p q m n = children-met (childrenOf g labels) 64 (startNode g (marks f .root)) low p q m (children-in g labels p q n)
+    child-block p q m n = children-met exact-number (childrenOf g labels) 64 (startNode g (marks f .root)) low p q m (children-in g labels p q n)

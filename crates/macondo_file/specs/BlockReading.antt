@@ -8,6 +8,7 @@ use lib.Pow.{high, low}
 use lib.ListN.{length, getD, take, drop, length-map}
 use lib.Seq.{take-at, getD-drop, drop-drop}
 use Rattle.laws.specs.Firsts.{place-at}
+use Rattle.laws.specs.Same.{exact-number}
 use Rattle.graph.specs.Runs.{Graph}
 use Rattle.export.specs.BlocksLaws.{block-at}
 use Rattle.macondo_file.specs.File.{Format, arcsOf, sizeOf, setOf, blocks, letterSets, blockNumber, headNode, arcNode, arcNodes, blockOf, macondoNodes}
@@ -37,7 +38,7 @@ module _ {g : Graph} {labels : List ℕ} (c : MacondoReady g labels) (f : Format
   block-read p m =
       let arcs = arcNodes g labels f p in
       let count = length (arcsOf g labels p) in
-      let r = block-at (sizeOf g labels) (blockOf g labels f) (block-length g labels f) (blocks g labels f) 0 p m in
+      let r = block-at exact-number (sizeOf g labels) (blockOf g labels f) (block-length g labels f) (blocks g labels f) 0 p m in
       let at : blockNumber g labels f p ≡ r .0 = r .2 ∙ zero-add (r .0) in
       let e = drop-head nodes (r .0) (headNode g labels f p) (arcs ++ r .1) (r .3 ∙ ap (_++ r .1) (block-is g labels f p)) in
       let h = set-number-below c f p m in

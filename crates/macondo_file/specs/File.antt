@@ -58,7 +58,7 @@ module _ (g : Graph) (labels : List ℕ) where
 
   -- "Blocks are numbered depth first, each before its children", from the start node
   abbrev pub blocksFrom : ℕ → List ℕ
-  blocksFrom s = met childrenOf 64 [] s
+  blocksFrom s = met eqb childrenOf 64 [] s
 
   -- a block's set: that of its run, by the letters written
   unfoldable pub setOf : ℕ → ℕ
@@ -75,7 +75,7 @@ module _ (g : Graph) (labels : List ℕ) where
 
     -- "A block's number is the place of its head, from 0."
     abbrev pub blockNumber : ℕ → ℕ
-    blockNumber p = blockAt sizeOf 0 blocks p
+    blockNumber p = blockAt eqb sizeOf 0 blocks p
 
     -- "Head: arc count × 2^24 + letter-set number; arc: letter × 2^24 + child block."
     abbrev pub headNode : ℕ → ℕ

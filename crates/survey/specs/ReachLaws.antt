@@ -12,6 +12,7 @@ use lib.ListN.{length}
 use Rattle.laws.specs.Cases.{split, or-false-left, or-false-right}
 use Rattle.laws.specs.Lists.{someOf, joinAll}
 use Rattle.laws.specs.Members.{all-fail, none-of, in-join, join-in}
+use Rattle.laws.specs.Same.{exact-number}
 use Rattle.base.specs.Numbers.{most}
 use Rattle.node.specs.Nodes.{KBWG, arc}
 use Rattle.graph.specs.Runs.{Graph}
@@ -64,36 +65,36 @@ module _ (g : Graph) (labels : List ℕ) where
   module _ (k s : ℕ) (shallow : deeper g k s ≡ false) where
     -- the nodes of the runs that the writer meets
     abbrev reached : List ℕ
-    reached = joinAll (map (runOf g) (met (arcsFrom g) k [] s))
+    reached = joinAll (map (runOf g) (met eqb (arcsFrom g) k [] s))
 
     none-reached : bytelessWithin g labels k s ≡ false → someOf (byteless labels) reached ≡ false
     none-reached e =
         all-fail (byteless labels) reached
-        (λ v m. let r = in-join (runOf g) (met (arcsFrom g) k [] s) v m in
-        bytes-run (r .0) v (every-met (arcsFrom g) AllBytes bytes-arc k s (record { turns = k; ends = shallow; bytes = e }) (r .0) (r .1)) (r .2))
+        (λ v m. let r = in-join (runOf g) (met eqb (arcsFrom g) k [] s) v m in
+        bytes-run (r .0) v (every-met exact-number (arcsFrom g) AllBytes bytes-arc k s (record { turns = k; ends = shallow; bytes = e }) (r .0) (r .1)) (r .2))
 
-    none-within : someOf (byteless labels) reached ≡ false → (j p : ℕ) → List·Memᴰ p (met (arcsFrom g) k [] s) → bytelessWithin g labels j p ≡ false
+    none-within : someOf (byteless labels) reached ≡ false → (j p : ℕ) → List·Memᴰ p (met eqb (arcsFrom g) k [] s) → bytelessWithin g labels j p ≡ false
     unfolding bytelessWithin
     none-within e zero p m = refl
     none-within e (suc j) p m =
         all-fail (λ v. byteless labels v || (hasArc v && bytelessWithin g labels j (arc KBWG v))) (runOf g p)
         (λ v n.
-        let own : byteless labels v ≡ false = none-of (byteless labels) reached e v (join-in (runOf g) (met (arcsFrom g) k [] s) p v m n) in
+        let own : byteless labels v ≡ false = none-of (byteless labels) reached e v (join-in (runOf g) (met eqb (arcsFrom g) k [] s) p v m n) in
         rw own (split (hasArc v)
         (λ t. rw t (none-within e j (arc KBWG v)
-        (children-met (arcsFrom g) k s (shallow-low g (arcsFrom g) (λ x q i. i) k s shallow) p (arc KBWG v) m (arc-from g p v n t))))
+        (children-met exact-number (arcsFrom g) k s (shallow-low g (arcsFrom g) (λ x q i. i) k s shallow) p (arc KBWG v) m (arc-from g p v n t))))
         (λ t. rw t)))
 
-    byteless-reached : bytelessWithin g labels k s ≡ someOf (byteless labels) (joinAll (map (runOf g) (met (arcsFrom g) k [] s)))
+    byteless-reached : bytelessWithin g labels k s ≡ someOf (byteless labels) (joinAll (map (runOf g) (met eqb (arcsFrom g) k [] s)))
     byteless-reached =
         both-or-none (bytelessWithin g labels k s) (someOf (byteless labels) reached)
         none-reached
-        (λ e. none-within e k s (start-met (arcsFrom g) k s (shallow-low g (arcsFrom g) (λ x q i. i) k s shallow)))
+        (λ e. none-within e k s (start-met exact-number (arcsFrom g) k s (shallow-low g (arcsFrom g) (λ x q i. i) k s shallow)))
 
   -- ---- the survey's answers
   module _ (k s : ℕ) (f : Findings) (a : Surveys g labels k s f) where
     -- 23
-    pub survey-byteless : someOf (byteless labels) (joinAll (map (runOf g) (met (arcsFrom g) k [] s))) ≡ f .byteless
+    pub survey-byteless : someOf (byteless labels) (joinAll (map (runOf g) (met eqb (arcsFrom g) k [] s))) ≡ f .byteless
     survey-byteless = sym (a .byteless ∙ byteless-reached k s (a .deep))
 
     -- 13

@@ -5,6 +5,7 @@ use mathlib.Core.Path.{_≡_, refl, sym, ap, _∙_, subst}
 use mathlib.Core.Bool.{true, false}
 use mathlib.Core.List.{List, []}
 use Prim.Native.Nat.{ℕ, _*_, _≤_, _<_}
+use lib.Dec.{eqb}
 use lib.ListN.{length, getD}
 use borrow.Author.Tests.{eq-eqb}
 use Rattle.laws.specs.Cleared.{cleared-at}
@@ -94,7 +95,7 @@ module _ (c : tie.After-number-run) where
   from = asked cleared
 
   abbrev AnswersFrom : ℕ → RunNumbering → Type 0
-  AnswersFrom p = NumberedAs (g from) (cleared .clear .last .0) (c .number-run .last .1 .0) (met (arcsFrom (g from)) 64 [] p) true p 64
+  AnswersFrom p = NumberedAs (g from) (cleared .clear .last .0) (c .number-run .last .1 .0) (met eqb (arcsFrom (g from)) 64 [] p) true p 64
 
   answers : (r : RunNumbering) → c .number-run .result ≡ r → AnswersFrom (startNode (g from) 0) r
   answers r e =
@@ -130,7 +131,7 @@ module _ (c : tie.After-numbered) where
   s = from walked
 
   numbered : RunsNumbered (g s) (cleared walked .clear .last .0) (walked .number-run .last .1 .0)
-      (met (arcsFrom (g s)) 64 [] (startNode (g s) 0)) true (startNode (g s) 0) 64 (c .numbered .given .0 .0)
+      (met eqb (arcsFrom (g s)) 64 [] (startNode (g s) 0)) true (startNode (g s) 0) 64 (c .numbered .given .0 .0)
   numbered = answers walked (Done (c .numbered .given .0 .0)) (c .numbered .given .1)
 
 same-length : tie.Need-same-length

@@ -5,6 +5,7 @@ use mathlib.Core.Bool.{true, not}
 use mathlib.Core.List.{List, [], _∷_, _++_}
 use Prim.Native.Nat.{ℕ, suc, _+_, _-_, _*_, _^_, _≤_, _<_}
 use native.Mathlib.Omega.{arith}
+use lib.Dec.{eqb}
 use lib.ListN.{length, getD, set}
 use borrow.Author.Tests.{ne-eqb}
 use borrow.Author.Needs.{needs}
@@ -130,7 +131,7 @@ module _ (t : ℕ) where
         (asked read .pre .1 .1 .1 (ap not (ne-eqb _ _ (λ z. c .if1 .left (child-arc read ∙ z)))))
 
     led : (w : List ℕ) (r : RunNumbering) → let v = asked read .args .node in
-        NumberedAs (graph read) (work read) w (met (arcsFrom (graph read)) (left read) (order read) (child read)) true (child read) (left read) r
+        NumberedAs (graph read) (work read) w (met eqb (arcsFrom (graph read)) (left read) (order read) (child read)) true (child read) (left read) r
         → NumberedAs (graph read) (work read) w (metBy (arcsFrom (graph read)) (left read) (order read) (arc KBWG v)) (hasArc v) (arc KBWG v) (left read) r
     led w r = arc-run _ _ w _ _ (asked read .args .node) r (child-arc read) (c .if1 .left)
 
@@ -314,7 +315,7 @@ module _ (t : ℕ) where
 
     -- what is met from its arcs is what is met from it
     whole : walk (g from) (from .args .chain-left - 1) (orderIn (length (g from)) begun tally) (runOf (g from) p)
-        ≡ met (arcsFrom (g from)) (from .args .chain-left) (seen from) p
+        ≡ met eqb (arcsFrom (g from)) (from .args .chain-left) (seen from) p
     whole =
         run-met (g from) (held from) p (inside from) (new from) (from .args .chain-left) (orderIn (length (g from)) begun tally)
         (some-left push .if1 .left) (pushed .runs .order)
