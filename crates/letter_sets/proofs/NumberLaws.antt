@@ -40,15 +40,16 @@ module _ (f : ℕ → ℕ) (n blocks : ℕ) (w₀ : List ℕ) where
     pub numbers : (i : ℕ) → i < j → HasNumber w i
     pub kept : (i : ℕ) → i < 2 * n → getD w i 0 ≡ getD w₀ i 0
 
-  module _ (room : 7 * n ≤ length w₀) where
-    pub numbering-start : SetsSoFar w₀ 0 0
+  module _ (room : 8 * n ≤ length w₀) where
+    -- the roots of the dictionary lead nowhere
+    pub numbering-start : ((p : ℕ) → p < n → getD (drop (3 * n) w₀) p 0 ≡ 0) → SetsSoFar w₀ 0 0
     unfolding table
-    numbering-start =
+    numbering-start none =
         record {
           done = omega arith;
           few = omega arith;
           long = refl;
-          tree = tree-none n (drop (3 * n) w₀) (simp length-drop (omega arith));
+          tree = tree-none n (drop (3 * n) w₀) none (simp length-drop (omega arith));
           left = refl;
           numbers = λ i l. absurd (omega arith);
           kept = λ i l. refl;

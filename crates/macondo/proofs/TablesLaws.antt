@@ -182,7 +182,7 @@ module _ {g : Graph} {labels : List ℕ} (c : MacondoReady g labels) (f : Format
         (blocks g labels f) block-same)
 
     -- ---- so the tables are what a file needs, and the file is that of the definition
-    pub tables-filled : Small ranks → 5 * length g ≤ length w → k .nodes ≤ 16777216 → TablesFilled g labels ranks w k
+    pub tables-filled : Small ranks → 8 * length g ≤ length w → k .nodes ≤ 16777216 → TablesFilled g labels ranks w k
     tables-filled small room few =
         record {
           ready = c;

@@ -1,5 +1,5 @@
 -- The file's parts as the writer reads them from its tables: a list of ranks by tile, and the work list, which holds for each node the
--- place of its block plus 1, from n on each block's run, from 2n on each block's set number, and from 3n on the sets.
+-- place of its block plus 1, from n on each block's run, from 2n on each block's set number, and from 3n on the dictionary of the sets.
 use mathlib.Core.Path.{_≡_}
 use mathlib.Core.List.{List, [], _∷_, _++_, map}
 use Prim.Native.Nat.{ℕ, zero, suc, _+_, _-_, _*_, _≤_, _<_}
@@ -38,7 +38,7 @@ fileIn magic name g labels letters ranks w c =
 pub record TablesFilled (g : Graph) (labels ranks w : List ℕ) (c : SectionCounts) : Type 0 where
   pub ready : MacondoReady g labels
   pub small : Small ranks
-  pub room : 5 * length g ≤ length w
+  pub room : 8 * length g ≤ length w
   pub few-blocks : c .blocks ≤ length g
   pub few-sets : c .sets ≤ length g
   pub place-fits : (q : ℕ) → q < length g → getD w q 0 ≤ 16777216

@@ -46,14 +46,15 @@ pub(crate) fn write_code_points(
 
 // Writes the first `count` letter sets of the work list for n nodes, which must hold them; the bytes must be there.
 pub(crate) fn write_sets(work: &[u32], n: usize, count: usize, file: &mut [u8], at: usize)
-    requires { ⌜ (n ≤ 16777216) × (count ≤ n) × (5 * n ≤ length (now work)) × (at + 4 + 8 * count ≤ length (now file)) ⌝ }
+    requires { ⌜ (n ≤ 16777216) × (count ≤ n) × (8 * n ≤ length (now work)) × (at + 4 + 8 * count ≤ length (now file)) ⌝ }
     ensures { λ _. ⌜ now (file .exit) ≡ sets (now (file .entry)) at (section 8 (setsIn n (now (work .entry)) count)) ⌝ }
 {
     write_be_u32(file, at, count as u32);
     let mut w = at + 4;
     let mut i = 0;
     while i < count {
-        write_be_halves(file, w, work[4 * n + i], work[3 * n + i]);
+        let set = 4 * n + 4 * i;
+        write_be_halves(file, w, work[set + 1], work[set]);
         w += 8;
         i += 1;
     }

@@ -1,103 +1,182 @@
--- `number_key` meets its contract: a law for each answer of the search.
-use mathlib.Core.Path.{_≡_, _∙_}
-use Prim.Native.Nat.{_<_}
+-- `number_key` meets its contract. The loop's invariant: the list is as it was, and the key that is looked for, if it is there, is ahead.
+use mathlib.Core.Path.{_≡_, refl, sym, ap, _∙_, subst}
+use mathlib.Core.List.{List}
+use Prim.Native.Nat.{ℕ, _+_, _-_, _*_, _<_}
 use native.Mathlib.Omega.{arith}
 use borrow.Author.Needs.{needs}
-use lib.ListN.{length, length-set}
-use Rattle.dictionary.specs.Tree.{Searched, Gap}
-use Rattle.dictionary.specs.declared.Search.{Search}
-use Rattle.dictionary.proofs.GrowthLaws.{gap-in, numbered-found, numbered-first, numbered-missing}
+use lib.ListN.{length, getD}
+use Rattle.dictionary.specs.KeyNumbered.{KeyNumbered}
+use Rattle.dictionary.specs.Keys.{keyAt}
+use Rattle.dictionary.specs.Tree.{Tree}
+use Rattle.dictionary.specs.declared.KeyNumber.{KeyNumber}
+use Rattle.dictionary.proofs.GrowthLaws.{numbered-found, numbered-new}
+use Rattle.dictionary.proofs.SearchLaws.{Seeking, seek-start, seek-below, seek-later, seek-next}
 use Rattle.dictionary.proofs.number_key.Statement.{statement}
 use Rattle.dictionary.proofs.number_key.Tie as tie
 
--- what the search has found
-module _ (c : tie.After-find-key) where
-  abbrev start : tie.Start
+abbrev Inv-loop : tie.InvT-loop
+Inv-loop dict₀ n count key link₀ bits₀ dict link bits = (dict ≡ dict₀) × Tree n dict count × Seeking n dict count key link bits
+
+abbrev μ-loop : tie.MeasureT-loop
+μ-loop dict₀ n count key link₀ bits₀ dict link bits = 5 * n - link
+
+-- where the search is at a link
+module _ (c : tie.At-loop Inv-loop μ-loop) where
+  abbrev start : tie.Start Inv-loop μ-loop
   start = c .before .before .before
 
-  found : {s : Search} → c .find-key .result ≡ s → Searched (start .args .n) (start .args .dict .now) (start .args .count) (start .args .key) s
-  found e = rw e at (c .find-key .ensures)
+  abbrev tree : Tree (start .args .n) (c .loop .dict) (start .args .count)
+  tree = c .loop .inv .1
 
--- the link that is to lead to the key
-module _ (c : tie.After-link) where
-  abbrev begun : tie.Start
-  begun = start (c .before .before)
+  abbrev seeking : Seeking (start .args .n) (c .loop .dict) (start .args .count) (start .args .key) (c .loop .link) (c .loop .bits)
+  seeking = c .loop .inv .2
 
-  gap : Gap (begun .args .n) (begun .args .dict .now) (begun .args .count) (begun .args .key) (c .link .given .0 .0)
-  gap = found (c .before .before) (c .link .given .1)
+  long : length (c .loop .dict) ≡ length (start .args .dict .now)
+  long = ap length (c .loop .inv .0)
 
-  inside : c .link .given .0 .0 < length (begun .args .dict .now)
-  inside = gap-in (begun .pre .0) (begun .args .key) _ gap (begun .pre .1 .0)
+  inside : c .loop .link < length (c .loop .dict)
+  inside = let i = seeking .inside in let r = tree .room in omega arith
 
-find-key-requires : tie.Need-find-key-requires
-find-key-requires c κs = search needs
+  -- what is shown of the list as it is now holds of the list at the beginning
+  numbered : {after : List ℕ} {r : KeyNumber} → KeyNumbered (start .args .n) (c .loop .dict) (start .args .count) (start .args .key) after r
+      → KeyNumbered (start .args .n) (start .args .dict .now) (start .args .count) (start .args .key) after r
+  numbered {after} {r} = subst (λ d. KeyNumbered (start .args .n) d (start .args .count) (start .args .key) after r) (c .loop .inv .0)
 
-enum-known-number : tie.Need-enum-known-number
-enum-known-number c = search needs
+-- where that link leads to a key
+module _ (c : tie.Else1 Inv-loop μ-loop) where
+  abbrev at : tie.At-loop Inv-loop μ-loop
+  at = c .before .before
 
-enum-known-link : tie.Need-enum-known-link
-enum-known-link c = search needs
+  abbrev number : ℕ
+  number = getD (at .loop .dict) (at .loop .link) 0 - 1
 
-mul-dict : tie.Need-mul-dict
-mul-dict c = let l = inside (c .before) in omega arith
+  leads : getD (at .loop .dict) (at .loop .link) 0 ≡ number + 1
+  leads = let h = c .if1 .left in omega arith
 
-slice-write-dict : tie.Need-slice-write-dict
-slice-write-dict c = inside (c .before)
+  there : number < start at .args .count
+  there = seek-below (tree at) (seeking at) number leads
 
-store-key-requires : tie.Need-store-key-requires
-store-key-requires c κs = search needs
+  -- its places are there
+  room : (start at .args .n + 4 * number + 3 < length (at .loop .dict)) × (length (at .loop .dict) ≡ length (start at .args .dict .now))
+  room = let h = there in let r = tree at .room in (omega arith, long at)
 
-add-t16 : tie.Need-add-t16
-add-t16 c = omega arith
+-- and where that key is known
+module _ (c : tie.After-whole Inv-loop μ-loop) where
+  abbrev link : tie.Else1 Inv-loop μ-loop
+  link = c .before .before .before
 
-enum-told : tie.Need-enum-told
-enum-told c = search needs
+  key-is : c .whole .result ≡ keyAt (start (at link) .args .n) (at link .loop .dict) (number link)
+  key-is = c .whole .ensures
 
-store-key-requires-2 : tie.Need-store-key-requires-2
-store-key-requires-2 c κs = search needs
+tree-of-requires : tie.Need-tree-of-requires Inv-loop μ-loop
+tree-of-requires c κs = search needs
 
-same-length : tie.Need-same-length
-same-length c = search needs
+loop-holds : tie.Need-loop-holds Inv-loop μ-loop
+loop-holds c = let s = c .before .before in
+    (refl, s .pre .0, rw (c .tree-of .ensures) (seek-start (s .pre .0) (s .args .key) (omega arith)))
 
-returns : tie.Need-returns
-returns c =
-    let p = c .before .before .before in
-    let h = found p (c .before .number .given .1) in
-    numbered-found (start p .pre .0) _ _ (h .0) (h .1)
+mul-next : tie.Need-mul-next Inv-loop μ-loop
+mul-next c = let h = inside c in let l = long c in omega arith
 
-same-length-2 : tie.Need-same-length-2
-same-length-2 c = c .before .before .store-key .kept .0 ∙ simp length-set
+slice-read-next : tie.Need-slice-read-next Inv-loop μ-loop
+slice-read-next c = inside (c .before)
 
-returns-2 : tie.Need-returns-2
-returns-2 c =
-    let p = c .before .before .before .before .before in
-    rw (c .before .before .store-key .ensures) (numbered-missing (begun p .pre .0) _ _ (gap p) (begun p .pre .1 .0))
+add-key-requires : tie.Need-add-key-requires Inv-loop μ-loop
+add-key-requires c κs = let h = inside (c .before .before .before) in search needs
 
-same-length-3 : tie.Need-same-length-3
-same-length-3 c = search needs
+add-t17 : tie.Need-add-t17 Inv-loop μ-loop
+add-t17 c = omega arith
 
-returns-3 : tie.Need-returns-3
-returns-3 c =
-    let told = c .before .before .before .before in
-    let p = told .before .before in
-    rw (c .before .before .store-key2 .ensures) (numbered-first (start p .pre .0) _ (found p (told .enum-told .given .1)) (omega arith))
+same-length : tie.Need-same-length Inv-loop μ-loop
+same-length c = c .before .before .add-key .kept .0 ∙ long (c .before .before .before .before .before .before)
+
+returns : tie.Need-returns Inv-loop μ-loop
+returns c = let l = c .before .before .before .before .before .before in
+    rw (c .before .before .add-key .ensures) (numbered l (numbered-new (tree l) (start l .pre .1 .0) (seeking l) (c .before .before .before .before .if1 .taken)))
+
+sub-number : tie.Need-sub-number Inv-loop μ-loop
+sub-number c = omega arith
+
+cast-at : tie.Need-cast-at Inv-loop μ-loop
+cast-at c = let h = there c in omega arith
+
+mul-at : tie.Need-mul-at Inv-loop μ-loop
+mul-at c = let h = room c in omega arith
+
+add-at : tie.Need-add-at Inv-loop μ-loop
+add-at c = let h = room c in omega arith
+
+add-whole : tie.Need-add-whole Inv-loop μ-loop
+add-whole c = let h = room c in omega arith
+
+mul-whole : tie.Need-mul-whole Inv-loop μ-loop
+mul-whole c = let h = room c in omega arith
+
+slice-read-whole : tie.Need-slice-read-whole Inv-loop μ-loop
+slice-read-whole c = let h = room (c .before) in omega arith
+
+mul-whole-2 : tie.Need-mul-whole-2 Inv-loop μ-loop
+mul-whole-2 c = let h = room (c .before) in omega arith
+
+slice-read-whole-2 : tie.Need-slice-read-whole-2 Inv-loop μ-loop
+slice-read-whole-2 c = let h = room (c .before .before) in omega arith
+
+whole-requires : tie.Need-whole-requires Inv-loop μ-loop
+whole-requires c κs = search needs
+
+same-length-2 : tie.Need-same-length-2 Inv-loop μ-loop
+same-length-2 c = long (c .before .before .before .before .before .before)
+
+returns-2 : tie.Need-returns-2 Inv-loop μ-loop
+returns-2 c = let p = c .before in
+    let l = at (link p) in
+    numbered l (numbered-found (tree l) (start l .args .key) (number (link p)) (there (link p)) (sym (key-is p) ∙ c .if2 .taken))
+
+add-link : tie.Need-add-link Inv-loop μ-loop
+add-link c = let h = room (c .before .before .before .before) in omega arith
+
+add-link-2 : tie.Need-add-link-2 Inv-loop μ-loop
+add-link-2 c = let h = room (c .before .before .before .before) in omega arith
+
+loop-less : tie.Need-loop-less Inv-loop μ-loop
+loop-less c = let p = link (c .before) in
+    let later = seek-later (tree (at p)) (seeking (at p)) (number p) (leads p) in
+    let below = there p in
+    omega arith
+
+loop-again : tie.Need-loop-again Inv-loop μ-loop
+loop-again c = let p = c .before in
+    let l = at (link p) in
+    let next = seek-next (tree l) (seeking l) (number (link p)) (leads (link p)) (λ e. c .if2 .left (key-is p ∙ e)) in
+    (l .loop .inv .0, tree l, next)
 
 pub number-key-spec : {M : Type 1} → statement M
 number-key-spec =
     tie.close
     (tie.spec
-    find-key-requires
-    enum-known-number
-    enum-known-link
-    mul-dict
-    slice-write-dict
-    store-key-requires
-    add-t16
-    enum-told
-    store-key-requires-2
+    Inv-loop
+    μ-loop
+    tree-of-requires
+    loop-holds
+    mul-next
+    slice-read-next
+    add-key-requires
+    add-t17
     same-length
     returns
+    sub-number
+    cast-at
+    mul-at
+    add-at
+    add-whole
+    mul-whole
+    slice-read-whole
+    mul-whole-2
+    slice-read-whole-2
+    whole-requires
     same-length-2
     returns-2
-    same-length-3
-    returns-3)
+    add-link
+    add-link-2
+    loop-less
+    loop-again)

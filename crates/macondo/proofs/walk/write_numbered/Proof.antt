@@ -118,7 +118,7 @@ module _ (c : tie.After-write-file-arg2) where
   abbrev from : tie.Start
   from = start n
 
-  sets-room : 5 * length (g from) ≤ length (n .number-sets .last .1 .1 .0)
+  sets-room : 8 * length (g from) ≤ length (n .number-sets .last .1 .1 .0)
   sets-room = omega (arith, checked from .work, n .number-sets .kept .1 .1 .0)
 
 returns : tie.Need-returns

@@ -80,7 +80,7 @@ module _ (c : tie.In-loop Inv-loop μ-loop) where
   run-inside : run < length (g start)
   run-inside = tables start .runs j (c .loop-test .taken)
 
-  bounds : (j < length (g start)) × (length (g start) ≤ 16777216) × (5 * length (g start) ≤ length (work start))
+  bounds : (j < length (g start)) × (length (g start) ≤ 16777216) × (8 * length (g start) ≤ length (work start))
   bounds = (omega (arith, c .loop-test .taken, tables start .few-blocks), tables start .ready .fit .most, tables start .room)
 
 -- its arcs are known

@@ -27,7 +27,7 @@ module _ (s : tie.Start Inv-loop μ-loop) where
   many = table-length (s .args .count) (setAt (s .args .n) (s .args .work .now))
 
   set : (i : ℕ) → i < s .args .count
-      → getD all i 0 ≡ getD (s .args .work .now) (4 * s .args .n + i) 0 * 0x100000000 + getD (s .args .work .now) (3 * s .args .n + i) 0
+      → getD all i 0 ≡ getD (s .args .work .now) (4 * s .args .n + 4 * i + 1) 0 * 0x100000000 + getD (s .args .work .now) (4 * s .args .n + 4 * i) 0
   set i h = table-at (s .args .count) (setAt (s .args .n) (s .args .work .now)) i h ∙ set-halves (s .args .n) (s .args .work .now) i
 
 -- the count is written
@@ -63,26 +63,26 @@ add-w c = search needs
 loop-holds : tie.Need-loop-holds Inv-loop μ-loop
 loop-holds c = writing-start 8 (all (begun c)) _ _
 
-mul-write-be-halves : tie.Need-mul-write-be-halves Inv-loop μ-loop
-mul-write-be-halves c = search needs
+mul-set : tie.Need-mul-set Inv-loop μ-loop
+mul-set c = search needs
+
+mul-set-2 : tie.Need-mul-set-2 Inv-loop μ-loop
+mul-set-2 c = search needs
+
+add-set : tie.Need-add-set Inv-loop μ-loop
+add-set c = search needs
 
 add-write-be-halves : tie.Need-add-write-be-halves Inv-loop μ-loop
 add-write-be-halves c = search needs
 
-mul-write-be-halves-2 : tie.Need-mul-write-be-halves-2 Inv-loop μ-loop
-mul-write-be-halves-2 c = search needs
+mul-write-be-halves : tie.Need-mul-write-be-halves Inv-loop μ-loop
+mul-write-be-halves c = search needs
 
 shared-slice-read-write-be-halves : tie.Need-shared-slice-read-write-be-halves Inv-loop μ-loop
 shared-slice-read-write-be-halves c = search needs
 
-mul-write-be-halves-3 : tie.Need-mul-write-be-halves-3 Inv-loop μ-loop
-mul-write-be-halves-3 c = search needs
-
-add-write-be-halves-2 : tie.Need-add-write-be-halves-2 Inv-loop μ-loop
-add-write-be-halves-2 c = search needs
-
-mul-write-be-halves-4 : tie.Need-mul-write-be-halves-4 Inv-loop μ-loop
-mul-write-be-halves-4 c = search needs
+mul-write-be-halves-2 : tie.Need-mul-write-be-halves-2 Inv-loop μ-loop
+mul-write-be-halves-2 c = search needs
 
 shared-slice-read-write-be-halves-2 : tie.Need-shared-slice-read-write-be-halves-2 Inv-loop μ-loop
 shared-slice-read-write-be-halves-2 c = search needs
@@ -127,13 +127,13 @@ write-sets-spec =
     write-be-u32-requires
     add-w
     loop-holds
-    mul-write-be-halves
+    mul-set
+    mul-set-2
+    add-set
     add-write-be-halves
-    mul-write-be-halves-2
+    mul-write-be-halves
     shared-slice-read-write-be-halves
-    mul-write-be-halves-3
-    add-write-be-halves-2
-    mul-write-be-halves-4
+    mul-write-be-halves-2
     shared-slice-read-write-be-halves-2
     write-be-halves-requires
     add-w-2
