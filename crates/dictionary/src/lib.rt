@@ -8,9 +8,9 @@
 // the bits of the key that it looks for, the lowest first: past each other key the next bit chooses one of that key's two links. A new key is
 // linked where the search for it ended.
 //
-// With as many trees as keys most searches end after a key or two, and none can be made long. A key that d links below a root lead to has the
-// d lowest bits that chose the links, and so has the key that is looked for. After 64 links the two agree in every bit: a search follows a root
-// and at most 64 links, however the keys are chosen. In a hash table, keys of one hash would make it as long as the table.
+// With as many trees as there is room for keys most searches are short, and none can be made long. A key that d links below a root lead to has
+// the d lowest bits that chose the links, and so has the key that is looked for. After 64 links the two agree in every bit: a search follows a
+// root and at most 64 links, however the keys are chosen. In a hash table, keys of one hash would make it as long as the table.
 ghost use mathlib.Core.Path.{_≡_};
 ghost use Prim.Native.Nat.{_+_, _*_, _≤_, _<_};
 ghost use lib.ListN.{length};
