@@ -15,6 +15,10 @@ use Rattle.block_record.specs.declared.BlockTally.{BlockTally}
 abbrev pub placeAt : List ℕ → ℕ → Place
 placeAt w p = elim (eqb (getD w p 0) 0) [ true ↦ Unnumbered | false ↦ Numbered (getD w p 0 - 1) ]
 
+-- where the block that an arc leads to stands by the record; an arc of 0 leads nowhere
+unfoldable pub childIn : List ℕ → ℕ → ℕ
+childIn w p = elim (eqb p 0) [ true ↦ 0 | false ↦ getD w p 0 - 1 ]
+
 -- the blocks in order stand from entry n on: the first k of them, and those of a tally
 abbrev pub blocksIn : ℕ → List ℕ → ℕ → List ℕ
 blocksIn n w k = take k (drop n w)

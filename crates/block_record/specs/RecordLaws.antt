@@ -14,10 +14,10 @@ use lib.Dec.{eqb}
 use borrow.Author.Tests.{eq-eqb, ne-eqb, eqb-true, eqb-false}
 use Rattle.laws.specs.Cases.{split, or-false-left, or-false-right}
 use Rattle.laws.specs.Lists.{member}
-use Rattle.export.specs.Blocks.{each, met, blockAt, total}
+use Rattle.export.specs.Blocks.{each, met, metBy, blockAt, total}
 use Rattle.block_record.specs.declared.Place.the-variants.{Numbered, Unnumbered}
 use Rattle.block_record.specs.declared.BlockTally.{BlockTally}
-use Rattle.block_record.specs.Record.{placeAt, orderIn, blockPushed, Pushed, used, HoldsBlocks}
+use Rattle.block_record.specs.Record.{placeAt, childIn, orderIn, blockPushed, Pushed, used, HoldsBlocks}
 
 -- ---- entries that are not 0
 mark-le : (t : Bool) → elim t [ true ↦ 0 | false ↦ 1 ] ≤ 1
@@ -81,6 +81,16 @@ module _ (children : ℕ → List ℕ) where
   met-new (suc c) o p h e =
       let z : c ≡ suc c - 1 = omega arith in
       rw (e, met) (ap (λ k. each (λ s q. met eqb children k s q) (o ++ p ∷ []) (children p)) z)
+
+  -- through an arc
+  module _ (c : ℕ) (o : List ℕ) (p : ℕ) where
+    pub met-by-none : p ≡ 0 → metBy children c o p ≡ o
+    unfolding metBy
+    met-by-none e = rw (eq-eqb p 0 e, metBy)
+
+    pub met-by-arc : p ≢ 0 → metBy children c o p ≡ met eqb children c o p
+    unfolding metBy
+    met-by-arc e = rw (ne-eqb p 0 e, metBy)
 
 -- ---- totals and places as the order grows
 module _ (size : ℕ → ℕ) where
@@ -236,6 +246,23 @@ place-value w p x e =
     let s : Numbered (getD w p 0 - 1) ≡ Numbered x = rw (n, placeAt) at e in
     let y : getD w p 0 - 1 ≡ x = cc in
     omega arith
+
+-- what child_place says
+module _ (w : List ℕ) (p : ℕ) where
+  pub child-none : p ≡ 0 → 0 ≡ childIn w p
+  unfolding childIn
+  child-none e = rw (eq-eqb p 0 e, childIn)
+
+  module _ (some : p ≢ 0) where
+    pub child-some : childIn w p ≡ getD w p 0 - 1
+    unfolding childIn
+    child-some = rw (ne-eqb p 0 some, childIn)
+
+    pub child-numbered : (x : ℕ) → placeAt w p ≡ Numbered x → x ≡ childIn w p
+    child-numbered x e = let v = place-value w p x e in let c = child-some in omega arith
+
+    pub child-unnumbered : placeAt w p ≡ Unnumbered → 0 ≡ childIn w p
+    child-unnumbered e = let v = place-none w p e in let c = child-some in omega arith
 
 -- ---- a record with no block yet
 used-none : (n : ℕ) (w : List ℕ) → ((p : ℕ) → p < n → getD w p 0 ≡ 0) → used n w ≡ 0

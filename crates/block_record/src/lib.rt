@@ -3,7 +3,7 @@
 ghost use mathlib.Core.Path.{_≡_};
 ghost use Prim.Native.Nat.{_+_, _*_, _≤_, _<_};
 ghost use lib.ListN.{length, getD, set};
-ghost use Rattle.block_record.specs.Record.{placeAt, Pushed};
+ghost use Rattle.block_record.specs.Record.{placeAt, childIn, Pushed};
 ghost use Rattle.block_record.specs.Depths.{depthAt};
 
 // What the record says of a node: where its block stands.
@@ -29,6 +29,22 @@ pub fn place_of(work: &[u32], p: usize) -> Place
     } else {
         Place::Numbered(v - 1)
     }
+}
+
+// Where the block that an arc leads to stands by the record, which must have an entry for it; arc 0 leads nowhere. The entry is read before it
+// is known whether it is asked for, so that no branch can be mispredicted.
+pub fn child_place(work: &[u32], arc: u32) -> u32
+    requires { ⌜ arc < length (now work) ⌝ }
+    ensures { λ r. ⌜ r ≡ childIn (now (work .entry)) arc ⌝ }
+{
+    let place = place_of(work, arc as usize);
+    if arc == 0 {
+        return 0;
+    }
+    let Place::Numbered(at) = place else {
+        return 0;
+    };
+    at
 }
 
 // Numbers the block of node p, which takes `size` nodes; the record must have room for it, and the sum must fit 32 bits.

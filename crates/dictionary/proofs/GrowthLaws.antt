@@ -15,7 +15,7 @@ use Rattle.dictionary.specs.Keys.{keyAt, keysIn}
 use Rattle.dictionary.specs.Tree.{treeOf, LinkAt, PathTo, Tree, added}
 use Rattle.dictionary.specs.declared.KeyNumber.{KeyNumber}
 use Rattle.dictionary.proofs.SearchLaws.{Seeking, seek-none, tree-below, path-kept, path-to-kept}
-use Rattle.dictionary.proofs.StoredLaws.{added-length, kept-below, leads-there, key-is, leads-nowhere}
+use Rattle.dictionary.proofs.StoredLaws.{added-length, kept-below, leads-there, low-is, key-is, leads-nowhere}
 use Rattle.dictionary.proofs.TableLaws.{table-same, table-more, place-in-table, firsts-old, firsts-new}
 
 -- where the keys after it are right, the number of a key is the place at which it stands
@@ -42,11 +42,14 @@ module _ {n : ℕ} {d : List ℕ} {k : ℕ} (t : Tree n d k) (few : k < n) {key 
   more = added n d place k key
 
   -- no link stands where a key has a half
+  low-old : (i : ℕ) → i < k → getD more (n + 4 * i) 0 ≡ getD d (n + 4 * i) 0
+  low-old i l = kept-below n d place k key (n + 4 * i) (omega arith) (λ e. let h = q .linking (omega arith) in omega arith)
+
   key-old : (i : ℕ) → i < k → keyAt n more i ≡ keyAt n d i
   key-old i l =
       ap₂ (λ high low. high * 0x100000000 + low)
       (kept-below n d place k key (n + 4 * i + 1) (omega arith) (λ e. let h = q .linking (omega arith) in omega arith))
-      (kept-below n d place k key (n + 4 * i) (omega arith) (λ e. let h = q .linking (omega arith) in omega arith))
+      (low-old i l)
 
   key-new : keyAt n more k ≡ key
   key-new = key-is n d place k key few (t .room)
@@ -97,6 +100,9 @@ module _ {n : ℕ} {d : List ℕ} {k : ℕ} (t : Tree n d k) (few : k < n) {key 
             (λ j l. rw (key-old j l) (path-to-kept t more link-old (root-in (keyAt n d j)) (root-links (keyAt n d j)) (t .reached j l)))
             (rw key-new way-new);
         once = λ i j l m. once-more i l j m;
+        low = below-more (λ i. getD more (n + 4 * i) 0 < 0x100000000) k
+            (λ i l. let e = low-old i l in let h = t .low i l in omega arith)
+            (let e = low-is n d place k key few (t .room) in omega arith);
       }
 
   keys-more : keysIn n more (k + 1) ≡ firsts (keysIn n d k) (key ∷ [])

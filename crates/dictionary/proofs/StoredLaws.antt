@@ -45,13 +45,17 @@ module _ (n : ℕ) (d : List ℕ) (place k key : ℕ) where
     pub leads-there : place < n + 4 * k → getD (added n d place k key) place 0 ≡ k + 1
     leads-there l = past-key place l ∙ getD-set-same d place (k + 1) 0 (omega arith)
 
+    pub low-is : getD (added n d place k key) (n + 4 * k) 0 ≡ key % 0x100000000
+    low-is =
+        past-links (n + 4 * k) (omega arith)
+        ∙ getD-set-other withLow (n + 4 * k + 1) (n + 4 * k) (key / 0x100000000) 0 (λ e. omega arith)
+        ∙ getD-set-same withLink (n + 4 * k) (key % 0x100000000) 0 (simp length-set (omega arith))
+
     pub key-is : keyAt n (added n d place k key) k ≡ key
     key-is =
         let high = past-links (n + 4 * k + 1) (omega arith)
         ∙ getD-set-same withLow (n + 4 * k + 1) (key / 0x100000000) 0 (simp length-set (omega arith)) in
-        let low = past-links (n + 4 * k) (omega arith)
-        ∙ getD-set-other withLow (n + 4 * k + 1) (n + 4 * k) (key / 0x100000000) 0 (λ e. omega arith)
-        ∙ getD-set-same withLink (n + 4 * k) (key % 0x100000000) 0 (simp length-set (omega arith)) in
+        let low = low-is in
         omega arith
 
     pub leads-nowhere : (p : ℕ) → LinkAt n p → n + 4 * k ≤ p → p < n + 4 * k + 4 → getD (added n d place k key) p 0 ≡ 0

@@ -23,6 +23,7 @@ tree-none n d none room =
       later = λ p j l a e. let z = none p (omega arith) in absurd (omega arith);
       reached = λ j l. absurd (omega arith);
       once = λ i j l. absurd (omega arith);
+      low = λ i l. absurd (omega arith);
     }
 
 -- ---- the first k keys

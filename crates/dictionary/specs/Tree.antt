@@ -29,13 +29,15 @@ pub record PathTo (n : ℕ) (d : List ℕ) (p bits j : ℕ) : Type 0 where
   pub way : Path n d p bits last rest
   pub leads : getD d last 0 ≡ j + 1
 
--- the first k keys make n trees: links lead to later keys among them, the search for each comes to it, and no key stands twice
+-- the first k keys make n trees: links lead to later keys among them, the search for each comes to it, no key stands twice, and a low half is
+-- one of 32 bits
 pub record Tree (n : ℕ) (d : List ℕ) (k : ℕ) : Type 0 where
   pub room : 5 * n ≤ length d
   pub few : k ≤ n
   pub later : (p j : ℕ) → p < n + 4 * k → LinkAt n p → getD d p 0 ≡ j + 1 → (j < k) × (p < n + 4 * j)
   pub reached : (j : ℕ) → j < k → PathTo n d (treeOf n (keyAt n d j)) (keyAt n d j) j
   pub once : (i j : ℕ) → i < k → j < k → keyAt n d i ≡ keyAt n d j → i ≡ j
+  pub low : (i : ℕ) → i < k → getD d (n + 4 * i) 0 < 0x100000000
 
 -- the dictionary with key i stored, its links leading nowhere, and with the link at a place leading to it
 abbrev pub stored : ℕ → List ℕ → ℕ → ℕ → List ℕ

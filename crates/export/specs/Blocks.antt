@@ -3,6 +3,7 @@
 use mathlib.Core.Bool.{Bool, true, false}
 use mathlib.Core.List.{List, [], _∷_, _++_}
 use Prim.Native.Nat.{ℕ, zero, suc, _+_}
+use lib.Dec.{eqb}
 use Rattle.laws.specs.Lists.{someOf}
 
 -- each of the list, one after the other, on what the one before it left
@@ -21,6 +22,10 @@ module _ {A : Type 0} (same : A → A → Bool) where
   unfoldable pub blockAt : (A → ℕ) → ℕ → List A → A → ℕ
   blockAt size at [] p = at
   blockAt size at (q ∷ qs) p = elim (same p q) [ true ↦ at | false ↦ blockAt size (at + size q) qs p ]
+
+-- what is met through an arc, which may be none
+unfoldable pub metBy : (ℕ → List ℕ) → ℕ → List ℕ → ℕ → List ℕ
+metBy children left seen p = elim (eqb p 0) [ true ↦ seen | false ↦ met eqb children left seen p ]
 
 -- the nodes that the blocks take together
 unfoldable pub total : {A : Type 0} → (A → ℕ) → List A → ℕ

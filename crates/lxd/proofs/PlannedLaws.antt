@@ -15,14 +15,14 @@ use Rattle.endian.specs.Bytes.{toBytes, nodeBytes}
 use Rattle.node.specs.Nodes.{KBWG, arc}
 use Rattle.graph.specs.Runs.{Graph, startNode}
 use Rattle.graph.specs.Words.{count}
-use Rattle.block_record.specs.Record.{blocksIn}
-use Rattle.block_record.specs.RecordLaws.{holds-most}
+use Rattle.block_record.specs.Record.{childIn, blocksIn}
+use Rattle.block_record.specs.RecordLaws.{holds-most, child-none, child-some}
 use Rattle.block_record.specs.declared.BlockTally.{BlockTally}
-use Rattle.lxd_file.specs.File.{childBy, runs, reached, runPlace, child, lxdNode, lxdNodes}
+use Rattle.lxd_file.specs.File.{runs, reached, runPlace, child, lxdNode, lxdNodes}
 use Rattle.lxd_file.specs.RunsLaws.{no-child, child-place, reached-size, runs-inside, arc-in-runs, place-within}
 use Rattle.lxd_file.specs.NodesLaws.{nodes-none, nodes-some, length-none, length-some, words-or-none}
 use Rattle.endian.specs.BytesLaws.{length-numbers}
-use Rattle.lxd_blocks.specs.Placed.{childIn, nodeIn, orderBytes, LxdReady}
+use Rattle.lxd_blocks.specs.Placed.{nodeIn, orderBytes, LxdReady}
 use Rattle.lxd.specs.Planned.{Planned, nodesWritten}
 
 module _ {g : Graph} {labels w : List ℕ} {words : ℕ} {t : BlockTally} (h : Planned g labels w words t) where
@@ -42,21 +42,13 @@ module _ {g : Graph} {labels w : List ℕ} {words : ℕ} {t : BlockTally} (h : P
   recorded : (p : ℕ) → List·Memᴰ p (runs g) → getD w p 0 ≡ runPlace g p + 1
   recorded p m = h .held .runs .old p (runs-inside g (h .found .sound) p m) (mem-member p (runs g) m)
 
-  child-by-record : (p : ℕ) → p ≢ 0 → childIn w p ≡ getD w p 0 - 1
-  unfolding childIn
-  child-by-record p n = rw (ne-eqb p 0 n, childBy)
-
-  no-child-by-record : childIn w 0 ≡ 0
-  unfolding childIn
-  no-child-by-record = refl
-
   child-is : (v : ℕ) → List·Memᴰ v (reached g) → childIn w (arc KBWG v) ≡ child g (arc KBWG v)
   child-is v m =
       split (eqb (arc KBWG v) 0)
-      (λ e. let z = eqb-true _ _ e in ap (childIn w) z ∙ no-child-by-record ∙ sym (ap (child g) z ∙ no-child g))
+      (λ e. let z = eqb-true _ _ e in sym (child-none w (arc KBWG v) z) ∙ sym (ap (child g) z ∙ no-child g))
       (λ e.
       let n = eqb-false _ _ e in
-      let a = child-by-record (arc KBWG v) n in
+      let a = child-some w (arc KBWG v) n in
       let b = recorded (arc KBWG v) (arc-in-runs g (h .found .sound) (h .found .ended) v m n) in
       let c = child-place g (arc KBWG v) n in
       omega arith)
@@ -65,9 +57,9 @@ module _ {g : Graph} {labels w : List ℕ} {words : ℕ} {t : BlockTally} (h : P
   child-fits : (p : ℕ) → p < length g → childIn w p < 2 ^ 22
   child-fits p l =
       split (eqb p 0)
-      (λ e. let z = ap (childIn w) (eqb-true p 0 e) ∙ no-child-by-record in omega arith)
+      (λ e. let z = child-none w p (eqb-true p 0 e) in omega arith)
       (λ e.
-      let a = child-by-record p (eqb-false p 0 e) in
+      let a = child-some w p (eqb-false p 0 e) in
       split (member p (runs g))
       (λ m.
       let i = member-mem p (runs g) m in

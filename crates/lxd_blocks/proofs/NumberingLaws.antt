@@ -14,32 +14,22 @@ use Rattle.node.specs.Nodes.{KBWG, arc, isEnd}
 use Rattle.graph.specs.Runs.{Graph, node}
 use Rattle.export.specs.Starts.{runOf, hasArc, arcsFrom, deeper}
 use Rattle.export.specs.RunOfLaws.{run-ends, run-goes-on}
-use Rattle.export.specs.Blocks.{each, met, total}
+use Rattle.export.specs.Blocks.{each, met, metBy, total}
 use Rattle.block_record.specs.Record.{orderIn, Pushed}
-use Rattle.block_record.specs.RecordLaws.{holds-room, met-old, met-new, total-snoc, all-total, fresh-of, stale-of, push-holds}
+use Rattle.block_record.specs.RecordLaws.{holds-room, met-old, met-new, met-by-none, met-by-arc, total-snoc, all-total, fresh-of, stale-of, push-holds}
 use Rattle.block_record.specs.declared.BlockTally.{BlockTally}
 use Rattle.export.specs.ChainLaws.{arc-from}
 use Rattle.block_record.specs.Depths.{depthAt, Below, NoneBut}
 use Rattle.block_record.specs.DepthsLaws.{loop-deep, below-arc, deep-by-arc}
 use Rattle.lxd_file.specs.File.{runSize}
 use Rattle.survey.specs.RunCounted.{counted-none}
-use Rattle.lxd_blocks.specs.RunsNumbered.{wordsAt, nodePassed, runClosed, lookedUp, RunsHeld, Known, RunsRecorded, RunsNumbered, NumberedAs, metBy}
+use Rattle.lxd_blocks.specs.RunsNumbered.{wordsAt, nodePassed, runClosed, lookedUp, RunsHeld, Known, RunsRecorded, RunsNumbered, NumberedAs}
 use Rattle.lxd_blocks.proofs.HeldLaws.{held-as, held-here, held-past}
 use Rattle.lxd_blocks.specs.declared.numbering.Walked.{Walked}
 use Rattle.lxd_blocks.specs.declared.numbering.RunNumbering.{RunNumbering}
 use Rattle.lxd_blocks.proofs.RunLaws.{run-first}
 use Rattle.lxd_blocks.proofs.RunCountedLaws.{Passing, passing-starts, passing-node, passing-all}
 use Rattle.lxd_blocks.proofs.KnownLaws.{ended-known, ended-followed}
-
--- ---- what is met through an arc
-module _ (children : ℕ → List ℕ) (c : ℕ) (o : List ℕ) (p : ℕ) where
-  met-by-none : p ≡ 0 → metBy children c o p ≡ o
-  unfolding metBy
-  met-by-none e = rw (eq-eqb p 0 e, metBy)
-
-  met-by-arc : p ≢ 0 → metBy children c o p ≡ met eqb children c o p
-  unfolding metBy
-  met-by-arc e = rw (ne-eqb p 0 e, metBy)
 
 module _ (g : Graph) where
   -- the runs met from the arcs of nodes, with so many runs left in the chain

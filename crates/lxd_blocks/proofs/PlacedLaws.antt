@@ -8,7 +8,6 @@ use native.Mathlib.Omega.{arith}
 use native.Mathlib.Numerals.{add-one}
 use lib.ListN.{length, getD, drop, length-append, length-drop, drop-of-length-le}
 use lib.Seq.{sets, drop-cons, getD-take, getD-drop, length-take-le}
-use borrow.Author.Tests.{eq-eqb, ne-eqb}
 use Rattle.laws.specs.Lists.{joinAll}
 use Rattle.laws.specs.Members.{at-in}
 use Rattle.endian.specs.Bytes.{toBytes, nodeBytes}
@@ -18,27 +17,10 @@ use Rattle.node.specs.Nodes.{KBWG, tile, arc, accepts, isEnd, values, packed}
 use Rattle.graph.specs.Runs.{Graph, node}
 use Rattle.export.specs.Starts.{runOf}
 use Rattle.export.specs.RunOfLaws.{run-ends, run-goes-on}
-use Rattle.block_record.specs.Record.{placeAt, blocksIn}
-use Rattle.block_record.specs.RecordLaws.{place-none, place-value}
-use Rattle.block_record.specs.declared.Place.the-variants.{Numbered, Unnumbered}
-use Rattle.lxd_file.specs.File.{LXD, letter, childBy}
-use Rattle.lxd_blocks.specs.Placed.{childIn, nodeIn, bytesIn, orderBytes}
+use Rattle.block_record.specs.Record.{childIn, blocksIn}
+use Rattle.lxd_file.specs.File.{LXD, letter}
+use Rattle.lxd_blocks.specs.Placed.{nodeIn, bytesIn, orderBytes}
 use Rattle.lxd_blocks.proofs.RunLaws.{run-first}
-
--- ---- a child
-module _ (w : List ℕ) (p : ℕ) where
-  pub child-none : p ≡ 0 → 0 ≡ childIn w p
-  unfolding childIn
-  child-none e = rw (eq-eqb p 0 e, childBy)
-
-  module _ (some : p ≢ 0) where
-    pub child-numbered : (x : ℕ) → placeAt w p ≡ Numbered x → x ≡ childIn w p
-    unfolding childIn
-    child-numbered x e = let v = place-value w p x e in rw (ne-eqb p 0 some, childBy) (omega arith)
-
-    pub child-unnumbered : placeAt w p ≡ Unnumbered → 0 ≡ childIn w p
-    unfolding childIn
-    child-unnumbered e = let v = place-none w p e in rw (ne-eqb p 0 some, childBy) (omega arith)
 
 -- ---- a node, by its parts
 module _ (labels w : List ℕ) (v : ℕ) where

@@ -9,11 +9,8 @@ use Rattle.endian.specs.Bytes.{nodeBytes}
 use Rattle.graph.specs.Runs.{Graph}
 use Rattle.graph.specs.ChecksLaws.{Fit}
 use Rattle.export.specs.Starts.{runOf, unlabelled}
-use Rattle.lxd_file.specs.File.{childBy, nodeBy}
-
--- where the run of an arc stands by the record, which has the place plus 1
-unfoldable pub childIn : List ℕ → ℕ → ℕ
-childIn w p = childBy (λ q. getD w q 0 - 1) p
+use Rattle.block_record.specs.Record.{childIn}
+use Rattle.lxd_file.specs.File.{nodeBy}
 
 module _ (labels w : List ℕ) where
   -- a node as it is written by the record

@@ -50,10 +50,6 @@ lookedUp n w p t left =
       ]
     ]
 
--- what is met through an arc, which may be none
-unfoldable pub metBy : (ℕ → List ℕ) → ℕ → List ℕ → ℕ → List ℕ
-metBy children left seen p = elim (eqb p 0) [ true ↦ seen | false ↦ met eqb children left seen p ]
-
 module _ (g : Graph) where
   -- the work list holds the runs of the list, from node 2 of the file on, and no node too many for a child's 22 bits
   pub record RunsHeld (w : List ℕ) (t : BlockTally) (o : List ℕ) : Type 0 where

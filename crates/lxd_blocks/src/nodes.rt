@@ -5,12 +5,11 @@ ghost use Prim.Native.Nat.{ℕ, _+_, _^_, _≤_, _<_};
 ghost use lib.ListN.{length};
 ghost use lib.Seq.{sets};
 ghost use Rattle.node.specs.Nodes.{KBWG, tile, arc, values, packed};
-ghost use Rattle.block_record.specs.Record.{blocksIn};
+ghost use Rattle.block_record.specs.Record.{childIn, blocksIn};
 ghost use Rattle.lxd_file.specs.File.{LXD};
-ghost use Rattle.lxd_blocks.specs.Placed.{childIn, nodeIn, orderBytes, LxdReady};
+ghost use Rattle.lxd_blocks.specs.Placed.{nodeIn, orderBytes, LxdReady};
 use base::bit;
-use block_record::Place;
-use block_record::place_of;
+use block_record::child_place;
 use endian::write_le_u32;
 use node::Node24;
 use windows1252::byte_of;
@@ -21,22 +20,6 @@ fn pack_lxd(letter: u8, accepts: bool, is_end: bool, child: u32) -> u32
     ensures { λ r. ⌜ r ≡ packed LXD (values letter accepts «is_end» child) ⌝ }
 {
     bit(is_end) * 0x80000000 + bit(accepts) * 0x40000000 + letter as u32 * 0x400000 + child
-}
-
-// Where the run that an arc leads to stands by the record, which must have an entry for it; arc 0 leads nowhere. The entry is read before it
-// is known whether it is asked for, so that no branch can be mispredicted.
-fn child_place(work: &[u32], arc: u32) -> u32
-    requires { ⌜ arc < length (now work) ⌝ }
-    ensures { λ r. ⌜ r ≡ childIn (now (work .entry)) arc ⌝ }
-{
-    let place = place_of(work, arc as usize);
-    if arc == 0 {
-        return 0;
-    }
-    let Place::Numbered(at) = place else {
-        return 0;
-    };
-    at
 }
 
 // A node of the graph as a node of the file. The tile must have a label, and the record a place of 22 bits for the arc.

@@ -4,7 +4,7 @@ use Prim.Native.Nat.{ℕ, _^_, _<_}
 use lib.ListN.{getD}
 use Rattle.node.specs.Nodes.{KBWG, tile, arc}
 use Rattle.windows1252.specs.Windows1252.{byteWritten}
-use Rattle.lxd_blocks.specs.Placed.{childIn}
+use Rattle.block_record.specs.Record.{childIn}
 use Rattle.lxd_blocks.proofs.PlacedLaws.{node-packed}
 use borrow.Author.Needs.{needs}
 use Rattle.lxd_blocks.proofs.nodes.file_node.Statement.{statement}

@@ -14,14 +14,14 @@ use borrow.Fn.PlainCycle.{Measures, is, falls, and}
 use Rattle.node.specs.Nodes.{KBWG, arc}
 use Rattle.graph.specs.Runs.{node}
 use Rattle.export.specs.Starts.{runOf, hasArc, arcsFrom, deeper}
-use Rattle.export.specs.Blocks.{met, total}
+use Rattle.export.specs.Blocks.{met, metBy, total}
 use Rattle.block_record.specs.Record.{orderIn, blockPushed}
 use Rattle.block_record.specs.RecordLaws.{place-none, place-some}
 use Rattle.export.specs.ChainLaws.{deep-at-once}
 use Rattle.lxd_file.specs.File.{runSize}
 use Rattle.block_record.specs.declared.BlockTally.{BlockTally}
 use Rattle.block_record.specs.Depths.{depthAt, Below, NoneBut}
-use Rattle.lxd_blocks.specs.RunsNumbered.{RunsHeld, Known, RunsRecorded, RunsNumbered, NumberedAs, metBy}
+use Rattle.lxd_blocks.specs.RunsNumbered.{RunsHeld, Known, RunsRecorded, RunsNumbered, NumberedAs}
 use Rattle.lxd_blocks.proofs.HeldLaws.{held-here, held-past}
 use Rattle.lxd_blocks.specs.declared.numbering.Walked.{Walked}
 use Rattle.lxd_blocks.specs.declared.numbering.RunNumbering.{RunNumbering}

@@ -1,9 +1,9 @@
 -- `child_place` meets its contract: by arc 0, and by what the record says of the arc.
 use mathlib.Core.Path.{sym, _∙_}
-use Rattle.lxd_blocks.proofs.PlacedLaws.{child-none, child-numbered, child-unnumbered}
+use Rattle.block_record.specs.RecordLaws.{child-none, child-numbered, child-unnumbered}
 use borrow.Author.Needs.{needs}
-use Rattle.lxd_blocks.proofs.nodes.child_place.Statement.{statement}
-use Rattle.lxd_blocks.proofs.nodes.child_place.Tie as tie
+use Rattle.block_record.proofs.child_place.Statement.{statement}
+use Rattle.block_record.proofs.child_place.Tie as tie
 
 place-of-requires : tie.Need-place-of-requires
 place-of-requires c κs = search needs
