@@ -5,14 +5,14 @@ use mathlib.Core.Bool.{Bool, true, false}
 use mathlib.Core.Logic.{_⊎_, inl, inr, ⊎-elim}
 use mathlib.Core.List.{List, [], _∷_, _++_, map, List·Memᴰ, List·Memᴰ·head, List·Memᴰ·tail, List·Memᴰ·not-nil, List·Memᴰ·cases-cons}
 use mathlib.Core.List.{List·Memᴰ·append-cases, List·Memᴰ·eq-of-singleton, Memᴰ·append-left, Memᴰ·append-right, Memᴰ·cast}
-use Prim.Native.Nat.{ℕ, zero, suc, zero-le, _+_, _≤_, _<_}
-use native.Mathlib.Nat.{add-zero, add-assoc}
+use Prim.Native.Nat.{ℕ, zero, suc, zero-le, _+_, _-_, _≤_, _<_}
+use native.Mathlib.Nat.{add-zero}
 use native.Mathlib.Omega.{arith}
 use lib.Dec.{eqb}
 use lib.ListN.{length, drop, length-append}
-use lib.Seq.{drop-append-add}
-use Rattle.laws.specs.Cases.{split}
-use Rattle.laws.specs.Lists.{filtered, member, someOf, joinAll}
+use lib.Seq.{drop-append-seam}
+use Rattle.laws.specs.Cases.{split, below?}
+use Rattle.laws.specs.Lists.{filtered, member, someOf, joinAll, join-map-append}
 use Rattle.laws.specs.Same.{Exact, exact-number, exact-apart}
 use Rattle.laws.specs.Members.{member-mem, mem-member, some-of, filtered-length, filtered-less}
 use Rattle.laws.specs.Without.{below, length-below, in-below}
@@ -39,7 +39,7 @@ module _ {A : Type 0} {same : A → A → Bool} (exact : Exact same) where
     each-holds k f (q ∷ qs) seen h s =
         each-holds k f qs (met same children k seen q) (f seen q h (s q (List·Memᴰ·head refl))) (λ r m. s r (List·Memᴰ·tail m))
 
-    met-holds : (k : ℕ) → MeetingHolds k
+    pub met-holds : (k : ℕ) → MeetingHolds k
     unfolding met
     met-holds zero seen p h s = h
     met-holds (suc k) seen p h s =
@@ -154,6 +154,11 @@ module _ (children : ℕ → List ℕ) where
         omega arith
 
 -- ---- where a block stands
+pub record Stands {A : Type 0} (l : List A) (p : A) : Type 0 where
+  pub before : List A
+  pub after : List A
+  pub is : l ≡ before ++ p ∷ after
+
 module _ {A : Type 0} (size : A → ℕ) (block : A → List ℕ) (fits : (q : A) → length (block q) ≡ size q) where
   pub blocks-length : (l : List A) → length (joinAll (map block l)) ≡ total size l
   unfolding total
@@ -173,23 +178,37 @@ blocks-most size (q ∷ l) h =
     omega arith
 
 module _ {A : Type 0} {same : A → A → Bool} (exact : Exact same) (size : A → ℕ) where
-  -- after the d nodes of the blocks before it
+  -- after the blocks of those before it
+  pub block-stands : (block : A → List ℕ) → ((q : A) → length (block q) ≡ size q) → (l : List A) (at : ℕ) (p : A) → List·Memᴰ p l
+      → (s : Stands l p) × (blockAt same size at l p ≡ at + length (joinAll (map block (s .before))))
+  unfolding blockAt
+  block-stands block fits [] at p m = absurd (List·Memᴰ·not-nil m)
+  block-stands block fits (q ∷ l) at p m =
+      split (same p q)
+      (λ t. (record { before = []; after = l; is = ap (_∷ l) (sym (exact .equal p q t)) }, rw (t, blockAt) (sym (add-zero at))))
+      (λ t.
+      let r = block-stands block fits l (at + size q) p (⊎-elim (λ i. absurd (exact-apart exact p q t i)) (λ n. n) (List·Memᴰ·cases-cons m)) in
+      let n = length-append (block q) (joinAll (map block (r .0 .before))) in
+      let f = fits q in
+      let e = r .1 in (
+        record { before = q ∷ r .0 .before; after = r .0 .after; is = ap (q ∷_) (r .0 .is) },
+        rw (t, blockAt) (e ∙ omega arith),
+      ))
+
+  -- so after d nodes
   pub block-at : (block : A → List ℕ) → ((q : A) → length (block q) ≡ size q) → (l : List A) (at : ℕ) (p : A) → List·Memᴰ p l
       → (d : ℕ) × (rest : List ℕ) × (blockAt same size at l p ≡ at + d) × (drop d (joinAll (map block l)) ≡ block p ++ rest)
-  unfolding blockAt
-  block-at block fits [] at p m = absurd (List·Memᴰ·not-nil m)
-  block-at block fits (q ∷ l) at p m =
-      split (same p q)
-      (λ t. (0, joinAll (map block l), rw (t, blockAt) (sym (add-zero at)), rw (exact .equal p q t)))
-      (λ t.
-      let r = block-at block fits l (at + size q) p (⊎-elim (λ i. absurd (exact-apart exact p q t i)) (λ n. n) (List·Memᴰ·cases-cons m)) in (
-        size q + r .0,
+  block-at block fits l at p m =
+      let r = block-stands block fits l at p m in
+      let first = joinAll (map block (r .0 .before)) in
+      let rest = joinAll (map block (r .0 .after)) in (
+        length first,
+        rest,
         r .1,
-        rw (t, blockAt) (r .2 ∙ add-assoc at (size q) (r .0)),
-        ap (λ k. drop (k + r .0) (block q ++ joinAll (map block l))) (sym (fits q))
-            ∙ drop-append-add (block q) (joinAll (map block l)) (r .0)
-            ∙ r .3,
-      ))
+        ap (λ x. drop (length first) (joinAll (map block x))) (r .0 .is)
+            ∙ ap (drop (length first)) (join-map-append block (r .0 .before) (p ∷ r .0 .after))
+            ∙ drop-append-seam first (block p ++ rest),
+      )
 
   pub block-first : (at : ℕ) (p : A) (l : List A) → blockAt same size at (p ∷ l) p ≡ at
   unfolding blockAt
@@ -223,3 +242,38 @@ module _ {A : Type 0} (same : A → A → Bool) (size : A → ℕ) where
       split (same p q)
       (λ t. rw (t, blockAt) (omega arith))
       (λ t. let r = block-from l (at + size q) p in rw (t, blockAt) (omega arith))
+
+-- ---- every place among the blocks is in one of them
+module _ {A : Type 0} (block : A → List ℕ) where
+  pub record AmongBlocks (l : List A) (i : ℕ) : Type 0 where
+    pub one : A
+    pub stands : Stands l one
+    pub along : ℕ
+    pub within : along < length (block one)
+    pub is : i ≡ length (joinAll (map block (stands .before))) + along
+
+  pub among-blocks : (l : List A) (i : ℕ) → i < length (joinAll (map block l)) → AmongBlocks l i
+  among-blocks [] i h = absurd (omega arith)
+  among-blocks (q ∷ l) i h =
+      let n = length-append (block q) (joinAll (map block l)) in
+      ⊎-elim
+      (λ (w : i < length (block q)). record {
+        one = q;
+        stands = record { before = []; after = l; is = refl };
+        along = i;
+        within = w;
+        is = omega arith;
+      })
+      (λ (past : length (block q) ≤ i).
+      let r = among-blocks l (i - length (block q)) (omega arith) in
+      let e = r .is in
+      let m = length-append (block q) (joinAll (map block (r .stands .before))) in
+      let s = r .stands in
+      record {
+        one = r .one;
+        stands = record { before = q ∷ s .before; after = s .after; is = ap (q ∷_) {y = s .before ++ r .one ∷ s .after} (s .is) };
+        along = r .along;
+        within = r .within;
+        is = omega arith;
+      })
+      (below? i (length (block q)))

@@ -3,6 +3,7 @@ pub mod RunOfLaws
 pub mod LabelLaws
 pub mod Blocks
 pub mod BlocksLaws
+pub mod AlikeLaws
 pub mod ChainLaws
 pub mod Written
 pub mod WrittenLaws

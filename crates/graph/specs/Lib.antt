@@ -2,6 +2,7 @@ pub mod Runs
 pub mod RunLaws
 pub mod Words
 pub mod Order
+pub mod OrderLaws
 pub mod Loops
 pub mod Lent
 pub mod Checks

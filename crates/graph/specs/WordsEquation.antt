@@ -4,7 +4,8 @@ use mathlib.Core.Path.{_≡_, refl, sym, ap, ap₂, _∙_, subst}
 use mathlib.Core.Logic.{_≢_, _⊎_, inl, inr, ⊎-elim}
 use mathlib.Core.List.{List, [], _∷_, _++_, head-eq-of-cons-eq, tail-eq-of-cons-eq}
 use mathlib.Core.List.{List·Memᴰ, List·Memᴰ·head, List·Memᴰ·tail, List·Memᴰ·not-nil, List·Memᴰ·cases-cons}
-use Prim.Native.Nat.{ℕ, zero, suc, _-_, _≤_, _<_}
+use Prim.Native.Nat.{ℕ, zero, suc, _+_, _-_, _≤_, _<_}
+use native.Mathlib.Nat.{zero-add, suc-add}
 use native.Mathlib.Omega.{arith}
 use lib.Dec.{eqb, ltb}
 use borrow.Author.Tests.{eqb-true, eqb-false, ltb-true, ltb-false}
@@ -145,3 +146,20 @@ module _ (y : BitLayout) where
     pub words-equation : (p : ℕ) → Clear y g p → words y g p ≡ inOrder (spelled y (words y g)) (run y (drop p g))
     unfolding words wordsWithin
     words-equation p c = sym (words-within-stable g (length g) p (clear-short p c))
+
+    -- ---- and more turns than nodes give no more words
+    short-more : (k p : ℕ) → Short g k p → Short g (suc k) p
+    short-more zero p s = λ v m n. absurd (List·Memᴰ·not-nil (rw (no-run g p s) at m))
+    short-more (suc k) p s = λ v m n. short-more k (arc y v) (s v m n)
+
+    short-by : (d k p : ℕ) → Short g k p → Short g (d + k) p
+    short-by zero k p s = rw zero-add s
+    short-by (suc d) k p s = rw suc-add (short-more (d + k) p (short-by d k p s))
+
+    within-by : (d k p : ℕ) → Short g k p → wordsWithin y (d + k) g p ≡ wordsWithin y k g p
+    within-by zero k p s = rw zero-add
+    within-by (suc d) k p s = rw suc-add (words-within-stable g (d + k) p (short-by d k p s) ∙ within-by d k p s)
+
+    pub clear-within : (d p : ℕ) → Clear y g p → wordsWithin y (d + length g) g p ≡ words y g p
+    unfolding words
+    clear-within d p c = within-by d (length g) p (clear-short p c)

@@ -63,3 +63,11 @@ in-below (suc n) x h =
     split (eqb x n)
     (λ e. List·Memᴰ·head (eqb-true x n e))
     (λ e. let k : x ≢ n = eqb-false x n e in List·Memᴰ·tail (in-below n x (omega arith)))
+
+-- a list that has every number below n has n entries or more
+pub covers-length : (n : ℕ) (xs : List ℕ) → ((x : ℕ) → x < n → List·Memᴰ x xs) → n ≤ length xs
+covers-length zero xs h = zero-le
+covers-length (suc n) xs h =
+    let less = without-lt n xs (h n (omega arith)) in
+    let r = covers-length n (without n xs) (λ x l. without-keeps n x xs (λ e. omega arith) (h x (omega arith))) in
+    omega arith

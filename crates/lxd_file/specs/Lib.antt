@@ -2,7 +2,6 @@ pub mod CopiedLaws
 pub mod File
 pub mod FileLaws
 pub mod NodesLaws
-pub mod PackedLaws
 pub mod Reading
 pub mod Row
 pub mod RowLaws

@@ -1,7 +1,7 @@
 -- The file's nodes: how many there are, the fields of each, and that each is a 32-bit number.
-use mathlib.Core.Path.{_≡_, sym, ap, _∙_, subst}
+use mathlib.Core.Path.{_≡_, refl, sym, ap, _∙_, subst}
 use mathlib.Core.Logic.{_≢_, ⊎-elim}
-use mathlib.Core.List.{List, [], _∷_, map, List·Memᴰ, List·Memᴰ·cases-cons, List·Memᴰ·eq-of-singleton}
+use mathlib.Core.List.{List, [], _∷_, map, List·Memᴰ, List·Memᴰ·head, List·Memᴰ·tail, List·Memᴰ·cases-cons, List·Memᴰ·eq-of-singleton}
 use Prim.Native.Nat.{ℕ, _+_, _^_, _≤_, _<_}
 use native.Mathlib.Omega.{arith}
 use lib.Dec.{eqb}
@@ -9,14 +9,24 @@ use lib.ListN.{length, getD, length-map}
 use borrow.Author.Tests.{eqb-true, eqb-false, eq-eqb, ne-eqb}
 use Rattle.laws.specs.Cases.{split}
 use Rattle.laws.specs.Members.{in-map}
-use Rattle.node.specs.Nodes.{KBWG, tile, arc, accepts, isEnd}
+use Rattle.node.specs.Nodes.{Field, Tile, Accepts, End, Arc, KBWG, tile, arc, accepts, isEnd}
+use Rattle.node.specs.PackingLaws.{FillsNode}
+use Rattle.node.specs.PackedLaws.{Fields, packed-fields}
 use Rattle.graph.specs.Runs.{Graph, startNode}
 use Rattle.graph.specs.Words.{count}
-use Rattle.lxd_file.specs.File.{child, letter, lxdNode, lxdNodes, reached}
+use Rattle.lxd_file.specs.File.{LXD, child, letter, lxdNode, lxdNodes, reached}
 use Rattle.windows1252.specs.Windows1252Laws.{byte-below}
-use Rattle.lxd_file.specs.PackedLaws.{Fields, packed-fields}
 use Rattle.lxd_file.specs.RowLaws.{LxdAccepted}
 use Rattle.lxd_file.specs.RunsLaws.{child-within}
+
+whole-LXD : FillsNode LXD
+whole-LXD = record { chain = refl; each = present }
+  where
+    present : (f : Field) → List·Memᴰ f (LXD .upward)
+    present Arc = List·Memᴰ·head refl
+    present Tile = List·Memᴰ·tail (List·Memᴰ·head refl)
+    present Accepts = List·Memᴰ·tail (List·Memᴰ·tail (List·Memᴰ·head refl))
+    present End = List·Memᴰ·tail (List·Memᴰ·tail (List·Memᴰ·tail (List·Memᴰ·head refl)))
 
 after-two-below : (l : List ℕ) → ((v : ℕ) → List·Memᴰ v l → v < 2 ^ 32)
     → (v : ℕ) → List·Memᴰ v (0x8A800000 ∷ 0x8A800002 ∷ l) → v < 2 ^ 32
@@ -52,10 +62,10 @@ module _ (g : Graph) (labels : List ℕ) where
       child-below : child g (arc KBWG v) < 2 ^ 22
       child-below = let h = child-within g (ok .sound) (ok .ended) v m in let r = ok .room in omega arith
 
-      pub node-fields : Fields (lxdNode g labels v) (letter labels (tile KBWG v)) (accepts KBWG v) (isEnd KBWG v) (child g (arc KBWG v))
+      pub node-fields : Fields LXD (lxdNode g labels v) (letter labels (tile KBWG v)) (accepts KBWG v) (isEnd KBWG v) (child g (arc KBWG v))
       unfolding lxdNode
       node-fields =
-          packed-fields (letter labels (tile KBWG v)) (accepts KBWG v) (isEnd KBWG v) (child g (arc KBWG v))
+          packed-fields LXD whole-LXD (refl, refl) (letter labels (tile KBWG v)) (accepts KBWG v) (isEnd KBWG v) (child g (arc KBWG v))
           (byte-below (getD labels (tile KBWG v) 0)) child-below
 
     -- ---- all of them

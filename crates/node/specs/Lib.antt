@@ -1,4 +1,5 @@
 pub mod Nodes
 pub mod PackingLaws
+pub mod PackedLaws
 pub mod Said
 pub mod SaidLaws

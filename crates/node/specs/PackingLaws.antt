@@ -1,6 +1,6 @@
 -- Unpacking after packing and packing after unpacking give back what there was, over any layout that keeps its fields one above
 -- the other in 32 bits. The idea: what the fields from some bit up make is a multiple of that bit's power of two.
-use mathlib.Core.Path.{_≡_, refl, sym, ap, _∙_}
+use mathlib.Core.Path.{_≡_, refl, sym, ap, _∙_, subst}
 use mathlib.Core.Bool.{Bool, true, _&&_}
 use mathlib.Core.Logic.{⊎-elim}
 use mathlib.Core.List.{List, [], _∷_, List·Memᴰ, List·Memᴰ·head, List·Memᴰ·tail, List·Memᴰ·not-nil, List·Memᴰ·cases-cons}
@@ -131,3 +131,17 @@ module _ (y : BitLayout) where
 
     pub unpack-pack : FillsNode y → (f : Field) → fields y (packed y x) f ≡ x f
     unpack-pack s f = ap (λ n. fields y n f) (sym (zero-add (packed y x))) ∙ packed-above 0 (y .upward) (s .chain) 0 (omega arith) f (s .each f)
+
+    -- ---- and a packed node is a 32-bit number
+    packed-under : (from : ℕ) (fs : List Field) → chained y from fs ≡ true → (r : ℕ) → r < 2 ^ from → r + fieldSum y fs x < 2 ^ 32
+    packed-under from [] c r h = let l : r < 2 ^ 32 = rw (eqb-true from 32 c) at h in omega arith
+    packed-under from (g ∷ fs) c r h =
+        let a = above from g fs c in
+        let p = fieldBits y g .first in
+        let w = width (fieldBits y g) in
+        let hr : r < 2 ^ p = rw (a .first) h in
+        subst (λ n. n < 2 ^ 32) (add-assoc r (x g * 2 ^ p) (fieldSum y fs x))
+        (packed-under (p + w) fs (a .rest) (r + x g * 2 ^ p) (field-below r (x g) p w hr (small g)))
+
+    pub packed-below : FillsNode y → packed y x < 2 ^ 32
+    packed-below s = subst (λ n. n < 2 ^ 32) (zero-add (packed y x)) (packed-under 0 (y .upward) (s .chain) 0 (omega arith))

@@ -215,7 +215,7 @@ module _ (announced : ℕ) (layout : Layout) (nodes : Graph) where
   refused-each e b (p ∷ ps) = ap₂ _∷_ (ap (λ (f : Feeds). f .answer) (refused-one announced layout nodes e (b ++ p))) (refused-each e (b ++ p) ps)
 
   module _ (ok : firstOf (beginRow announced (length nodes)) ≡ none) where
-    joined-is : (b : List ℕ) (ps : List (List ℕ)) → length (b ++ joinAll ps) ≤ announced → joinedFrom announced b ps ≡ b ++ joinAll ps
+    pub joined-is : (b : List ℕ) (ps : List (List ℕ)) → length (b ++ joinAll ps) ≤ announced → joinedFrom announced b ps ≡ b ++ joinAll ps
     unfolding joinedFrom joinedOnto
     joined-is b [] h = sym (append-nil b)
     joined-is b (p ∷ ps) h =
