@@ -4,3 +4,6 @@ pub mod ShelfLaws
 pub mod ShelfBuilt
 pub mod ShelvingLaws
 pub mod PassLaws
+pub mod ReachedLaws
+pub mod FewNodes
+pub mod GrowthLaws
