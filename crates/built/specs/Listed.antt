@@ -49,6 +49,9 @@ rowsAhead zero before bytes = []
 rowsAhead (suc left) before [] = []
 rowsAhead (suc left) before (n ∷ bytes) = wordRow before n bytes ++ rowsAhead left (take n bytes) (drop n bytes)
 
+abbrev pub rowsAfter : Word → List ℕ → Row
+rowsAfter before bytes = rowsAhead (length bytes) before bytes
+
 -- before the first word there is the empty one, which is below every other
 unfoldable pub listRow : List ℕ → Row
-listRow bytes = rowsAhead (length bytes) [] bytes
+listRow bytes = rowsAfter [] bytes

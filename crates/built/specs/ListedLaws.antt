@@ -19,7 +19,7 @@ use Rattle.graph.specs.Words.{Word}
 use Rattle.graph.specs.Order.{_≺_, prefix, lower, later}
 use Rattle.graph.specs.OrderLaws.{EachAbove, each-ascending, ascending-each}
 use Rattle.built.specs.Lexicon.{ListWord, Lexicon}
-use Rattle.built.specs.Listed.{wordsAhead, wordsListed, listBytes, wordBelow, noTile, wordRow, rowsAhead, listRow}
+use Rattle.built.specs.Listed.{wordsAhead, wordsListed, listBytes, wordBelow, noTile, wordRow, rowsAhead, rowsAfter, listRow}
 
 -- ---- the test of the order
 pub test-below : (u v : Word) → wordBelow u v ≡ true → u ≺ v
@@ -38,6 +38,44 @@ pub below-test : {u v : Word} → u ≺ v → wordBelow u v ≡ true
 below-test prefix = refl
 below-test (lower {a} {b} h) = rw (lt-ltb a b h)
 below-test (later {a} h) = rw (le-ltb a a (omega arith), eq-eqb a a refl) (below-test h)
+
+-- ---- one word at a time
+rows-enough : (k m : ℕ) (before : Word) (bytes : List ℕ) → length bytes ≤ k → length bytes ≤ m → rowsAhead k before bytes ≡ rowsAhead m before bytes
+unfolding rowsAhead
+rows-enough zero zero before bytes h l = refl
+rows-enough zero (suc m) before [] h l = refl
+rows-enough zero (suc m) before (n ∷ bytes) h l = absurd (omega arith)
+rows-enough (suc k) zero before [] h l = refl
+rows-enough (suc k) zero before (n ∷ bytes) h l = absurd (omega arith)
+rows-enough (suc k) (suc m) before [] h l = refl
+rows-enough (suc k) (suc m) before (n ∷ bytes) h l =
+    let d = length-drop n bytes in
+    ap (wordRow before n bytes ++_) (rows-enough k m (take n bytes) (drop n bytes) (omega arith) (omega arith))
+
+pub rows-next : (before : Word) (n : ℕ) (bytes : List ℕ)
+    → rowsAfter before (n ∷ bytes) ≡ wordRow before n bytes ++ rowsAfter (take n bytes) (drop n bytes)
+unfolding rowsAhead
+rows-next before n bytes =
+    let d = length-drop n bytes in
+    ap (wordRow before n bytes ++_) (rows-enough (length bytes) (length (drop n bytes)) (take n bytes) (drop n bytes) (omega arith) (omega arith))
+
+words-enough : (k m : ℕ) (bytes : List ℕ) → length bytes ≤ k → length bytes ≤ m → wordsAhead k bytes ≡ wordsAhead m bytes
+unfolding wordsAhead
+words-enough zero zero bytes h l = refl
+words-enough zero (suc m) [] h l = refl
+words-enough zero (suc m) (n ∷ bytes) h l = absurd (omega arith)
+words-enough (suc k) zero [] h l = refl
+words-enough (suc k) zero (n ∷ bytes) h l = absurd (omega arith)
+words-enough (suc k) (suc m) [] h l = refl
+words-enough (suc k) (suc m) (n ∷ bytes) h l =
+    let d = length-drop n bytes in
+    ap (take n bytes ∷_) (words-enough k m (drop n bytes) (omega arith) (omega arith))
+
+pub words-next : (n : ℕ) (bytes : List ℕ) → wordsListed (n ∷ bytes) ≡ take n bytes ∷ wordsListed (drop n bytes)
+unfolding wordsListed wordsAhead
+words-next n bytes =
+    let d = length-drop n bytes in
+    ap (take n bytes ∷_) (words-enough (length bytes) (length (drop n bytes)) (drop n bytes) (omega arith) (omega arith))
 
 -- ---- a word that passes its row
 good-tile : (t : ℕ) → noTile t ≡ false → (1 ≤ t) × (t < 64)
