@@ -1,4 +1,4 @@
--- Demand 3, pages and evenings as theorems, and the five nodes that meet their premises and those of run lookup.
+-- Demand 3, pages, evenings and built lexicons as theorems, and the five nodes that meet their premises and those of run lookup.
 pub mod Demand3Laws
 pub mod PagesLaws
 pub mod Witness
@@ -6,3 +6,5 @@ pub mod PageWitness
 pub mod SeekWitness
 pub mod EveningLaws
 pub mod EveningWitness
+pub mod BuiltLexiconLaws
+pub mod BuiltWitness
