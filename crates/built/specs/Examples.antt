@@ -15,9 +15,9 @@ unfolding built wordRuns met onwards branches branchesWith runNodes arcTo blockA
 three = refl
 
 -- 1 3, 2 3: one run for what follows both
-shared : built ((1 ∷ 3 ∷ []) ∷ (2 ∷ 3 ∷ []) ∷ []) ≡ 0x240 ∷ 0x40 ∷ 0x401 ∷ 0x442 ∷ 0xC3 ∷ []
+shares-a-run : built ((1 ∷ 3 ∷ []) ∷ (2 ∷ 3 ∷ []) ∷ []) ≡ 0x240 ∷ 0x40 ∷ 0x401 ∷ 0x442 ∷ 0xC3 ∷ []
 unfolding built wordRuns met onwards branches branchesWith runNodes arcTo blockAt sameWords same
-shared = refl
+shares-a-run = refl
 
 -- 1 1 5, 2 6: depth first
 deep : built ((1 ∷ 1 ∷ 5 ∷ []) ∷ (2 ∷ 6 ∷ []) ∷ []) ≡ 0x240 ∷ 0x40 ∷ 0x401 ∷ 0x642 ∷ 0x541 ∷ 0xC5 ∷ 0xC6 ∷ []

@@ -114,7 +114,7 @@ low-number d v (suc k) m h l = λ q i.
     low-number d v k q (children-known d v m q h i)
     (l (numberWords d q) (subst (List·Memᴰ (numberWords d q)) (sym (onwards-numbered d v m h)) (map-in (numberWords d) (childNumbers d m) q i)))
 
-entry-nodes-length : (to : ℕ → ℕ) (es : List ShelfEntry) → length (entryNodes to es) ≡ length es
+pub entry-nodes-length : (to : ℕ → ℕ) (es : List ShelfEntry) → length (entryNodes to es) ≡ length es
 unfolding entryNodes
 entry-nodes-length to [] = refl
 entry-nodes-length to (e ∷ es) = ap suc (entry-nodes-length to es)
@@ -132,8 +132,9 @@ module _ (ws : List Word) (lex : Lexicon 64 ws) where
   known : n ≤ length d
   known = all-shelved ws lex .known
 
-  low : Low (childNumbers d) 64 n
-  low = low-number d sound 64 n known (subst (Low onwards 64) (sym (all-shelved ws lex .words-are)) (low-start ws lex))
+  -- no chain of children from the list's number has over 64
+  pub low-shelved : Low (childNumbers d) 64 n
+  low-shelved = low-number d sound 64 n known (subst (Low onwards 64) (sym (all-shelved ws lex .words-are)) (low-start ws lex))
 
   -- a number that stands in the run of one that is met
   abbrev Placed : ℕ → Type 0
@@ -150,7 +151,7 @@ module _ (ws : List Word) (lex : Lexicon 64 ws) where
       let c = entryAt d k .child in
       let among = map-in (λ (e : ShelfEntry). e .child) (runEntries d (r .0)) (entryAt d k) (i .entry-in) in
       let child = filtered-in (λ c. not (eqb c 0)) (map (λ (e : ShelfEntry). e .child) (runEntries d (r .0))) c among (ap not (ne-eqb c 0 (λ e. omega arith))) in
-      let m = children-met exact-number (childNumbers d) 64 n low (r .0) c (r .1) child in
+      let m = children-met exact-number (childNumbers d) 64 n low-shelved (r .0) c (r .1) child in
       (c, m, own-number d c z (below-all c m))
 
   goes-over : GoesOver Placed d
@@ -169,7 +170,7 @@ module _ (ws : List Word) (lex : Lexicon 64 ws) where
   all-stand : (k : ℕ) → k < suc (length d) → List·Memᴰ k (0 ∷ standing)
   all-stand zero h = List·Memᴰ·head refl
   all-stand (suc k) h =
-      let start : Placed n = λ z. (n, start-met exact-number (childNumbers d) 64 n low, own-number d n z known) in
+      let start : Placed n = λ z. (n, start-met exact-number (childNumbers d) 64 n low-shelved, own-number d n z known) in
       let r = shelved-holds Placed ws lex goes-over start (suc k) (omega arith) (omega arith) (omega arith) in
       List·Memᴰ·tail (join-in (runNumbers d) (numbersMet d n) (r .0) (suc k) (r .1) (r .2))
 

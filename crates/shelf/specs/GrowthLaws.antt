@@ -12,12 +12,12 @@ use lib.Seq.{drop-drop}
 use Rattle.laws.specs.Cases.{split}
 use Rattle.laws.specs.Lists.{isEmpty}
 use Rattle.graph.specs.Words.{Word}
-use Rattle.graph.specs.Order.{_≺_}
+use Rattle.graph.specs.Order.{_≺_, shared}
 use Rattle.graph.specs.OrderLaws.{not-≺-empty, ≺-cons}
 use Rattle.built.specs.Lexicon.{Lexicon}
 use Rattle.built.specs.Built.{built}
 use Rattle.shelf.specs.Shelf.{ShelfEntry, Shelf}
-use Rattle.shelf.specs.Shelving.{shelfEntry, entryNumber, putOn, close, shared, fresh, advance, firstWord, opened, shelved}
+use Rattle.shelf.specs.Shelving.{shelfEntry, entryNumber, putOn, close, fresh, advance, firstWord, opened, shelved}
 use Rattle.shelf.specs.FewNodes.{entries-few}
 
 pub put-longer : (d : Shelf) (e : ShelfEntry) → length d ≤ length (putOn d e .shelf)

@@ -47,12 +47,6 @@ abbrev pub fresh : Word → List ℕ
 fresh [] = 0 ∷ []
 fresh (t ∷ u) = 0 ∷ fresh u
 
--- how many tiles two words share from the first on
-unfoldable pub shared : Word → Word → ℕ
-shared [] w = 0
-shared (s ∷ v) [] = 0
-shared (s ∷ v) (t ∷ u) = elim (eqb s t) [ true ↦ suc (shared v u) | false ↦ 0 ]
-
 pub record Moved : Type 0 where
   pub shelf : Shelf
   pub numbers : List ℕ
