@@ -33,7 +33,7 @@ use Rattle.built.specs.LxdLaws.{lxd-nodes, lxd-child}
 use Rattle.built.specs.Build.{buildChecks, builtRow, buildRow, building, buildAs}
 use Rattle.built.specs.Claim.{FromList}
 
-built-none : built [] ≡ 0x40 ∷ 0x40 ∷ []
+pub built-none : built [] ≡ 0x40 ∷ 0x40 ∷ []
 unfolding built wordRuns met onwards branches runNodes arcTo
 built-none = refl
 

@@ -9,14 +9,14 @@ use borrow.Author.Count.{below-more}
 use lib.ListN.{length, getD}
 use Rattle.laws.specs.Cases.{same?, below?}
 use Rattle.laws.specs.Firsts.{placeIn, firsts}
-use Rattle.laws.specs.Tables.{table, table-length}
+use Rattle.laws.specs.Tables.{table, table-length, table-same}
 use Rattle.dictionary.specs.KeyNumbered.{KeyNumbered}
 use Rattle.dictionary.specs.Keys.{keyAt, keysIn}
 use Rattle.dictionary.specs.Tree.{treeOf, LinkAt, PathTo, Tree, added}
 use Rattle.dictionary.specs.declared.KeyNumber.{KeyNumber}
 use Rattle.dictionary.proofs.SearchLaws.{Seeking, seek-none, tree-below, path-kept, path-to-kept}
 use Rattle.dictionary.proofs.StoredLaws.{added-length, kept-below, leads-there, low-is, key-is, leads-nowhere}
-use Rattle.dictionary.proofs.TableLaws.{table-same, table-more, place-in-table, firsts-old, firsts-new}
+use Rattle.dictionary.proofs.TableLaws.{table-more, place-in-table, firsts-old, firsts-new}
 
 -- where the keys after it are right, the number of a key is the place at which it stands
 numbered-at : {n : ℕ} {before : List ℕ} {k key : ℕ} {after : List ℕ} (r : KeyNumber) → Tree n after (r .count)

@@ -1,5 +1,5 @@
 -- A table of the values of f below k: one value more, what is not in it, and the place of each.
-use mathlib.Core.Path.{_≡_, refl, sym, ap, ap₂}
+use mathlib.Core.Path.{_≡_, refl, sym, ap}
 use mathlib.Core.Bool.{true, false}
 use mathlib.Core.Logic.{_≢_}
 use mathlib.Core.List.{[], _∷_, _++_}
@@ -11,11 +11,6 @@ use Rattle.laws.specs.Firsts.{placeIn, firsts}
 use Rattle.laws.specs.Lists.{member}
 use Rattle.laws.specs.Members.{member-mem, mem-member}
 use Rattle.laws.specs.Tables.{table, table-in, from-table}
-
-pub table-same : (k : ℕ) (f h : ℕ → ℕ) → ((i : ℕ) → i < k → f i ≡ h i) → table k f ≡ table k h
-unfolding table
-table-same zero f h e = refl
-table-same (suc k) f h e = ap₂ _∷_ (e 0 (omega arith)) (table-same k (λ i. f (suc i)) (λ i. h (suc i)) (λ i l. e (suc i) (omega arith)))
 
 pub table-more : (k : ℕ) (f : ℕ → ℕ) → table (suc k) f ≡ table k f ++ f k ∷ []
 unfolding table

@@ -86,7 +86,7 @@ firsts-from P (a ∷ l) seen h k x m =
 pub firsts-step : (seen xs : List ℕ) (x : ℕ) → firsts seen (x ∷ xs) ≡ firsts (firsts seen (x ∷ [])) xs
 firsts-step seen xs x = split (member x seen) (λ m. rw (m, firsts)) (λ m. rw (m, firsts))
 
-place-append : (l more : List ℕ) (x : ℕ) → List·Memᴰ x l → placeIn (l ++ more) x ≡ placeIn l x
+pub place-append : (l more : List ℕ) (x : ℕ) → List·Memᴰ x l → placeIn (l ++ more) x ≡ placeIn l x
 place-append [] more x m = absurd (List·Memᴰ·not-nil m)
 place-append (y ∷ l) more x m =
     split (eqb x y)

@@ -1,4 +1,4 @@
--- A table of numbers: how long it is, what stands where, its members, and a list that begins with one.
+-- A table of numbers: how long it is, what stands where, when two are the same, its members, and a list that begins with one.
 use mathlib.Core.Path.{_≡_, refl, ap, ap₂}
 use mathlib.Core.Logic.{⊎-elim}
 use mathlib.Core.List.{List, [], _∷_, _++_, List·Memᴰ, List·Memᴰ·head, List·Memᴰ·tail, List·Memᴰ·not-nil, List·Memᴰ·cases-cons}
@@ -21,6 +21,11 @@ unfolding table
 table-at zero f i h = absurd (omega arith)
 table-at (suc n) f zero h = refl
 table-at (suc n) f (suc i) h = table-at n (λ k. f (suc k)) i (omega arith)
+
+pub table-same : (n : ℕ) (f g : ℕ → ℕ) → ((i : ℕ) → i < n → f i ≡ g i) → table n f ≡ table n g
+unfolding table
+table-same zero f g e = refl
+table-same (suc n) f g e = ap₂ _∷_ (e 0 (omega arith)) (table-same n (λ k. f (suc k)) (λ k. g (suc k)) (λ i h. e (suc i) (omega arith)))
 
 pub table-in : (n : ℕ) (f : ℕ → ℕ) (i : ℕ) → i < n → List·Memᴰ (f i) (table n f)
 unfolding table

@@ -49,6 +49,15 @@ close-drop (suc k) d (t ∷ u) (x ∷ xs) =
     let p = put-longer (close d u xs .shelf) (shelfEntry t (isEmpty u) (close d u xs .number) x) in
     omega (arith, r, p)
 
+-- from a tile to one before it the shelf only grows
+pub close-deeper : (d : Shelf) (w : Word) (xs : List ℕ) (k m : ℕ) → k ≤ m
+    → length (close d (drop m w) (drop m xs) .shelf) ≤ length (close d (drop k w) (drop k xs) .shelf)
+close-deeper d w xs k m h =
+    let i : k + (m - k) ≡ m = omega arith in
+    let far : (l : List ℕ) → drop (m - k) (drop k l) ≡ drop m l = λ l. drop-drop (m - k) k l ∙ ap (λ j. drop j l) i in
+    let e = ap₂ (λ x y. length (close d x y .shelf)) (far w) (far xs) in
+    omega (arith, close-drop (m - k) d (drop k w) (drop k xs), e)
+
 -- ---- the word at hand gives way: what it does not share is closed
 pub advance-shelf : (d : Shelf) (w : Word) (xs : List ℕ) (v : Word)
     → advance d w xs v .shelf ≡ close d (drop (shared v w) w) (drop (shared v w) xs) .shelf
@@ -111,13 +120,9 @@ unfolding opened
 few-closing us w ws k lex h =
     let m = opened ws in
     let first = firstWord ws in
-    let c = shared w first in
-    let i : c + (k - c) ≡ k = omega arith in
-    let far : (l : List ℕ) → drop (k - c) (drop c l) ≡ drop k l = λ l. drop-drop (k - c) c l ∙ ap (λ j. drop j l) i in
-    let e = ap₂ (λ x y. length (close (m .shelf) x y .shelf)) (far first) (far (m .numbers)) in
-    let a = close-drop (k - c) (m .shelf) (drop c first) (drop c (m .numbers)) in
+    let a = close-deeper (m .shelf) first (m .numbers) (shared w first) k h in
     let s = ap length (advance-shelf (m .shelf) first (m .numbers) w) in
-    omega (arith, few-passed us (w ∷ ws) lex, a, s, e)
+    omega (arith, few-passed us (w ∷ ws) lex, a, s)
 
 -- and while the first word is closed
 pub few-closing-first : (ws : List Word) (k : ℕ) → Lexicon 64 ws

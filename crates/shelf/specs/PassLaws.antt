@@ -105,13 +105,14 @@ abbrev pub tileTotal : List Word → ℕ
 tileTotal [] = 0
 tileTotal (w ∷ ws) = length w + tileTotal ws
 
-record Opened (ws : List Word) (m : Moved) : Type 0 where
-  valid : SoundShelf (m .shelf)
-  begun : OpenWord (m .shelf) (firstWord ws) (m .numbers)
-  is : openBranches (m .shelf) (firstWord ws) (m .numbers) ≡ branches ws
-  few : length (m .shelf) + length (firstWord ws) ≤ tileTotal ws
+-- the pass has come to the first of these words, and has it open
+pub record Opened (ws : List Word) (m : Moved) : Type 0 where
+  pub valid : SoundShelf (m .shelf)
+  pub begun : OpenWord (m .shelf) (firstWord ws) (m .numbers)
+  pub is : openBranches (m .shelf) (firstWord ws) (m .numbers) ≡ branches ws
+  pub few : length (m .shelf) + length (firstWord ws) ≤ tileTotal ws
 
-all-opened : (ws : List Word) → All HasTile ws → Ascending ws → Opened ws (opened ws)
+pub all-opened : (ws : List Word) → All HasTile ws → Ascending ws → Opened ws (opened ws)
 unfolding opened advance branches
 all-opened [] h a = record { valid = tt; begun = zero-le; is = tail-zero []; few = zero-le }
 all-opened ([] ∷ ws) h a = absurd (let k = h .0 in omega arith)

@@ -63,7 +63,7 @@ exact-entry =
       );
     }
 
-not-there : (d : Shelf) (e : ShelfEntry) → entryNumber d e ≡ 0 → List·Memᴰ e d → ⊥
+pub not-there : (d : Shelf) (e : ShelfEntry) → entryNumber d e ≡ 0 → List·Memᴰ e d → ⊥
 unfolding entryNumber
 not-there [] e q m = List·Memᴰ·not-nil m
 not-there (f ∷ d) e q m =

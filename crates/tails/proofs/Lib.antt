@@ -1,0 +1,5 @@
+pub mod PutLaws
+pub mod CloseLaws
+pub mod AdvanceLaws
+pub mod WorkLaws
+pub mod TurnLaws
