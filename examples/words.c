@@ -1,5 +1,6 @@
 /* Loads a lexicon in pieces, looks a word up, says how many words begin before its first letter, names a number, reads words as viewers type
- * them, shows the page of words from that number on and plays a short round: words FILE WORD NUMBER. Its letters are A to Z, tiles 1 to 26. */
+ * them, shows the page of words from that number on, plays a short round, and looks the word up in a lexicon that it builds from a list: words FILE
+ * WORD NUMBER. Its letters are A to Z, tiles 1 to 26. */
 #include <stdio.h>
 #include <stdlib.h>
 #include <string.h>
@@ -17,6 +18,10 @@ static const char TYPED[] = "lexicon\r\nLÉTTER\n\ntiles of wood\n";
 
 /* The most bytes of a label file of 53 lines here. */
 enum { LABEL_FILE = 53 * 5 };
+
+/* The words of a regional editor, in order, and the most bytes of a list of so many. */
+static const char *const REGIONAL[] = {"LEXICON", "LEXICONS", "TIDE", "TIDES"};
+enum { REGIONAL_WORDS = 4, REGIONAL_LIST = REGIONAL_WORDS * (1 + LONGEST) };
 
 static int refused(const char *call, uint32_t refusal)
 {
@@ -252,6 +257,37 @@ static int play_round(const uint32_t *nodes, const uint32_t *counts, size_t n, c
     return 0;
 }
 
+/* Makes the list of the regional editor's words: of each word its length and its tiles. Answers how many bytes it has. */
+static size_t regional_list(uint8_t list[REGIONAL_LIST])
+{
+    size_t bytes = 0, length, i;
+
+    for (i = 0; i < REGIONAL_WORDS; i++) {
+        read_word(REGIONAL[i], &list[bytes + 1], &length);
+        list[bytes] = (uint8_t)length;
+        bytes += 1 + length;
+    }
+    return bytes;
+}
+
+/* Builds a lexicon of the regional editor's words, and looks the word up in it. */
+static int build_regional(const char *word, const uint8_t *tiles, size_t length)
+{
+    uint8_t list[REGIONAL_LIST];
+    uint32_t work[8 * REGIONAL_LIST + 64], nodes[REGIONAL_LIST + 2], counts[REGIONAL_LIST + 2];
+    size_t bytes = regional_list(list);
+    machirsun_built built = machirsun_build(list, bytes, work, 8 * bytes + 64, nodes, bytes + 2);
+    machirsun_counted counted;
+
+    if (built.refusal != 0)
+        return refused("build", built.refusal);
+    counted = machirsun_count_words(nodes, built.nodes, counts, built.nodes, work, 2 * (size_t)built.nodes);
+    if (counted.refusal != 0)
+        return refused("count_words", counted.refusal);
+    printf("a list of %u words: %u nodes\n", counts[nodes[0] >> 8], built.nodes);
+    return look_up(nodes, counts, built.nodes, word, tiles, length);
+}
+
 int main(int argc, char **argv)
 {
     FILE *file;
@@ -305,6 +341,8 @@ int main(int argc, char **argv)
         status = show_page(nodes, counts, n, number);
     if (status == 0)
         status = play_round(nodes, counts, n, argv[2]);
+    if (status == 0)
+        status = build_regional(argv[2], tiles, letters);
     free(nodes);
     free(counts);
     free(work);

@@ -1,4 +1,4 @@
-/* Machirsun: word graphs loaded, counted, looked up and exported, words read from text, and a record of words in play.
+/* Machirsun: word graphs loaded or built from word lists, counted, looked up and exported, words read from text, and a record of words in play.
  *
  * Link with libmachirsun.a, which `rt staticlib machirsun` writes to target/staticlib/ (x86-64 Linux).
  *
@@ -17,8 +17,8 @@
  *
  * Nodes. The loaded table is 32-bit nodes: arc bits 8-31, accepts 7, end 6, tile 0-5. A place is the number of a node, from 0. The run from
  * a place is the nodes from there up to the first with the end bit, whatever leads to them: two runs may share their last nodes. Arc 0
- * means that the node has no arc, not that it leads to node 0. Wherever a call takes nodes, lend the part that finish answered: its first
- * N nodes. The words of a DAWG begin at node 0's arc, those of a GADDAG at node 1's: pass that arc as the start, and where it is 0 there are
+ * means that the node has no arc, not that it leads to node 0. Wherever a call takes nodes, lend the part that finish or build answered: its
+ * first N nodes. The words of a DAWG begin at node 0's arc, those of a GADDAG at node 1's: pass that arc as the start, and where it is 0 there are
  * no words.
  *
  * Every call ends on every input; none needs its input to be sound. What each answers is proved: the contracts are in
@@ -51,10 +51,11 @@ extern "C" {
  *   9   the last node is no end                                                        finish, count_words, to_macondo, to_lxd
  *  10   under 2 nodes or over 16,777,216                                               count_words, to_macondo, to_lxd
  *  11   a lent list is too short. count_words: counts under N or work under 2 x N;     count_words, letter_bits, to_macondo, to_lxd,
- *       letter_bits: either list under N; to_macondo, to_lxd: work under 8 x N, or,    write_page, arrive, leave
+ *       letter_bits: either list under N; to_macondo, to_lxd: work under 8 x N, or,    write_page, arrive, leave, build
  *       last of all checks, the file buffer under the file's length; write_page:
  *       the page buffer under 960 bytes; arrive, leave: the record has fewer bits
- *       than the start's count
+ *       than the start's count; build: work under 8 x list_len + 64, or, last of all
+ *       checks, the node buffer under the graph's nodes
  *  12   a node can be reached from itself; carries the lowest such node                count_words
  *  13   some node (to_lxd: the start) has 4,294,967,295 words or more                  count_words, to_lxd
  *  14   a step leads to a node or a count that is not lent                             seek, cursor_at, cursor_step, word_index,
@@ -74,13 +75,16 @@ extern "C" {
  *       blank's) is not one code point; to_lxd: the label of a tile that is reached
  *       from the start, the blank's too, has no byte in Windows-1252
  *  24   runs do not ascend                                                             to_macondo
- *  25   the file would have too many nodes: over 2^24 (to_lxd: 2^22)                   to_macondo, to_lxd
+ *  25   the file or graph would have too many nodes: over 2^24 (to_lxd: 2^22)          to_macondo, to_lxd, build
  *  26   a byte of the title or a shown label is outside 20 to 7E hexadecimal           write_page
  *  27   a line of the label file is bad; carries its number, from 1, as bad            next_word, read_words
  *  28   the text cannot be read: no label matches; carries the byte's place as bad     next_word, read_words
  *  29   the word is not in the lexicon, or its number is not below the start's count   arrive, leave
  *  30   the word is in play already                                                    arrive
  *  31   the word is not in play                                                        leave
+ *  32   a word of the list has a length that is not 1 to 64, or a tile that is not 1   build
+ *       to 63, or the list ends inside it
+ *  33   a word of the list is not above the one before it                              build
  *
  * Where several apply, the first in the order that the call's comment gives is answered.
  */
@@ -115,7 +119,9 @@ enum {
     MACHIRSUN_UNREADABLE = 28,
     MACHIRSUN_NO_WORD = 29,
     MACHIRSUN_ALREADY_IN_PLAY = 30,
-    MACHIRSUN_NOT_IN_PLAY = 31
+    MACHIRSUN_NOT_IN_PLAY = 31,
+    MACHIRSUN_BAD_WORD = 32,
+    MACHIRSUN_NOT_ABOVE = 33
 };
 
 /* ---- Layouts and formats: 0 is the first, every other number the second -------------------------------------------------------- */
@@ -434,6 +440,29 @@ machirsun_in_play machirsun_arrive(const uint32_t *nodes, size_t nodes_len, cons
  * place of 30. After any refusal the record is as before. */
 machirsun_in_play machirsun_leave(const uint32_t *nodes, size_t nodes_len, const uint32_t *counts, size_t counts_len, uint32_t start,
                                   const uint8_t *word, size_t word_len, uint8_t *bits, size_t bits_len);
+
+/* ---- A lexicon from a word list --------------------------------------------------------------------------------------------------
+ *
+ * A list is bytes: for each word one length byte, 1 to 64, and that many tiles, each 1 to 63. The words ascend: they are compared tile by tile,
+ * a word that begins another stands before it, and none stands twice.
+ *
+ * What is built is a DAWG in the loaded table's form, of which no two runs that arcs lead to have the same words. Node 0 leads to the words: its
+ * arc is 2, or 0 where the list has none; node 1 leads nowhere. From node 2 on come the runs, in the order in which a walk from node 2 first
+ * meets them, each run whole before those that its arcs lead to. This is how an LXD file numbers runs, so machirsun_to_lxd leaves these nodes
+ * their numbers. The nodes can be lent to every other call as they are; written as four bytes each, the lowest first, they are a KBWG file.
+ */
+
+/* nodes: how many the graph has. */
+typedef struct machirsun_built {
+    uint32_t refusal;
+    uint32_t nodes;
+} machirsun_built;
+
+/* Builds the graph of a list's words in the first nodes of the node buffer; entries past them stay. An empty list is a graph of two nodes. The
+ * work list has at least 8 x list_len + 64 numbers; what is in these afterwards is free, but after 32, 33 and its own 11 it is as before. A node
+ * buffer of list_len + 2 is enough for every graph that is not refused by 25. A refusal writes no node. Order: 32 and 33, of the first word in
+ * the list that either is true of, 32 before 33; 11 for the work list; 25; 11 for the nodes. */
+machirsun_built machirsun_build(const uint8_t *list, size_t list_len, uint32_t *work, size_t work_len, uint32_t *nodes, size_t nodes_len);
 
 #ifdef __cplusplus
 }

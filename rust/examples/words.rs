@@ -1,8 +1,9 @@
 //! Loads a lexicon in pieces, looks a word up, says how many words begin before its first letter, names a number, reads words as viewers type
-//! them, shows the page of words from that number on and plays a short round: words FILE WORD NUMBER. Its letters are A to Z, tiles 1 to 26.
+//! them, shows the page of words from that number on, plays a short round, and looks the word up in a lexicon that it builds from a list: words FILE
+//! WORD NUMBER. Its letters are A to Z, tiles 1 to 26.
 
 use machirsun::{
-    arrive, count_words, leave, seek, word_by_index, word_index, write_page, Layout, Loader,
+    arrive, build, count_words, leave, seek, word_by_index, word_index, write_page, Layout, Loader,
     TypedText, PAGE,
 };
 use std::error::Error;
@@ -21,6 +22,9 @@ const COLUMNS: usize = 40;
 
 /// What viewers typed: small letters, a letter of two bytes, an empty line, more than the word.
 const TYPED: &str = "lexicon\r\nLÉTTER\n\ntiles of wood\n";
+
+/// The words of a regional editor, in order.
+const REGIONAL: [&str; 4] = ["LEXICON", "LEXICONS", "TIDE", "TIDES"];
 
 fn load(path: &str) -> Result<Vec<u32>, Box<dyn Error>> {
     let mut file = File::open(path)?;
@@ -133,6 +137,33 @@ fn play_round(nodes: &[u32], counts: &[u32], word: &str) -> Result<(), String> {
     play(nodes, counts, "CAPTION", false, &mut bits)
 }
 
+/// Looks a word up in nodes that are counted.
+fn look_up(nodes: &[u32], counts: &[u32], word: &str, tiles: &[u8]) -> Result<(), Box<dyn Error>> {
+    match word_index(nodes, counts, nodes[0] >> 8, tiles)? {
+        Some(number) => println!("{word} is word {number}"),
+        None => println!("{word} is no word"),
+    }
+    Ok(())
+}
+
+/// Builds a lexicon of the regional editor's words, and looks the word up in it. The list has of each word its length and its tiles.
+fn build_regional(word: &str, tiles: &[u8]) -> Result<(), Box<dyn Error>> {
+    let mut list = Vec::new();
+    for word in REGIONAL {
+        list.push(word.len() as u8);
+        list.extend(read_word(word)?);
+    }
+    let mut work = vec![0; 8 * list.len() + 64];
+    let mut nodes = vec![0; list.len() + 2];
+    let count = build(&list, &mut work, &mut nodes)?;
+    nodes.truncate(count);
+    let mut counts = vec![0; count];
+    count_words(&nodes, &mut counts, &mut work)?;
+    let words = counts[(nodes[0] >> 8) as usize];
+    println!("a list of {words} words: {count} nodes");
+    look_up(&nodes, &counts, word, tiles)
+}
+
 fn run(arguments: &[String]) -> Result<(), Box<dyn Error>> {
     let [_, path, word, number] = arguments else {
         return Err("usage: words FILE WORD NUMBER".into());
@@ -145,10 +176,7 @@ fn run(arguments: &[String]) -> Result<(), Box<dyn Error>> {
     let start = nodes[0] >> 8;
     println!("{} nodes, {} words", nodes.len(), counts[start as usize]);
 
-    match word_index(&nodes, &counts, start, &tiles)? {
-        Some(number) => println!("{word} is word {number}"),
-        None => println!("{word} is no word"),
-    }
+    look_up(&nodes, &counts, word, &tiles)?;
     if let (Some(letter), Some(&tile)) = (word.chars().next(), tiles.first()) {
         match seek(&nodes, &counts, 0, tile)? {
             Some(sought) => println!("{} words begin before {letter}", sought.before),
@@ -175,7 +203,7 @@ fn run(arguments: &[String]) -> Result<(), Box<dyn Error>> {
     }
 
     play_round(&nodes, &counts, word)?;
-    Ok(())
+    build_regional(word, &tiles)
 }
 
 fn main() -> ExitCode {

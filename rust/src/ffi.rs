@@ -141,6 +141,12 @@ pub struct InPlay {
     pub lowest: u32,
 }
 
+#[repr(C)]
+pub struct Built {
+    pub refusal: u32,
+    pub nodes: u32,
+}
+
 extern "C" {
     pub fn machirsun_begin(
         announced: usize,
@@ -329,4 +335,13 @@ extern "C" {
         bits: *mut u8,
         bits_len: usize,
     ) -> InPlay;
+
+    pub fn machirsun_build(
+        list: *const u8,
+        list_len: usize,
+        work: *mut u32,
+        work_len: usize,
+        nodes: *mut u32,
+        nodes_len: usize,
+    ) -> Built;
 }

@@ -1,14 +1,16 @@
-//! Machirsun: word graphs loaded, counted, looked up and exported, words read from text, and a record of words in play, over the proved library
-//! `libmachirsun.a`.
+//! Machirsun: word graphs loaded or built from word lists, counted, looked up and exported, words read from text, and a record of words in play,
+//! over the proved library `libmachirsun.a`.
 //!
 //! The calls are those of `include/machirsun.h`, with slices for buffers and [`Refusal`] for the refusals' numbers. Nothing is
 //! allocated here: the caller lends every buffer. Each function only hands its buffers on, and so is inlined.
 
+mod building;
 pub mod ffi;
 mod in_play;
 mod refusal;
 mod typed;
 
+pub use building::build;
 pub use in_play::{arrive, leave, Remaining};
 pub use refusal::Refusal;
 pub use typed::{next_word, read_words, TypedText, TypedWord, TypedWords};

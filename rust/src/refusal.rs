@@ -55,7 +55,7 @@ pub enum Refusal {
     BadLetter,
     /// 24: runs do not ascend.
     NotAscending,
-    /// 25: the file would have too many nodes.
+    /// 25: the file or the graph would have too many nodes.
     TooManyNodes,
     /// 26: a byte of the title or a shown label is outside 20 to 7E hexadecimal.
     NotPrintable,
@@ -69,6 +69,10 @@ pub enum Refusal {
     AlreadyInPlay,
     /// 31: the word is not in play.
     NotInPlay,
+    /// 32: a word of the list has a length that is not 1 to 64 or a tile that is not 1 to 63, or the list ends inside it.
+    BadWord,
+    /// 33: a word of the list is not above the one before it.
+    NotAbove,
     /// A number that this crate does not know: the library linked is a later one.
     Unknown(u32),
 }
@@ -105,6 +109,8 @@ impl Refusal {
             29 => Refusal::NoWord,
             30 => Refusal::AlreadyInPlay,
             31 => Refusal::NotInPlay,
+            32 => Refusal::BadWord,
+            33 => Refusal::NotAbove,
             other => Refusal::Unknown(other),
         }
     }
@@ -152,6 +158,8 @@ impl Refusal {
             Refusal::NoWord => 29,
             Refusal::AlreadyInPlay => 30,
             Refusal::NotInPlay => 31,
+            Refusal::BadWord => 32,
+            Refusal::NotAbove => 33,
             Refusal::Unknown(number) => number,
         }
     }
@@ -194,13 +202,17 @@ impl fmt::Display for Refusal {
             Refusal::ChainTooLong => write!(f, "over 64 runs in a chain"),
             Refusal::BadLetter => write!(f, "a label cannot be written as a letter"),
             Refusal::NotAscending => write!(f, "runs do not ascend"),
-            Refusal::TooManyNodes => write!(f, "the file would have too many nodes"),
+            Refusal::TooManyNodes => write!(f, "the file or the graph would have too many nodes"),
             Refusal::NotPrintable => write!(f, "the title or a shown label is outside 20 to 7E"),
             Refusal::BadLabelLine { line } => write!(f, "line {line} of the label file is bad"),
             Refusal::Unreadable { place } => write!(f, "no label matches at place {place}"),
             Refusal::NoWord => write!(f, "the word is not in the lexicon"),
             Refusal::AlreadyInPlay => write!(f, "the word is in play already"),
             Refusal::NotInPlay => write!(f, "the word is not in play"),
+            Refusal::BadWord => write!(f, "a word of the list has a bad length or a bad tile"),
+            Refusal::NotAbove => {
+                write!(f, "a word of the list is not above the one before it")
+            }
             Refusal::Unknown(number) => write!(f, "refusal {number}"),
         }
     }

@@ -1,4 +1,5 @@
-//! The lexicon that comes with the examples has the words of its list, each with its number, and pages of them; and an evening with its words.
+//! The lexicon that comes with the examples has the words of its list, each with its number, and pages of them; the same built from the list; and an
+//! evening with its words.
 
 use machirsun::*;
 use std::collections::BTreeSet;
@@ -28,22 +29,39 @@ fn tiles(word: &str) -> Vec<u8> {
 
 #[test]
 fn the_bundled_lexicon_is_its_list() {
-    let list: Vec<&str> = LIST.lines().collect();
     let (nodes, counts) = load();
+    is_the_list(&nodes, &counts);
+}
+
+#[test]
+fn the_list_builds_the_lexicon() {
+    let word = |line: &str| [vec![line.len() as u8], tiles(line)].concat();
+    let list: Vec<u8> = LIST.lines().flat_map(word).collect();
+    let mut nodes = vec![0; list.len() + 2];
+    let count = build(&list, &mut vec![0; 8 * list.len() + 64], &mut nodes).unwrap();
+    nodes.truncate(count);
+    let mut counts = vec![0; count];
+    count_words(&nodes, &mut counts, &mut vec![0; 2 * count]).unwrap();
+    is_the_list(&nodes, &counts);
+}
+
+/// Each word of the list has its place there as its number, and the other way round.
+fn is_the_list(nodes: &[u32], counts: &[u32]) {
+    let list: Vec<&str> = LIST.lines().collect();
     let start = nodes[0] >> 8;
     assert_eq!(counts[start as usize] as usize, list.len());
     for (number, word) in (0..).zip(&list) {
         let tiles = tiles(word);
         let mut put = [0; 64];
-        assert_eq!(word_index(&nodes, &counts, start, &tiles), Ok(Some(number)));
+        assert_eq!(word_index(nodes, counts, start, &tiles), Ok(Some(number)));
         assert_eq!(
-            word_by_index(&nodes, &counts, start, number, &mut put),
+            word_by_index(nodes, counts, start, number, &mut put),
             Ok(Some(tiles.len()))
         );
         assert_eq!(put[..tiles.len()], tiles);
     }
     assert_eq!(
-        word_by_index(&nodes, &counts, start, list.len() as u32, &mut [0; 64]),
+        word_by_index(nodes, counts, start, list.len() as u32, &mut [0; 64]),
         Ok(None)
     );
 }

@@ -115,6 +115,10 @@ FIELD(machirsun_in_play, remaining, 8, 4);
 FIELD(machirsun_in_play, lowest, 12, 4);
 WHOLE(machirsun_in_play, 16);
 
+FIELD(machirsun_built, refusal, 0, 4);
+FIELD(machirsun_built, nodes, 4, 4);
+WHOLE(machirsun_built, 8);
+
 /* ---- What is compared ------------------------------------------------------------------------------------------------------------ */
 
 static unsigned compared, differences;
@@ -1013,6 +1017,112 @@ static void refuses_words_in_play(void)
     NOT_PLAYED(MACHIRSUN_NO_WORD, 5, LENT(none), 2, LENT(a), 0);
 }
 
+/* ---- A lexicon from a word list ---------------------------------------------------------------------------------------------------- */
+
+enum { WORK = 8 * 65 + 64, FILL = 0xEE };
+
+static bool is_filled(const uint32_t *list, size_t from, size_t to)
+{
+    size_t i;
+
+    for (i = from; i < to; i++)
+        if (list[i] != FILL)
+            return false;
+    return true;
+}
+
+/* A call with so much of a work list and of a node list lent, both of which are filled before; what is past those parts is compared too, and
+ * of the work list all past its free part. */
+static machirsun_built build(int line, const uint8_t *list, size_t list_len, uint32_t work[WORK], size_t work_len, uint32_t nodes[70],
+                             size_t nodes_len)
+{
+    machirsun_built built;
+    size_t i;
+
+    for (i = 0; i < WORK; i++)
+        work[i] = FILL;
+    for (i = 0; i < 70; i++)
+        nodes[i] = FILL;
+    built = machirsun_build(list, list_len, work, work_len, nodes, nodes_len);
+    compare(is_filled(work, 8 * list_len + 64 < WORK ? 8 * list_len + 64 : WORK, WORK), "the work list past its free part", line);
+    compare(is_filled(nodes, built.nodes, 70), "the nodes past those that are built", line);
+    return built;
+}
+
+/* The list's graph, with lists just long enough and with longer ones. */
+static void same_built(int line, const uint8_t *list, size_t list_len, const uint32_t *expected, size_t count)
+{
+    uint32_t work[WORK], nodes[70];
+    machirsun_built built = build(line, list, list_len, work, 8 * list_len + 64, nodes, count);
+
+    compare(built.refusal == 0 && built.nodes == count && memcmp(nodes, expected, count * sizeof *nodes) == 0, "a graph", line);
+    built = build(line, list, list_len, work, WORK, nodes, 70);
+    compare(built.refusal == 0 && built.nodes == count && memcmp(nodes, expected, count * sizeof *nodes) == 0, "a graph", line);
+    built = build(line, list, list_len, work, WORK, nodes, count - 1);
+    compare(built.refusal == MACHIRSUN_LIST_TOO_SHORT && built.nodes == 0, "too few nodes", line);
+    built = build(line, list, list_len, work, 8 * list_len + 63, nodes, 70);
+    compare(built.refusal == MACHIRSUN_LIST_TOO_SHORT && built.nodes == 0 && is_filled(work, 0, WORK), "a work list too short", line);
+}
+
+#define SAME_BUILT(list, ...) same_built(__LINE__, LENT(list), (__VA_ARGS__), LENGTH((__VA_ARGS__)))
+
+static void builds(void)
+{
+    static const uint8_t of_g[8] = {1, 1, 2, 1, 2, 2, 2, 2}, one[2] = {1, 63}, ends[6] = {2, 1, 9, 2, 2, 9};
+    static const uint8_t in_order[13] = {3, 1, 1, 1, 2, 1, 2, 3, 2, 1, 1, 1, 3};
+    uint8_t longest[65] = {64};
+    uint32_t of_longest[66] = {0x240, 0x40}, i;
+
+    same_built(__LINE__, of_g, 0, (const uint32_t[2]){0x40, 0x40}, 2);
+    same_built(__LINE__, LENT(of_g), LENT(G));
+    SAME_BUILT(one, (const uint32_t[3]){0x240, 0x40, 0xFF});
+    SAME_BUILT(ends, (const uint32_t[5]){0x240, 0x40, 0x401, 0x442, 0xC9});
+
+    /* Below 1 a run of two nodes, and what that leads to before what 2 leads to. */
+    SAME_BUILT(in_order, (const uint32_t[9]){0x240, 0x40, 0x501, 0x802, 0xC3, 0x701, 0xC2, 0xC1, 0x741});
+    for (i = 0; i < 64; i++) {
+        longest[i + 1] = (uint8_t)(i % 63 + 1);
+        of_longest[i + 2] = (i < 63 ? (i + 3) << 8 : 0x80) | 0x40 | longest[i + 1];
+    }
+    same_built(__LINE__, LENT(longest), LENT(of_longest));
+}
+
+/* Refused by this number whatever is lent, and nothing is changed. */
+static void same_unbuilt(int line, uint32_t refusal, const uint8_t *list, size_t list_len)
+{
+    uint32_t work[WORK], nodes[70];
+    machirsun_built built = build(line, list, list_len, work, WORK, nodes, 70);
+
+    compare(built.refusal == refusal && built.nodes == 0 && is_filled(work, 0, WORK), "a refused list", line);
+    built = build(line, list, list_len, work, 0, nodes, 0);
+    compare(built.refusal == refusal && built.nodes == 0 && is_filled(work, 0, WORK), "a refused list", line);
+}
+
+#define UNBUILT(refusal, ...) same_unbuilt(__LINE__, refusal, LENT(((const uint8_t[]){__VA_ARGS__})))
+
+static void refuses_lists(void)
+{
+    uint8_t cut[64] = {64}, over[66] = {65};
+
+    memset(cut + 1, 1, 63);
+    memset(over + 1, 1, 65);
+    same_unbuilt(__LINE__, MACHIRSUN_BAD_WORD, LENT(cut));
+    same_unbuilt(__LINE__, MACHIRSUN_BAD_WORD, LENT(over));
+    UNBUILT(MACHIRSUN_BAD_WORD, 0);
+    UNBUILT(MACHIRSUN_BAD_WORD, 1);
+    UNBUILT(MACHIRSUN_BAD_WORD, 1, 0);
+    UNBUILT(MACHIRSUN_BAD_WORD, 1, 64);
+    UNBUILT(MACHIRSUN_BAD_WORD, 2, 1, 255);
+    UNBUILT(MACHIRSUN_NOT_ABOVE, 1, 1, 1, 1);
+    UNBUILT(MACHIRSUN_NOT_ABOVE, 1, 2, 1, 1);
+    UNBUILT(MACHIRSUN_NOT_ABOVE, 2, 1, 1, 1, 1);
+
+    /* The first word with a fault decides, and in one word 32. */
+    UNBUILT(MACHIRSUN_NOT_ABOVE, 1, 2, 1, 1, 0);
+    UNBUILT(MACHIRSUN_BAD_WORD, 1, 2, 0, 1, 1);
+    UNBUILT(MACHIRSUN_BAD_WORD, 1, 2, 2, 1, 0);
+}
+
 int main(void)
 {
     begins();
@@ -1040,6 +1150,8 @@ int main(void)
     words_of_g_in_play();
     words_in_play_over_bytes();
     refuses_words_in_play();
+    builds();
+    refuses_lists();
     printf("calls from C: %u compared, %u differences\n", compared, differences);
     return differences == 0 ? 0 : 1;
 }
