@@ -1,5 +1,6 @@
 // The families of calls. A new family is a module and a line in FAMILIES.
 
+mod built;
 pub mod graphs;
 mod labels;
 pub mod layout;
@@ -68,6 +69,7 @@ const FAMILIES: &[Family] = &[
     lxd::FAMILY,
     pages::FAMILY,
     typed::FAMILY,
+    built::FAMILY,
 ];
 
 pub fn find_list(name: &str) -> Option<&'static Family> {

@@ -582,6 +582,48 @@ fn the_evenings_are_the_same_each_time_and_fully_answered() {
 }
 
 #[test]
+fn a_word_list_is_built() {
+    // None; 1, 1 2 and 2 2; and 1 2 and 2 2 1, whose runs are met one after the other.
+    for (list, work, nodes) in [
+        ("", 64, "64 64"),
+        ("1 1 2 1 2 2 2 2", 128, "576 64 1153 1090 194"),
+        ("2 1 2 3 2 2 1", 120, "576 64 1025 1346 194 1602 193"),
+    ] {
+        let (len, count) = (list.split_whitespace().count(), nodes.split(' ').count());
+        let request = format!("19 {work} {count} {len} {list}");
+        let answer = format!("0 {count} {nodes}");
+        let expected = case(19, &format!("{work} {count}"), list, &answer);
+        assert_eq!(
+            answers(&(request.trim_end().to_string() + "\n")).0,
+            expected
+        );
+    }
+}
+
+#[test]
+fn a_refused_word_list_says_why() {
+    for (lent, list, refusal) in [
+        // A length, a tile, a cut word, and the first of two bad words.
+        ("0 0", "0", 32),
+        ("0 0", "1 64", 32),
+        ("0 0", "1 1 2 2", 32),
+        ("0 0", "1 2 1 1 0", 33),
+        ("0 0", "1 2 0 1 1", 32),
+        // Words that are equal, and in the wrong order.
+        ("0 0", "1 1 1 1", 33),
+        ("0 0", "2 1 1 1 1", 33),
+        // Too few numbers; too few nodes.
+        ("79 9", "1 1", 11),
+        ("80 2", "1 1", 11),
+    ] {
+        let len = list.split(' ').count();
+        let request = format!("19 {lent} {len} {list}\n");
+        let expected = case(19, lent, list, &format!("{refusal} 0"));
+        assert_eq!(answers(&request).0, expected);
+    }
+}
+
+#[test]
 fn what_an_alphabet_or_a_text_cannot_hold_is_not_asked() {
     let graph = "5 576 64 1153 1090 194";
     for request in [
@@ -619,6 +661,8 @@ fn an_unreadable_request_stops_the_run() {
         "1 0 00",
         "",
         "4 0 1 5 1",
+        "19 4097 2 0",
+        "19 64 513 0",
     ] {
         let output = oracle(&["answers"], &format!("# first\n{request}\n"));
         assert!(!output.status.success(), "{request:?} is answered");
@@ -630,6 +674,7 @@ fn an_unreadable_request_stops_the_run() {
 fn the_lists_are_the_same_each_time_and_fully_answered() {
     let asked = [
         "requests", "nodes", "loading", "numbers", "letters", "macondo", "lxd", "pages", "typed",
+        "built",
     ];
     let requests = text(oracle(&asked, "").stdout);
     assert_eq!(requests, text(oracle(&asked, "").stdout));

@@ -25,8 +25,9 @@ pub const NOT_PRINTABLE: u64 = 26;
 pub const NO_ROOM: u64 = 16;
 pub const BAD_LABEL_LINE: u64 = 27;
 pub const UNREADABLE: u64 = 28;
-// Of a word that comes into play or leaves it: the record has too few bits; a start,
-// a node or a count is not lent; a difference is below 0 or a sum too great; there is
+// Of a word that comes into play or leaves it: the record has too few bits (as a work
+// list has too few numbers, or a node list too few nodes); a start, a node or a count
+// is not lent; a difference is below 0 or a sum too great; there is
 // no such word; it is in play already; it is not in play.
 pub const TOO_SHORT: u64 = 11;
 pub const NOT_LENT: u64 = 14;
@@ -34,6 +35,10 @@ pub const OUT_OF_RANGE: u64 = 15;
 pub const NO_WORD: u64 = 29;
 pub const ALREADY_IN_PLAY: u64 = 30;
 pub const NOT_IN_PLAY: u64 = 31;
+// Of a word list: a word has a bad length or a bad tile, or is cut; a word is not above
+// the one before it.
+pub const BAD_WORD: u64 = 32;
+pub const NOT_ABOVE: u64 = 33;
 
 // Of a lookup: whether there is such a word or node; where there is not, the
 // whole answer.
