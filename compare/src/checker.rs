@@ -1,6 +1,7 @@
 //! One method a call: lends patterned buffers, asks the engine, 01 and, in the comparison's domain, the Rust, and hands all three to the
 //! report.
 
+mod building;
 mod files;
 mod in_play;
 mod loading;
@@ -10,6 +11,7 @@ mod sets;
 mod typed;
 mod whole_texts;
 
+pub use building::Building;
 pub use files::Fit;
 pub use in_play::Playing;
 pub use numbers::Counting;
@@ -88,6 +90,7 @@ pub struct Checker {
     counting: Counting,
     reading: Reading,
     playing: Playing,
+    building: Building,
 }
 
 impl Checker {
@@ -100,6 +103,7 @@ impl Checker {
             counting: Box::new(engine::count_words),
             reading: Reading::default(),
             playing: Box::new(engine::in_play),
+            building: Box::new(engine::build),
         }
     }
 
@@ -131,6 +135,14 @@ impl Checker {
     pub fn playing(seed: u64, playing: Playing) -> Self {
         Self {
             playing,
+            ..Self::new(seed)
+        }
+    }
+
+    /// For the tests: a checker of an engine that builds in its own way.
+    pub fn building(seed: u64, building: Building) -> Self {
+        Self {
+            building,
             ..Self::new(seed)
         }
     }

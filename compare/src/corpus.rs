@@ -2,6 +2,8 @@
 
 mod all_calls;
 mod big;
+pub mod building;
+pub mod building_limits;
 mod code_points;
 pub mod evenings;
 mod headers;
@@ -63,4 +65,6 @@ pub fn run(checker: &mut Checker, size: Size, seed: u64) {
     code_points::run(checker, size);
     play_limits::run(checker, size, &mut random());
     evenings::run(checker, size, &mut random());
+    building::run(checker, size, &mut random());
+    building_limits::run(checker, size);
 }

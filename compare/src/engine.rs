@@ -1,9 +1,11 @@
 //! The calls of the static library, each with its answer in the common form. Each pointer and its length come from one slice, and written
 //! buffers from `&mut` slices, so that each `unsafe` block keeps what the header asks for.
 
+mod building;
 mod in_play;
 mod typed;
 
+pub use building::build;
 pub use in_play::in_play;
 pub use typed::{next_word, read_words};
 

@@ -19,3 +19,4 @@ pub mod report;
 pub mod rust_side;
 #[path = "../../oracle/src/windows1252.rs"]
 pub mod windows1252;
+pub mod word_lists;

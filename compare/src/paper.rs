@@ -2,6 +2,7 @@
 //! buffers, by the paper's words and not by the engine's code or the Rust's. Written to be plainly right; how long it takes hardly matters.
 
 pub mod alpha;
+pub mod building;
 pub mod counting;
 pub mod in_play;
 pub mod loading;

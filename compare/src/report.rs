@@ -27,11 +27,12 @@ pub enum Call {
     ReadWords,
     Arrive,
     Leave,
+    Build,
 }
 
 use Call::*;
 
-pub const CALLS: [Call; 21] = [
+pub const CALLS: [Call; 22] = [
     Begin,
     Feed,
     Finish,
@@ -53,9 +54,10 @@ pub const CALLS: [Call; 21] = [
     ReadWords,
     Arrive,
     Leave,
+    Build,
 ];
 
-#[derive(Clone, Copy, Default)]
+#[derive(Clone, Copy)]
 pub struct Line {
     pub calls: u64,
     /// Of these: compared with the Rust's answer as well as with 01's.
@@ -65,8 +67,8 @@ pub struct Line {
     pub refusals: [u64; REFUSALS],
 }
 
-/// 0, and the refusals 1 to 31.
-pub const REFUSALS: usize = 32;
+/// 0, and the refusals 1 to 33.
+pub const REFUSALS: usize = 34;
 
 /// Where the engine and what it is held to differ.
 pub struct Difference {
@@ -75,6 +77,17 @@ pub struct Difference {
     pub input: String,
     pub expected: String,
     pub got: String,
+}
+
+impl Default for Line {
+    fn default() -> Self {
+        Self {
+            calls: 0,
+            with_rust: 0,
+            differences: 0,
+            refusals: [0; REFUSALS],
+        }
+    }
 }
 
 impl Line {

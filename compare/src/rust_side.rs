@@ -5,6 +5,7 @@
 //! none is to be expected where it is asked, it comes out as the refusal `PANICKED`, which no other answer equals. It is left out where
 //! `get_word_index` reads a count that is not lent for a tile that is not found.
 
+pub mod building;
 pub mod in_play;
 pub mod typed;
 

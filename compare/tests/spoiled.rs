@@ -99,6 +99,7 @@ fn changes(call: Call) -> Vec<Change> {
         Call::NextWord => (&[Value, Flag, Bad, Start, End, After], 1),
         Call::ReadWords => (&[Value, Flag, Bad, Words, After], 2),
         Call::Arrive | Call::Leave => (&[Value, Flag, Remaining], 3),
+        Call::Build => (&[Value], 3),
     };
     let places = [FIRST, LAST, GUARD_BEFORE, GUARD_AFTER];
     let entries = (0..buffers).flat_map(|buffer| places.map(|place| Entry(buffer, place)));

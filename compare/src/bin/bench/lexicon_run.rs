@@ -1,6 +1,7 @@
 //! Every call on a lexicon of 200,000 made-up words, beside the Rust's.
 
 use crate::bench::Bench;
+use crate::building;
 use compare::lexicon::{self, Words};
 use compare::random::Random;
 use machirsun::Format;
@@ -30,6 +31,7 @@ pub fn print() {
     bench.numbers_to_words(&words);
     bench.pages(&mut Random::new(23));
     bench.in_play(&mut Random::new(17), &words);
+    building::print_row(&words);
     bench.seek_along("`seek`, along all words", &words, 1);
     bench.seek_anywhere(&mut random);
     let few: Words = words.iter().step_by(WORDS / FEW).cloned().collect();

@@ -1,8 +1,9 @@
-//! Times the engine and the Rust it is ported from on the same lexicon and the same text, in turns, and the engine alone on graphs and texts that
-//! are made to be slow.
+//! Times the engine and the Rust it is ported from on the same lexicon and the same text, in turns, and the engine alone on graphs, texts and word
+//! lists that are made to be slow.
 
 mod behind_a_call;
 mod bench;
+mod building;
 mod clock;
 mod files;
 mod hostile;
@@ -21,4 +22,5 @@ fn main() {
     println!();
     typed::print_hostile();
     in_play::print_hostile();
+    building::print_hostile();
 }
