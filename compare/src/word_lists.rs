@@ -152,7 +152,9 @@ fn four_digits(number: usize) -> [u8; 4] {
 // whole number at the end has its node for each word, and is not counted here.
 fn new_at_ends(number: usize) -> usize {
     let base = usize::from(TILES);
-    let beginnings = (0..4).filter(|&more| number % base.pow(more) == 0).count();
+    let beginnings = (0..4)
+        .filter(|&more| number.is_multiple_of(base.pow(more)))
+        .count();
     let ends = (1..4).filter(|&len| number < base.pow(len)).count();
     beginnings + ends
 }

@@ -50,16 +50,18 @@ impl Checker {
         (is_built && got.answer.refusal == 0).then_some(built)
     }
 
-    /// With a work list and a node list that are just long enough.
-    pub fn build_just(&mut self, list: &[u8]) -> Option<Vec<u32>> {
+    /// With a work list and a node list that are just long enough; then the other calls on what was built.
+    pub fn build_and_read(&mut self, list: &[u8]) {
         let work_len = building::work_for(list.len());
         let (_, graph) = building::build(list, work_len, usize::MAX);
-        self.build(list, work_len, graph.len())
+        if let Some(nodes) = self.build(list, work_len, graph.len()) {
+            self.built_is_the_list(list, nodes);
+        }
     }
 
-    /// "It must load, and count ..; its words from the root must be the list": by the calls of the engine, and with places in the list as the
-    /// words' numbers. "runs take consecutive places when first met, as in LXD": an LXD file of the graph keeps its nodes' numbers.
-    pub fn built_is_the_list(&mut self, list: &[u8], nodes: Vec<u32>) {
+    // "It must load, and count ..; its words from the root must be the list": by the calls of the engine, and with places in the list as the
+    // words' numbers. "runs take consecutive places when first met, as in LXD": an LXD file of the graph keeps its nodes' numbers.
+    fn built_is_the_list(&mut self, list: &[u8], nodes: Vec<u32>) {
         let listed = building::words(list).expect("a graph was built");
         let graph = Graph::new(nodes);
         let start = graph.nodes.first().map_or(0, |node| node >> 8);
@@ -142,10 +144,12 @@ impl Checker {
     }
 }
 
-// A letter for each tile: its number, 80 to 9F hexadecimal not among them.
+// The letter of tile 0, and after it of every other: the last 64 code points that are their own bytes.
+const FIRST_LETTER: u32 = 0xc0;
+
 fn texts() -> LxdTexts {
     LxdTexts {
-        labels: (0..64).collect(),
+        labels: (FIRST_LETTER..).take(64).collect(),
         title: Vec::new(),
         date: Vec::new(),
     }
@@ -155,7 +159,7 @@ fn lxd_node(word: u32) -> u32 {
     let node = kbwg(word);
     u32::from(node.end) << 31
         | u32::from(node.accepts) << 30
-        | u32::from(node.tile) << 22
+        | (FIRST_LETTER + u32::from(node.tile)) << 22
         | node.arc
 }
 

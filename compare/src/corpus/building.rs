@@ -6,7 +6,7 @@ use super::thinned::Thinned;
 use super::typed::nth;
 use crate::checker::Checker;
 use crate::lexicon::{Words, made_up_words};
-use crate::paper::building::work_for;
+use crate::paper::building::{build, work_for};
 use crate::random::Random;
 use crate::word_lists::*;
 
@@ -22,13 +22,6 @@ pub fn run(checker: &mut Checker, size: Size, random: &mut Random) {
     for &count in size.of(&[40][..], &[300, 5_000], &[300, 20_000, 200_000]) {
         let words = made_up_words(random, count);
         whole_list(checker, random, &words);
-    }
-}
-
-/// The list, into buffers just long enough; and what the other calls say of the graph.
-fn whole(checker: &mut Checker, list: &[u8]) {
-    if let Some(nodes) = checker.build_just(list) {
-        checker.built_is_the_list(list, nodes);
     }
 }
 
@@ -48,7 +41,7 @@ fn small_sets(calls: &mut Thinned) {
         if let Some(checker) = calls.asked() {
             let chosen = (0..words.len()).filter(|at| set >> at & 1 == 1);
             let chosen: Words = chosen.map(|at| words[at].clone()).collect();
-            whole(checker, &list_of(&chosen));
+            checker.build_and_read(&list_of(&chosen));
         }
     }
 }
@@ -58,15 +51,15 @@ const BYTES: [u8; 8] = [0, 1, 2, 3, 63, 64, 65, 255];
 
 fn short_strings(checker: &mut Checker, size: Size) {
     for len in 0..=size.of(4, 5, 6) {
+        let one_in = match len {
+            0..5 => size.of(7, 1, 1),
+            _ => size.of(7, 7, 1),
+        };
         let mut calls = Thinned::new(checker);
-        calls.one_in(if len < 5 {
-            size.of(7, 1, 1)
-        } else {
-            size.of(1, 7, 1)
-        });
+        calls.one_in(one_in);
         for number in 0..BYTES.len().pow(len) {
             if let Some(checker) = calls.asked() {
-                whole(checker, &nth(&BYTES, len, number));
+                checker.build_and_read(&nth(&BYTES, len, number));
             }
         }
     }
@@ -81,7 +74,7 @@ fn random_lists(checker: &mut Checker, random: &mut Random) {
     let shortest = random.pick(&[1, 1, 1, longest]);
     let words = random_words(random, count, (shortest, longest), greatest);
     let list = list_of(&words);
-    whole(checker, &list);
+    checker.build_and_read(&list);
     around(checker, &list);
     for _ in 0..4 {
         let damaged = damaged(random, words.clone());
@@ -91,12 +84,13 @@ fn random_lists(checker: &mut Checker, random: &mut Random) {
 
 // Both buffers of about the right length.
 fn around(checker: &mut Checker, list: &[u8]) {
-    let (_, graph) = crate::paper::building::build(list, usize::MAX, usize::MAX);
+    let (_, graph) = build(list, usize::MAX, usize::MAX);
     let work_len = checker.around(work_for(list.len()));
     let nodes_len = checker.around(graph.len());
     checker.build(list, work_len, nodes_len);
 }
 
+// Bytes that are tiles or lengths, and bytes that are not.
 const FAULTY: [u8; 8] = [0, 1, 2, 62, 63, 64, 65, 255];
 
 fn damaged(random: &mut Random, words: Words) -> Vec<u8> {
@@ -139,10 +133,10 @@ fn other_bytes(random: &mut Random, mut list: Vec<u8>) -> Vec<u8> {
 // A list of words, whole and without one of them, and with its last byte lost.
 fn whole_list(checker: &mut Checker, random: &mut Random, words: &Words) {
     let list = list_of(words);
-    whole(checker, &list);
+    checker.build_and_read(&list);
     around(checker, &list[..list.len() - 1]);
     let mut fewer = words.clone();
-    fewer.remove(random.within(0, words.len() as u64) as usize);
+    fewer.remove(place(random, words.len()));
     around(checker, &list_of(&fewer));
 }
 
@@ -153,6 +147,7 @@ fn hard_lists(random: &mut Random, size: Size) -> Vec<Words> {
         one_end(count),
         every_word_of_three(size.of(70, 4_500, 63 * 63 * 63)),
         all_beginnings(random, size.of(3, 30, 400)),
+        // One run of 63 nodes, and runs of 63 one below the other.
         every_word_of_three(63),
         wide_runs(size.of(3, 64, 64), 1),
         wide_runs(size.of(3, 64, 64), 31),

@@ -170,7 +170,7 @@ pub fn build(list: &[u8], work: &mut [u32], nodes: &mut [u32], slip: Slip) -> An
         (None, Ok(words)) => words,
         (refusal, _) => return before_building(refusal.unwrap_or(11), work, nodes, slip),
     };
-    change(work, slip);
+    change(work, list.len(), slip);
     lose(&mut words, slip);
     let (graph, runs) = graph_of(&words, slip);
     let short = match slip {
@@ -183,9 +183,8 @@ pub fn build(list: &[u8], work: &mut [u32], nodes: &mut [u32], slip: Slip) -> An
     }
     let fitting = graph.len().min(nodes.len());
     nodes[..fitting].copy_from_slice(&graph[..fitting]);
-    if let Some(past) = nodes
-        .get_mut(graph.len())
-        .filter(|_| slip == NodePastWritten)
+    if slip == NodePastWritten
+        && let Some(past) = nodes.get_mut(graph.len())
     {
         *past = 0;
     }
@@ -202,16 +201,15 @@ fn before_building(refusal: u32, work: &mut [u32], nodes: &mut [u32], slip: Slip
         WorkChangedByItsOwn => refusal == 11,
         _ => false,
     };
-    work.iter_mut()
-        .take(1)
-        .filter(|_| changed)
-        .for_each(|number| *number ^= 1);
-    let written = slip == NodeBeforeRefusal && refusal == 33;
-    nodes
-        .iter_mut()
-        .take(1)
-        .filter(|_| written)
-        .for_each(|node| *node ^= 1);
+    if changed && let Some(number) = work.first_mut() {
+        *number ^= 1;
+    }
+    if slip == NodeBeforeRefusal
+        && refusal == 33
+        && let Some(node) = nodes.first_mut()
+    {
+        *node ^= 1;
+    }
     Answer::refused(match (slip, refusal) {
         (RefusalsTurnedRound, 32) => 33,
         (RefusalsTurnedRound, 33) => 32,
@@ -245,10 +243,11 @@ fn needed(bytes: usize, slip: Slip) -> usize {
     }
 }
 
-// The free part of the work list, and one number past it where that is the slip.
-fn change(work: &mut [u32], slip: Slip) {
-    let past = work.iter_mut().rev().take(1);
-    past.filter(|_| slip == WorkPastFreeChanged)
+// The free part of the work list, and the number after it where that is the slip.
+fn change(work: &mut [u32], bytes: usize, slip: Slip) {
+    let changed = 8 * bytes + 64 + usize::from(slip == WorkPastFreeChanged);
+    work.iter_mut()
+        .take(changed)
         .for_each(|number| *number ^= 1);
 }
 
