@@ -9,3 +9,4 @@ pub mod StateLaws
 pub mod FlatPages
 pub mod FlatTyped
 pub mod FlatPlays
+pub mod FlatBuilds

@@ -1,4 +1,5 @@
 // Flat answers: what a call of the engine answers, as a struct of numbers for the C interface, and each number read back.
+mod building;
 mod counting;
 mod files;
 mod loading;
@@ -8,6 +9,8 @@ mod playing;
 mod sets;
 mod typing;
 
+pub use building::FlatBuilt;
+pub use building::flat_built;
 pub use counting::FlatCounted;
 pub use counting::flat_counted;
 pub use files::FlatFile;

@@ -1,4 +1,5 @@
 // The engine for programs in C, and in languages that call C. Every answer is flat: the number of the refusal, or 0, and then its values.
+mod building;
 mod counting;
 mod files;
 mod loading;
@@ -9,6 +10,7 @@ mod sets;
 mod typing;
 
 // The calls that the crates `replay` and `evening_cases` make. Every `extern "C"` function is in the static library.
+pub use building::machirsun_build;
 pub use counting::machirsun_count_words;
 pub use files::machirsun_to_lxd;
 pub use files::machirsun_to_macondo;

@@ -7,5 +7,7 @@ pub mod CountLaws
 pub mod SetLaws
 pub mod FileLaws
 pub mod PageLaws
+pub mod RoomLaws
 pub mod TypedLaws
+pub mod BuildLaws
 pub mod VerdictLaws

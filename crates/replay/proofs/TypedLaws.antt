@@ -3,7 +3,7 @@
 use mathlib.Core.Path.{_≡_, refl, sym, ap, ap₂, _∙_}
 use mathlib.Core.List.{List, [], _∷_, _++_, append-assoc}
 use mathlib.Core.Option.{some}
-use Prim.Native.Nat.{ℕ, zero, suc, _-_, _≤_, _<_, min}
+use Prim.Native.Nat.{ℕ, zero, suc, _-_, _<_, min}
 use native.Mathlib.Omega.{arith}
 use borrow.Author.Tests.{ne-eqb}
 use lib.Dec.{ltb}
@@ -30,6 +30,7 @@ use Rattle.flat.specs.declared.typing.FlatTypedList.{FlatTypedList}
 use Rattle.replay.specs.Lookups.{unmarked}
 use Rattle.replay.specs.Typed.{typedFields, typedListFields, typedWalk, typedReplyIn, typedReply, typedBatch, typedListReplyIn, typedListReply}
 use Rattle.replay.proofs.TileLaws.{put-are}
+use Rattle.replay.proofs.RoomLaws.{take-same, lent-size}
 
 -- ---- tiles are those of labels
 module _ (file line : List ℕ) (start : ℕ) where
@@ -76,14 +77,6 @@ module _ (file text : List ℕ) (room at : ℕ) where
   next-tiles = split-option (badLine 1 (lines file)) (λ e. rw e place-tiles) (λ n e. rw e tt)
 
 -- ---- one word
-take-same : (k n a : ℕ) → k ≤ n → take k (replicate n a) ≡ replicate k a
-take-same zero n a h = refl
-take-same (suc k) zero a h = absurd (omega arith)
-take-same (suc k) (suc n) a h = ap (a ∷_) (take-same k n a (omega arith))
-
-pub lent-size : (k n a : ℕ) → k ≤ n → length (take k (replicate n a)) ≡ k
-lent-size k n a h = rw (take-same k n a h) (length-replicate k a)
-
 -- a word of marks is lent, of as many as the case asks for
 module _ (ws bs : List ℕ) where
   walk-tiles : (room : ℕ) → Tiles (typedWalk ws bs room .0)

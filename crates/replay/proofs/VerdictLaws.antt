@@ -30,8 +30,8 @@ counts-as {ws} {bs} {stored} e (replied {a} {counts} c) =
 pub low-call : (wr br call : ℕ) (case : List ℕ) → call < 1 → Judged wr br call case Verdict.Malformed
 low-call wr br call case h = no-call (rw (lt-leb 1 call h))
 
-pub high-call : (wr br call : ℕ) (case : List ℕ) → 1 ≤ call → 18 < call → Judged wr br call case Verdict.Malformed
-high-call wr br call case l h = no-call (rw (le-leb 1 call l, lt-leb call 18 h))
+pub high-call : (wr br call : ℕ) (case : List ℕ) → 1 ≤ call → 19 < call → Judged wr br call case Verdict.Malformed
+high-call wr br call case l h = no-call (rw (le-leb 1 call l, lt-leb call 19 h))
 
 -- what was copied, of a lent list
 pub copied-front : (lent : List ℕ) (o : Option (List ℕ)) (l : List ℕ) (n : ℕ) (after : List ℕ)
@@ -69,12 +69,12 @@ module _ (wr br call : ℕ) (case : List ℕ) where
 up : {n : ℕ} (k : ℕ) → k ≤ n → (n ≡ k → ⊥) → k + 1 ≤ n
 up {n} k h other = split (ltb k n) (λ t. let l = ltb-true k n t in omega arith) (λ t. let l = ltb-false k n t in absurd (other (omega arith)))
 
-pub last-call : (n : ℕ) → 1 ≤ n → n ≤ 18 → (n ≡ 4 → ⊥) → (n ≡ 1 → ⊥) → (n ≡ 2 → ⊥) → (n ≡ 3 → ⊥) → (n ≡ 5 → ⊥) → (n ≡ 6 → ⊥) → (n ≡ 7 → ⊥)
+pub last-call : (n : ℕ) → 1 ≤ n → n ≤ 19 → (n ≡ 4 → ⊥) → (n ≡ 1 → ⊥) → (n ≡ 2 → ⊥) → (n ≡ 3 → ⊥) → (n ≡ 5 → ⊥) → (n ≡ 6 → ⊥) → (n ≡ 7 → ⊥)
     → (n ≡ 8 → ⊥) → (n ≡ 9 → ⊥) → (n ≡ 10 → ⊥) → (n ≡ 11 → ⊥) → (n ≡ 12 → ⊥) → (n ≡ 13 → ⊥) → (n ≡ 14 → ⊥) → (n ≡ 15 → ⊥)
-    → (n ≡ 16 → ⊥) → (n ≡ 17 → ⊥) → n ≡ 18
-last-call n low high d a b c e f g h i j k l m o q r s =
+    → (n ≡ 16 → ⊥) → (n ≡ 17 → ⊥) → (n ≡ 18 → ⊥) → n ≡ 19
+last-call n low high d a b c e f g h i j k l m o q r s t =
     let past4 = up 4 (up 3 (up 2 (up 1 low a) b) c) d in
     let past9 = up 9 (up 8 (up 7 (up 6 (up 5 past4 e) f) g) h) i in
     let past14 = up 14 (up 13 (up 12 (up 11 (up 10 past9 j) k) l) m) o in
-    let past17 = up 17 (up 16 (up 15 past14 q) r) s in
+    let past18 = up 18 (up 17 (up 16 (up 15 past14 q) r) s) t in
     omega arith

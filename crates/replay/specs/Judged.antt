@@ -19,6 +19,7 @@ use Rattle.replay.specs.Sets.{bitsReply, acceptsReply, crossReply}
 use Rattle.replay.specs.Files.{macondoReply, lxdReply}
 use Rattle.replay.specs.Pages.{pageReply}
 use Rattle.replay.specs.Typed.{typedReply, typedListReply}
+use Rattle.replay.specs.Builds.{buildReply}
 
 -- ---- what a case holds: its inputs, a list of words and a list of bytes, and the stored answer
 pub record Read : Type 0 where
@@ -58,13 +59,14 @@ pub data Reply (ws bs : List ℕ) : ℕ → List ℕ → Type 0 where
   pages : Reply ws bs 16 (pageReply ws bs (replicate 960 0))
   next-word : Reply ws bs 17 (typedReply ws bs)
   read-words : Reply ws bs 18 (typedListReply ws bs)
+  build : Reply ws bs 19 (buildReply ws bs)
 
 -- whether the stored answer is a reply of the call
 pub data Replied (ws bs : List ℕ) (call : ℕ) (stored : List ℕ) : Bool → Type 0 where
   by : {a : List ℕ} → Reply ws bs call a → Replied ws bs call stored (same stored a)
 
 pub data Judged (wordRoom byteRoom call : ℕ) (case : List ℕ) : Verdict → Type 0 where
-  no-call : leb 1 call && leb call 18 ≡ false → Judged wordRoom byteRoom call case Verdict.Malformed
+  no-call : leb 1 call && leb call 19 ≡ false → Judged wordRoom byteRoom call case Verdict.Malformed
   unread : readCase wordRoom byteRoom case ≡ none → Judged wordRoom byteRoom call case Verdict.Malformed
   compared : {r : Read} {b : Bool} → readCase wordRoom byteRoom case ≡ some r → Replied (r .words) (r .bytes) call (r .answer) b
       → Judged wordRoom byteRoom call case (verdictOf b)

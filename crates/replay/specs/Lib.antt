@@ -6,4 +6,5 @@ pub mod Sets
 pub mod Files
 pub mod Pages
 pub mod Typed
+pub mod Builds
 pub mod Judged

@@ -25,7 +25,7 @@ const TILE_ROOM: usize = 64;
 const SIZE_ROOM: usize = 16;
 
 // The room that a case asks for, or the most.
-fn room_of(asked: u32, most: usize) -> usize
+pub(crate) fn room_of(asked: u32, most: usize) -> usize
     ensures { λ r. ⌜ r ≡ min asked most ⌝ }
 {
     let asked = asked as usize;

@@ -1,4 +1,5 @@
 // The verdict on a case: its inputs are read, its call is made, and the answer compared.
+use crate::building;
 use crate::counts;
 use crate::files;
 use crate::loads;
@@ -35,7 +36,7 @@ fn judge_lent(call: u64, case: &[u64], words: &mut [u32], bytes: &mut [u8]) -> V
     if call < 1 {
         return Verdict::Malformed;
     }
-    if 18 < call {
+    if 19 < call {
         return Verdict::Malformed;
     }
     let Count::Are(word_count) = words_in(case, words) else {
@@ -58,7 +59,7 @@ fn after_list(case: &[u64], count: usize) -> &[u64]
 
 // The bytes are the first so many.
 fn replies(call: u64, stored: &[u64], words: &[u32], bytes: &mut [u8], count: usize) -> bool
-    requires { ⌜ (1 ≤ call) × (call ≤ 18) ⌝ }
+    requires { ⌜ (1 ≤ call) × (call ≤ 19) ⌝ }
     ensures { λ r. ⌜ Replied (now (words .entry)) (take count (now (bytes .entry))) call (now (stored .entry)) r ⌝ }
 {
     if call == 4 {
@@ -68,7 +69,7 @@ fn replies(call: u64, stored: &[u64], words: &[u32], bytes: &mut [u8], count: us
 }
 
 fn replies_to(call: u64, stored: &[u64], words: &[u32], bytes: &[u8]) -> bool
-    requires { ⌜ (1 ≤ call) × (call ≤ 18) × (call ≡ 4 → ⊥) ⌝ }
+    requires { ⌜ (1 ≤ call) × (call ≤ 19) × (call ≡ 4 → ⊥) ⌝ }
     ensures { λ r. ⌜ Replied (now (words .entry)) (now (bytes .entry)) call (now (stored .entry)) r ⌝ }
 {
     match call {
@@ -88,6 +89,7 @@ fn replies_to(call: u64, stored: &[u64], words: &[u32], bytes: &[u8]) -> bool
         15 => files::to_lxd(stored, words),
         16 => pages::write_page(stored, words, bytes),
         17 => typing::next_word(stored, words, bytes),
-        _ => typing::read_words(stored, words, bytes),
+        18 => typing::read_words(stored, words, bytes),
+        _ => building::build(stored, words, bytes),
     }
 }

@@ -125,4 +125,5 @@ fn print_calls(cases: [u64; CALLS]) {
     print_cases(b"pages: ", cases[16]);
     print_cases(b"words typed: ", cases[17]);
     print_cases(b"lists of words typed: ", cases[18]);
+    print_cases(b"lexicons built: ", cases[19]);
 }

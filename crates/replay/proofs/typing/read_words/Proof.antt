@@ -4,7 +4,8 @@ use Prim.Native.Nat.{min}
 use native.Mathlib.Omega.{arith}
 use lib.ListN.{getD}
 use Rattle.stored.specs.Answers.{same}
-use Rattle.replay.proofs.TypedLaws.{lent-size, list-reply}
+use Rattle.replay.proofs.RoomLaws.{lent-size}
+use Rattle.replay.proofs.TypedLaws.{list-reply}
 use borrow.Author.Needs.{needs}
 use Rattle.replay.proofs.typing.read_words.Statement.{statement}
 use Rattle.replay.proofs.typing.read_words.Tie as tie

@@ -56,6 +56,9 @@ next-word-requires c κs = search needs
 read-words-requires : tie.Need-read-words-requires
 read-words-requires c κs = search needs
 
+build-requires : tie.Need-build-requires
+build-requires c κs = search needs
+
 returns : tie.Need-returns
 returns c = replies-as 1 (c .before .match .keys1) R.node-fields (c .node-fields .ensures)
 
@@ -105,18 +108,20 @@ returns-16 : tie.Need-returns-16
 returns-16 c = replies-as 17 (c .before .match .keys16) R.next-word (c .next-word .ensures)
 
 returns-17 : tie.Need-returns-17
-returns-17 c =
+returns-17 c = replies-as 18 (c .before .match .keys17) R.read-words (c .read-words .ensures)
+
+returns-18 : tie.Need-returns-18
+returns-18 c =
     let start = c .before .before .before .before .before in
     let rest = c .before .match .rest in
     let asked = start .pre in
     let is = last-call (start .args .call) (asked .0) (asked .1) (asked .2)
-    (rest .0 .0 .0 .0 .0 .0 .0 .0 .0 .0 .0 .0 .0 .0 .0 .1) (rest .0 .0 .0 .0 .0 .0 .0 .0 .0 .0 .0 .0 .0 .0 .1) (rest .0 .0 .0 .0 .0 .0 .0 .0 .0 .0 .0 .0 .0 .1)
-    (rest .0 .0 .0 .0 .0 .0 .0 .0 .0 .0 .0 .0 .1) (rest .0 .0 .0 .0 .0 .0 .0 .0 .0 .0 .0 .1) (rest .0 .0 .0 .0 .0 .0 .0 .0 .0 .0 .1)
-    (rest .0 .0 .0 .0 .0 .0 .0 .0 .0 .1) (rest .0 .0 .0 .0 .0 .0 .0 .0 .1) (rest .0 .0 .0 .0 .0 .0 .0 .1)
-    (rest .0 .0 .0 .0 .0 .0 .1) (rest .0 .0 .0 .0 .0 .1) (rest .0 .0 .0 .0 .1)
-    (rest .0 .0 .0 .1) (rest .0 .0 .1) (rest .0 .1)
-    (rest .1) in
-    replies-as 18 is R.read-words (c .read-words .ensures)
+    (rest .0 .0 .0 .0 .0 .0 .0 .0 .0 .0 .0 .0 .0 .0 .0 .0 .1) (rest .0 .0 .0 .0 .0 .0 .0 .0 .0 .0 .0 .0 .0 .0 .0 .1)
+    (rest .0 .0 .0 .0 .0 .0 .0 .0 .0 .0 .0 .0 .0 .0 .1) (rest .0 .0 .0 .0 .0 .0 .0 .0 .0 .0 .0 .0 .0 .1) (rest .0 .0 .0 .0 .0 .0 .0 .0 .0 .0 .0 .0 .1)
+    (rest .0 .0 .0 .0 .0 .0 .0 .0 .0 .0 .0 .1) (rest .0 .0 .0 .0 .0 .0 .0 .0 .0 .0 .1) (rest .0 .0 .0 .0 .0 .0 .0 .0 .0 .1)
+    (rest .0 .0 .0 .0 .0 .0 .0 .0 .1) (rest .0 .0 .0 .0 .0 .0 .0 .1) (rest .0 .0 .0 .0 .0 .0 .1) (rest .0 .0 .0 .0 .0 .1)
+    (rest .0 .0 .0 .0 .1) (rest .0 .0 .0 .1) (rest .0 .0 .1) (rest .0 .1) (rest .1) in
+    replies-as 19 is R.build (c .build .ensures)
 
 pub replies-to-spec : {M : Type 1} → statement M
 replies-to-spec =
@@ -139,6 +144,7 @@ replies-to-spec =
     write-page-requires
     next-word-requires
     read-words-requires
+    build-requires
     returns
     returns-2
     returns-3
@@ -155,4 +161,5 @@ replies-to-spec =
     returns-14
     returns-15
     returns-16
-    returns-17)
+    returns-17
+    returns-18)
