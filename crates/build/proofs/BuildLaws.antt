@@ -1,23 +1,22 @@
 -- What the call answers where its checks refuse, and where they pass.
 use mathlib.Core.Path.{_≡_, refl, sym, ap, _∙_}
 use mathlib.Core.Bool.{true, false}
-use mathlib.Core.List.{List, [], _∷_, _++_}
+use mathlib.Core.List.{List, [], _∷_}
 use mathlib.Core.Option.{none, some}
-use Prim.Native.Nat.{ℕ, suc, _+_, _-_, _*_, _/_, _≤_, _<_}
+use Prim.Native.Nat.{ℕ, _+_, _-_, _*_, _/_, _≤_, _<_}
 use native.Mathlib.Omega.{arith}
 use borrow.Author.Tests.{lt-ltb, le-ltb, ltb-true, ltb-false}
 use lib.Dec.{ltb}
-use lib.ListN.{length, drop, length-append}
+use lib.ListN.{length}
 use lib.Seq.{sets}
 use Rattle.laws.specs.Cases.{split}
 use Rattle.laws.specs.ListWrites.{sets-front}
-use Rattle.answers.specs.Answers.{Answer, gives, refused, Row, firstOf}
+use Rattle.answers.specs.Answers.{Answer, gives, refused, firstOf}
 use Rattle.answers.specs.RowLaws.{row-refuses, row-passes, row-ends, rows-refuse, rows-pass}
 use Rattle.graph.specs.Runs.{Graph}
 use Rattle.graph.specs.Words.{Word}
 use Rattle.built.specs.Build.{buildChecks, builtRow, buildRow, Building, building, buildAs}
 use Rattle.built.specs.Built.{built}
-use Rattle.built.specs.Lexicon.{Lexicon}
 use Rattle.built.specs.Listed.{wordsListed, listBytes, listRow}
 use Rattle.build.specs.Numbering.{mostNodes}
 use Rattle.build.specs.Said.{pastChecks}

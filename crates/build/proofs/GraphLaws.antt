@@ -2,22 +2,20 @@
 use mathlib.Core.Path.{_≡_, refl, sym, ap, ap₂, _∙_, subst}
 use mathlib.Core.Logic.{_≢_}
 use mathlib.Core.Bool.{true, false, not, true≢false}
-use mathlib.Core.List.{List, [], _∷_, _++_, map, List·Memᴰ, List·Memᴰ·head, List·Memᴰ·tail, Memᴰ·cast}
-use Prim.Native.Nat.{ℕ, suc, _+_, _-_, _*_, _≤_, _<_}
+use mathlib.Core.List.{List, [], _∷_, map, List·Memᴰ, List·Memᴰ·head, List·Memᴰ·tail}
+use Prim.Native.Nat.{ℕ, _+_, _-_, _*_, _≤_, _<_}
 use native.Mathlib.Omega.{arith}
 use lib.Dec.{eqb}
 use lib.ListN.{length, getD, drop, take}
-use lib.Seq.{sets, sets-eq}
-use borrow.Author.Tests.{eqb-true, eqb-false, eq-eqb, ne-eqb}
+use borrow.Author.Tests.{eqb-true, eqb-false, ne-eqb}
 use Rattle.laws.specs.Cases.{split}
 use Rattle.laws.specs.Cleared.{cleared, cleared-at}
 use Rattle.laws.specs.Lists.{isEmpty, joinAll, member}
-use Rattle.laws.specs.ListWrites.{sets-append}
 use Rattle.laws.specs.Members.{map-same, map-in, in-filtered, filtered-in, member-mem, mem-member}
 use Rattle.laws.specs.Same.{exact-number}
 use Rattle.graph.specs.Lent.{kept-further, cleared-kept}
 use Rattle.export.specs.Blocks.{met, blockAt, total}
-use Rattle.export.specs.BlocksLaws.{Low, every-met, first-met, start-met, children-met, blocks-length, block-first, block-within}
+use Rattle.export.specs.BlocksLaws.{every-met, first-met, children-met, blocks-length, block-first, block-within}
 use Rattle.block_record.specs.Record.{childIn, blocksIn, orderIn}
 use Rattle.block_record.specs.RecordLaws.{child-none, child-some, holds-most, holds-here, holds-none}
 use Rattle.block_record.specs.declared.BlockTally.{BlockTally}
@@ -34,7 +32,7 @@ use Rattle.shelf.specs.Shelving.{shelved}
 use Rattle.shelf.specs.ShelfBuilt.{met-known}
 use Rattle.tails.specs.Tails.{TailsIn}
 use Rattle.tails.specs.TailsLaws.{tail-at, tails-kept}
-use Rattle.build.specs.Numbering.{mostNodes, runLength, Recorded, RunsPlaced, NumbersRuns}
+use Rattle.build.specs.Numbering.{runLength, Recorded, RunsPlaced}
 use Rattle.build.specs.Writing.{orderNodes, WritesFrom}
 use Rattle.build.specs.Said.{IsRoot}
 

@@ -1,22 +1,21 @@
 -- What numbering answers: through an arc, by a run, and along a run's tails, where what is left to meet gives what the whole run meets.
 use mathlib.Core.Path.{_≡_, refl, sym, ap, _∙_, subst}
 use mathlib.Core.Logic.{_≢_}
-use mathlib.Core.Bool.{true, false, not}
+use mathlib.Core.Bool.{false, not}
 use mathlib.Core.List.{List, [], _∷_, _++_, map}
 use Prim.Native.Nat.{ℕ, _+_, _-_, _*_, _≤_, _<_}
 use native.Mathlib.Omega.{arith}
 use lib.Dec.{eqb}
 use lib.ListN.{length, getD, set, drop}
 use lib.Seq.{drop-set-lt}
-use borrow.Author.Tests.{eqb-true, eqb-false, eq-eqb, ne-eqb}
+use borrow.Author.Tests.{eqb-true, eqb-false}
 use Rattle.laws.specs.Cases.{split}
 use Rattle.laws.specs.Lists.{filtered, member}
 use Rattle.export.specs.Blocks.{each, met, metBy, total}
-use Rattle.block_record.specs.Record.{orderIn, blockPushed, Pushed}
+use Rattle.block_record.specs.Record.{orderIn, Pushed}
 use Rattle.block_record.specs.RecordLaws.{holds-room, holds-here, met-old, met-new, met-by-none, met-by-arc, total-snoc, all-total, fresh-of, stale-of, push-holds}
 use Rattle.block_record.specs.declared.BlockTally.{BlockTally}
 use Rattle.shelf.specs.Shelf.{ShelfEntry, Shelf, runEntries, childNumbers}
-use Rattle.tails.specs.Tails.{TailsIn}
 use Rattle.tails.specs.TailsLaws.{TailAt, tail-at, tails-kept}
 use Rattle.build.specs.Numbering.{mostNodes, afterAt, runLength, RunsPlaced, Recorded, NumbersRuns}
 use Rattle.build.proofs.RunLaws.{entries-zero}

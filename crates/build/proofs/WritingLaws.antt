@@ -1,24 +1,21 @@
 -- The graph's nodes as they are written one by one: a child by its entry in the record, and the nodes of all runs in the record's order.
 use mathlib.Core.Path.{_≡_, refl, sym, ap, _∙_, subst}
 use mathlib.Core.Bool.{Bool, true, false}
-use mathlib.Core.List.{List, [], _∷_, _++_, map, List·Memᴰ, Memᴰ·cast}
-use Prim.Native.Nat.{ℕ, suc, _+_, _*_, _%_, _≤_, _<_}
+use mathlib.Core.List.{List, [], _∷_, _++_, Memᴰ·cast}
+use Prim.Native.Nat.{ℕ, _+_, _≤_, _<_}
 use native.Mathlib.Omega.{arith}
 use native.Mathlib.Numerals.{add-one}
 use lib.Dec.{eqb}
-use lib.ListN.{length, getD, drop, length-append, length-drop, drop-of-length-le}
+use lib.ListN.{length, getD, drop, length-drop, drop-of-length-le}
 use lib.Seq.{sets, drop-cons, getD-take, getD-drop, length-take-le}
 use Rattle.base.specs.Numbers.{flag}
-use Rattle.laws.specs.Lists.{joinAll}
 use Rattle.laws.specs.Members.{at-in}
 use Rattle.endian.specs.Putting.{Putting, put-start, put-next, put-done}
 use Rattle.node.specs.Nodes.{KBWG, arc}
 use Rattle.block_record.specs.Record.{childIn, blocksIn}
-use Rattle.laws.specs.Lists.{isEmpty}
 use Rattle.built.specs.Built.{nodeOf}
-use Rattle.shelf.specs.Shelf.{ShelfEntry, Shelf, runEntries, entryNodes}
+use Rattle.shelf.specs.Shelf.{Shelf, runEntries, entryNodes}
 use Rattle.shelf.specs.ShelfBuilt.{entries-end}
-use Rattle.tails.specs.Tails.{TailsIn, tailNode}
 use Rattle.tails.specs.TailsLaws.{TailAt, tail-at}
 use Rattle.build.specs.Numbering.{nodeAt, afterAt}
 use Rattle.build.specs.Writing.{linkedTo, orderNodes, WritesFrom}

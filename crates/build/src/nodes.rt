@@ -1,9 +1,7 @@
 // The nodes of the graph, run by run in the order of the record, each straight to its place.
 ghost use mathlib.Core.Path.{_≡_};
-ghost use mathlib.Core.Bool.{true, false};
-ghost use mathlib.Core.List.{_∷_, []};
-ghost use Prim.Native.Nat.{_*_, _/_, _≤_, _<_};
-ghost use lib.ListN.{length, set};
+ghost use Prim.Native.Nat.{_*_, _/_, _<_};
+ghost use lib.ListN.{length};
 ghost use Rattle.node.specs.Nodes.{KBWG, arc};
 ghost use Rattle.block_record.specs.Record.{childIn};
 ghost use Rattle.build.specs.Writing.{linkedTo, Writable, WritesRuns};

@@ -12,7 +12,7 @@ use Rattle.node.specs.Nodes.{KBWG, accepts}
 use Rattle.graph.specs.Runs.{Graph}
 use Rattle.graph.specs.ChecksLaws.{Fit}
 use Rattle.export.specs.Starts.{deeper}
-use Rattle.export.specs.Blocks.{met, total}
+use Rattle.export.specs.Blocks.{total}
 use Rattle.block_record.specs.Record.{orderIn, HoldsBlocks}
 use Rattle.block_record.specs.Depths.{depthAt, NoneLeft}
 use Rattle.survey.specs.RunCounted.{RunCounted}

@@ -3,26 +3,26 @@
 use native.Mathlib.Omega.{arith}
 use mathlib.Core.Path.{_≡_, refl, sym, ap, _∙_, subst}
 use mathlib.Core.Bool.{true, false}
-use mathlib.Core.List.{List, [], _∷_, _++_}
-use Prim.Native.Nat.{ℕ, _+_, _*_, _≤_, _<_}
+use mathlib.Core.List.{List, [], _∷_}
+use Prim.Native.Nat.{ℕ, _+_, _≤_}
 use lib.Dec.{eqb}
-use lib.ListN.{length, drop}
+use lib.ListN.{length}
 use lib.Seq.{sets}
 use borrow.Author.Needs.{needs}
 use Rattle.laws.specs.ListWrites.{sets-append}
 use Rattle.export.specs.Blocks.{met}
-use Rattle.block_record.specs.Record.{orderIn, blocksIn}
+use Rattle.block_record.specs.Record.{blocksIn}
 use Rattle.block_record.specs.declared.BlockTally.{BlockTally}
 use Rattle.built.specs.Built.{nodeOf}
 use Rattle.shelf.specs.Shelf.{Shelf, childNumbers, numbersMet, numberedGraph}
 use Rattle.tails.specs.Tails.{TailsIn}
 use Rattle.tails.specs.TailsLaws.{tails-kept}
-use Rattle.build.specs.Numbering.{mostNodes, RunsPlaced, NumbersRuns, RunsNumberedAs}
+use Rattle.build.specs.Numbering.{mostNodes, NumbersRuns, RunsNumberedAs}
 use Rattle.build.specs.Writing.{orderNodes, WritesFrom}
 use Rattle.build.specs.Said.{IsRoot}
 use Rattle.build.specs.declared.places.Numbering.{Numbering}
 use Rattle.build.specs.declared.places.Numbering.the-variants.{Done, TooMany}
-use Rattle.build.proofs.GraphLaws.{graph-length, root-new, none-recorded, none-seen, placed-length, order-is, nodes-written, writes}
+use Rattle.build.proofs.GraphLaws.{graph-length, root-new, none-recorded, none-seen, placed-length, nodes-written, writes}
 use Rattle.build.proofs.BuildLaws.{too-many, too-short, all-written}
 use Rattle.build.proofs.build_run.Statement.{statement}
 use Rattle.build.proofs.build_run.Tie as tie

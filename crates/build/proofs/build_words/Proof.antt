@@ -1,8 +1,8 @@
 -- `build_words` meets its contract: the tails stand for the list's words, of which there are too many only where the graph has too many nodes.
 use native.Mathlib.Omega.{arith}
 use mathlib.Core.Path.{_≡_, sym, ap, _∙_, subst}
-use mathlib.Core.List.{List, []}
-use Prim.Native.Nat.{ℕ, _+_, _*_, _≤_, _<_}
+use mathlib.Core.List.{List}
+use Prim.Native.Nat.{ℕ, _<_}
 use lib.ListN.{length}
 use borrow.Author.Needs.{needs}
 use Rattle.graph.specs.Words.{Word}
@@ -16,7 +16,7 @@ use Rattle.shelf.specs.Shelving.{shelved}
 use Rattle.tails.specs.Tails.{WordsClosedAs, WordsClose}
 use Rattle.tails.specs.declared.Closed.{Closed}
 use Rattle.tails.specs.declared.Closed.the-variants.{Run, TooMany}
-use Rattle.build.specs.Said.{IsRoot, builtAs, pastChecks}
+use Rattle.build.specs.Said.{IsRoot, pastChecks}
 use Rattle.build.proofs.BuildLaws.{too-many, no-bytes}
 use Rattle.build.proofs.GraphLaws.{is-root}
 use Rattle.build.proofs.build_words.Statement.{statement}

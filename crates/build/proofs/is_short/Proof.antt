@@ -1,7 +1,7 @@
 -- `is_short` meets its contract: by eights, so that nothing is multiplied.
 use native.Mathlib.Omega.{arith}
-use mathlib.Core.Path.{_≡_, sym}
-use Prim.Native.Nat.{_+_, _*_, _≤_, _<_}
+use mathlib.Core.Path.{sym}
+use Prim.Native.Nat.{_+_, _*_, _<_}
 use borrow.Author.Tests.{lt-ltb}
 use Rattle.build.proofs.BuildLaws.{by-eights}
 use Rattle.build.proofs.is_short.Statement.{statement}

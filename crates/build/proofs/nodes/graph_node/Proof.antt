@@ -1,6 +1,5 @@
 -- `graph_node` meets its contract: the arc's place is one of 24 bits, and flags and tile are below it.
 use mathlib.Core.Path.{_≡_, ap, _∙_}
-use Prim.Native.Nat.{_<_}
 use native.Mathlib.Omega.{arith}
 use borrow.Author.Needs.{needs}
 use Rattle.node.specs.Nodes.{KBWG, arc}

@@ -1,11 +1,10 @@
 -- `write_runs` meets its contract: what is left to write, after what is written, is the whole. Each tail goes on along its run, or to the next
 -- run.
 use mathlib.Core.Path.{_≡_, refl, sym, ap, _∙_, subst}
-use mathlib.Core.List.{List, [], _∷_}
+use mathlib.Core.List.{[], _∷_}
 use Prim.Native.Nat.{ℕ, suc, _+_, _-_, _*_, _≤_, _<_, min}
 use native.Mathlib.Omega.{arith}
-use borrow.Author.Needs.{needs}
-use lib.ListN.{length, getD, set}
+use lib.ListN.{length, set}
 use lib.Seq.{sets}
 use Rattle.laws.specs.Tests.{measure-falls}
 use Rattle.node.specs.Nodes.{KBWG, arc}

@@ -1,7 +1,7 @@
 -- `number_arc` and `number_run` meet their contracts: what an arc and a run meet is held, or too much is met. The runEntries left falls from the one
 -- to the other and back.
 use mathlib.Core.Path.{_≡_, refl, sym, ap, _∙_, subst}
-use mathlib.Core.List.{List, [], _∷_, _++_}
+use mathlib.Core.List.{List}
 use Prim.Native.Nat.{ℕ, _+_, _-_, _*_, _≤_, _<_}
 use native.Mathlib.Omega.{arith}
 use lib.Dec.{eqb}
@@ -16,7 +16,7 @@ use Rattle.block_record.specs.RecordLaws.{met-by-none, met-by-arc, place-none, 
 use Rattle.block_record.specs.declared.BlockTally.{BlockTally}
 use Rattle.shelf.specs.Shelf.{Shelf, runEntries, childNumbers}
 use Rattle.tails.specs.TailsLaws.{TailAt}
-use Rattle.build.specs.Numbering.{mostNodes, runLength, Recorded, NumbersRuns, RunsNumberedAs}
+use Rattle.build.specs.Numbering.{mostNodes, runLength, Recorded, RunsNumberedAs}
 use Rattle.build.specs.declared.places.Numbering.{Numbering}
 use Rattle.build.specs.declared.places.Numbering.the-variants.{Done, TooMany}
 use Rattle.build.proofs.RunLaws.{entry-child}

@@ -1,9 +1,8 @@
 -- `run_length` meets its contract: the tails passed and those of the run that are left make the whole run.
-use Prim.Native.Nat.{ℕ, _+_, _≤_, _<_}
+use Prim.Native.Nat.{_+_, _≤_, _<_}
 use native.Mathlib.Omega.{arith}
-use borrow.Author.Needs.{needs}
 use lib.ListN.{length}
-use mathlib.Core.Path.{_≡_, sym, subst}
+use mathlib.Core.Path.{sym, subst}
 use Rattle.shelf.specs.Shelf.{Shelf}
 use Rattle.tails.specs.Tails.{TailsIn}
 use Rattle.tails.specs.TailsLaws.{tail-at}
