@@ -1,6 +1,7 @@
 -- The five nodes of document 01 are what building makes of their words, and they meet the premises of what is promised of a built lexicon.
-use mathlib.Core.Path.{_≡_, refl}
+use mathlib.Core.Path.{_≡_, refl, ap, _∙_}
 use mathlib.Core.List.{List, [], _∷_, _++_, append-nil}
+use mathlib.Core.Option.{none}
 use Prim.Native.Nat.{ℕ}
 use native.Mathlib.Omega.{arith}
 use lib.ListN.{length, take, drop, replicate}
@@ -14,11 +15,12 @@ use Rattle.export.specs.Blocks.{met, blockAt}
 use Rattle.built.specs.Branches.{branchesWith, branches, onwards}
 use Rattle.built.specs.Built.{sameWords, runNodes, wordRuns, arcTo, built}
 use Rattle.built.specs.Listed.{wordsAhead, wordsListed, rowsAhead, listRow}
-use Rattle.built.specs.Build.{Building, buildRow, buildAs}
+use Rattle.built.specs.Build.{Building, buildChecks, buildRow, buildAs}
 use Rattle.guarantees.specs.Starred.{G}
 use Rattle.guarantees.specs.Demand3.{loadedGraph}
 use Rattle.guarantees.specs.BuiltLexicon.{LexiconInUse}
 use Rattle.guarantees.proofs.BuiltLexiconLaws.{built-lexicons}
+use Rattle.guarantees.proofs.BuiltRoomLaws.{room-enough}
 
 -- 1; 1 2; 2 2
 abbrev list : List ℕ
@@ -49,3 +51,11 @@ G-in-use : LexiconInUse countLimit (wordsListed list) (length file) zeros (file 
 G-in-use =
     let e = three-words in
     built-lexicons countLimit list 128 zeros 5 (G-built .0) (omega arith) zeros (omega arith) (file ∷ []) (append-nil file) zeros 10 (omega arith) (omega arith)
+
+-- the list has eight bytes, and ten nodes are enough
+list-passes : (firstOf (buildChecks list 128) ≡ none) × (length (built (wordsListed list)) ≡ 5)
+unfolding listRow rowsAhead wordsListed wordsAhead firstOf built wordRuns met onwards branches branchesWith runNodes arcTo blockAt sameWords same
+list-passes = (refl, refl)
+
+G-room : buildAs list 128 (replicate 10 0) .answer ≡ gives (5 ∷ [])
+G-room = let n = list-passes .1 in room-enough list 128 (replicate 10 0) (list-passes .0) (omega arith) (omega arith) ∙ ap (λ k. gives (k ∷ [])) n

@@ -3,3 +3,4 @@ pub mod Demand3
 pub mod Pages
 pub mod Evening
 pub mod BuiltLexicon
+pub mod BuiltRoom
