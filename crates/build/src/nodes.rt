@@ -1,6 +1,6 @@
 // The nodes of the graph, run by run in the order of the record, each straight to its place.
 ghost use mathlib.Core.Path.{_≡_};
-ghost use Prim.Native.Nat.{_*_, _/_, _<_};
+ghost use Prim.Native.Nat.{_<_};
 ghost use lib.ListN.{length};
 ghost use Rattle.node.specs.Nodes.{KBWG, arc};
 ghost use Rattle.block_record.specs.Record.{childIn};

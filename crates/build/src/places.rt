@@ -2,7 +2,7 @@
 // of the tail that it begins with. With room for n tails, places and order stand in the first 2n numbers of the work list, and from 2n on four
 // numbers for each tail, of which the first two are its node and the tail after it.
 ghost use mathlib.Core.Path.{_≡_};
-ghost use Prim.Native.Nat.{_*_, _/_, _≤_, _<_};
+ghost use Prim.Native.Nat.{_*_, _≤_, _<_};
 ghost use lib.Dec.{eqb};
 ghost use lib.ListN.{length, getD};
 ghost use Rattle.export.specs.Blocks.{met, metBy};

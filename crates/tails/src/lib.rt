@@ -4,9 +4,9 @@
 // it: its node, whose arc is the number of the tail that the arc's run begins with, and the number of the tail after the node. Together they
 // are the key of the tail in a dictionary, so that two tails with the same words have one number. A tail's two numbers are below its own.
 //
-// The words are taken from the last to the first. While a word is at hand, entry d of `behind` is the tail after the word's tile d in that tile's
-// run: what words further on have left there. What the word does not share with the word before it can have nothing added and is closed, the
-// last tile first.
+// The words are taken from the last to the first. While a word is at hand, entry d of `behind` is the tail after the word's tile d, counted from 0, in
+// that tile's run: what words further on have left there. The entry after its last tile is the tail of the run that the whole word leads to. What the
+// word does not share with the word before it can have nothing added and is closed, the last tile first.
 ghost use mathlib.Core.Path.{_≡_};
 ghost use Prim.Native.Nat.{_+_, _*_, _≤_, _<_, min};
 ghost use lib.ListN.{length};
