@@ -1,1 +1,2 @@
 // What alpha sets mean, in specs/.
+#![tactic(auto)]

@@ -1,5 +1,7 @@
 // The record of blocks already numbered, in a work list: for each node 0, or the place of its block plus 1; then, from n on, the blocks
 // in the order of their places; and from 2n on, for each node whose block's arcs are all followed, the runs in the longest chain from it.
+#![tactic(auto)]
+
 ghost use Rattle.std.specs.Prelude.{◌≡◌, ◌+◌, ◌*◌, ◌≤◌, ◌<◌, length, get_or, set};
 ghost use Rattle.block_record.specs.Record.{place_at, child_in, Pushed};
 ghost use Rattle.block_record.specs.Depths.{depth_at};

@@ -8,6 +8,8 @@
 // from n, n numbers: the trees of the dictionary; then the runs in the order of their places
 // from 2n, 4n numbers: the tails, with the dictionary's links
 // from 6n, B numbers: the way back from each word to the one before it
+#![tactic(auto)]
+
 mod nodes;
 mod places;
 

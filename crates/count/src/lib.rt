@@ -1,4 +1,6 @@
 // Counting the words from every node of a graph.
+#![tactic(auto)]
+
 mod counts;
 mod sums;
 mod walk;

@@ -1,4 +1,6 @@
 // A cursor along one run of a word graph.
+#![tactic(auto)]
+
 ghost use Rattle.std.specs.Prelude.{◌≡◌};
 ghost use Rattle.cursor.specs.RunSteps.{run_step, moves};
 ghost use Rattle.cursor.specs.Said.{said_step, moved_as, Advances};

@@ -1,4 +1,6 @@
 // A number in decimal digits, as bytes of text: how many digits it has, and its digits put into bytes.
+#![tactic(auto)]
+
 ghost use Rattle.std.specs.Prelude.{◌≡◌, ◌+◌, ◌≤◌, length};
 ghost use Rattle.endian.specs.Puts.{Puts};
 ghost use Rattle.decimal.specs.Decimal.{decimal};

@@ -11,6 +11,8 @@
 // With as many trees as there is room for keys most searches are short, and none can be made long. A key that d links below a root lead to has
 // the d lowest bits that chose the links, and so has the key that is looked for. After 64 links the two agree in every bit: a search follows a
 // root and at most 64 links, however the keys are chosen. In a hash table, keys of one hash would make it as long as the table.
+#![tactic(auto)]
+
 ghost use Rattle.std.specs.Prelude.{◌≡◌, ◌+◌, ◌*◌, ◌≤◌, ◌<◌, length};
 ghost use Rattle.dictionary.specs.Tree.{Tree, tree_of, added};
 ghost use Rattle.dictionary.specs.KeyNumbered.{KeyNumbered};

@@ -1,4 +1,6 @@
 // Numbers in the bytes of a file. The calls that read and write files use these; each asks that its bytes are there.
+#![tactic(auto)]
+
 ghost use Rattle.std.specs.Prelude.{◌≡◌, [], ◌∷◌, ◌+◌, ◌*◌, ◌<◌, ◌≤◌, length};
 ghost use Rattle.std.proofs.lemmas.List.Edits.{sets};
 ghost use Rattle.endian.specs.Bytes.{from_bytes, to_bytes, node_at, big_endian};

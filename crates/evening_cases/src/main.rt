@@ -1,5 +1,7 @@
 // Plays the stored evenings on standard input through the exported calls, and prints a line for each call: the fields of its answer, and
 // then the record's bytes. oracle/README.md has the format.
+#![tactic(auto)]
+
 use base::{bit, widened};
 use flat::FlatInPlay;
 use machirsun::{machirsun_arrive, machirsun_leave};

@@ -1,4 +1,6 @@
 // What both writers read of a graph and of its labels; the meaning of chains and blocks is in specs/.
+#![tactic(auto)]
+
 ghost use Rattle.std.specs.Prelude.{◌≡◌};
 ghost use Rattle.export.specs.Starts.{unlabelled};
 

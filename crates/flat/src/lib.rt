@@ -1,4 +1,6 @@
 // Flat answers: what a call of the engine answers, as a struct of numbers for the C interface, and each number read back.
+#![tactic(auto)]
+
 mod building;
 mod counting;
 mod files;

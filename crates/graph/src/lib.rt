@@ -1,4 +1,6 @@
 // A word graph: the meaning of its runs, words and loops is in specs/; here are the checks that several calls share.
+#![tactic(auto)]
+
 ghost use Rattle.std.specs.Prelude.{◌≡◌};
 ghost use Rattle.answers.specs.Answers.{first_of};
 ghost use Rattle.node.specs.Nodes.{kbwg};

@@ -1,1 +1,2 @@
 // What is promised of the engine as a whole, in specs/.
+#![tactic(auto)]

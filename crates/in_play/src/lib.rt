@@ -1,4 +1,6 @@
 // Words in play: a record has a bit for each word of a start node, set while the word is in play.
+#![tactic(auto)]
+
 mod lexicon;
 mod record;
 

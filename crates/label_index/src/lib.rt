@@ -1,4 +1,6 @@
 // The label file, and its index by first byte: which label is taken at a place of a text.
+#![tactic(auto)]
+
 mod index;
 mod labels;
 mod order;

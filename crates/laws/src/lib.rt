@@ -1,1 +1,2 @@
 // What the toolchain's libraries lack, in specs/. Nothing here is about word graphs.
+#![tactic(auto)]

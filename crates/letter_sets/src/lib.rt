@@ -1,4 +1,6 @@
 // Macondo's letter sets, numbered from 0 by first appearance in the order of the blocks.
+#![tactic(auto)]
+
 mod runs;
 
 ghost use Rattle.std.specs.Prelude.{◌*◌, ◌≤◌, length};

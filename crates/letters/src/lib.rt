@@ -1,4 +1,6 @@
 // Sets of tiles: the letters of each node's run, and the alpha sets of a tally of letters.
+#![tactic(auto)]
+
 mod alpha;
 mod letter_bits;
 mod tiles;

@@ -1,4 +1,6 @@
 // The words of a graph as lines of text: what the program `wordlist` prints, made in blocks.
+#![tactic(auto)]
+
 mod blocks;
 mod lines;
 mod opening;

@@ -1,4 +1,6 @@
 // Files of word graphs: loaded piece by piece, or repacked from one layout to the other.
+#![tactic(auto)]
+
 mod held;
 mod loader;
 mod repack;

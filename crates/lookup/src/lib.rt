@@ -1,4 +1,6 @@
 // Lookups along the walks of a word graph: a tile in a run, the number of a word, and the word of a number.
+#![tactic(auto)]
+
 mod by_number;
 mod by_tile;
 mod by_word;

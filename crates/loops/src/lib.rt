@@ -5,6 +5,8 @@
 // A mark is 0 for a node not met yet, and DONE for one from which only done nodes can be reached. A node on the stack is open, with its own
 // place as its mark, until all nodes that it leads to are met. Then it takes the lowest of their marks, if that is below its own place; if
 // not, it is done, and so are all nodes above it. It loops just where one of the nodes that it leads to is not done at that moment.
+#![tactic(auto)]
+
 mod next;
 mod search;
 

@@ -1,4 +1,6 @@
 // Writing a graph's words as an LXD file.
+#![tactic(auto)]
+
 mod checks;
 mod file;
 mod header;

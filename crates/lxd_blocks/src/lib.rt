@@ -1,4 +1,6 @@
 // The runs of an LXD file: their places in it, and their nodes as its bytes. Parts of the writer in crate lxd, which alone uses them.
+#![tactic(auto)]
+
 mod nodes;
 mod numbering;
 

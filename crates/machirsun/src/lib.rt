@@ -1,4 +1,6 @@
 // The engine for programs in C, and in languages that call C. Every answer is flat: the number of the refusal, or 0, and then its values.
+#![tactic(auto)]
+
 mod building;
 mod counting;
 mod files;

@@ -1,4 +1,6 @@
 // Writes a graph as a file for Macondo.
+#![tactic(auto)]
+
 mod checks;
 mod walk;
 

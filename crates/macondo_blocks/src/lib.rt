@@ -1,5 +1,7 @@
 // What the Macondo writer computes before it writes: the letters in rank order, the letter written for each tile, a run's arcs in
 // the arc order, and the numbers of the blocks.
+#![tactic(auto)]
+
 mod alphabet;
 mod arcs;
 mod blocks;

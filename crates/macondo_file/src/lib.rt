@@ -1,1 +1,2 @@
 // A Macondo file: its bytes and the words that are read from them, in specs/.
+#![tactic(auto)]

@@ -1,5 +1,7 @@
 // The bytes of a Macondo file, written from tables: its sections, and its nodes block by block. Parts of the writer in crate macondo, which
 // alone uses them.
+#![tactic(auto)]
+
 mod file;
 mod nodes;
 mod sections;

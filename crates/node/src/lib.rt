@@ -1,4 +1,6 @@
 // A node of a word graph: 32 bits that hold a tile, two flags and an arc, in one of two layouts.
+#![tactic(auto)]
+
 ghost use Rattle.std.specs.Prelude.{◌≡◌};
 ghost use Rattle.node.specs.Nodes.{kwg, kbwg, tile, accepts, accepts_bit, is_end, arc, values};
 ghost use Rattle.node.specs.Said.{bit_layout, said_node, pack_answer, repack_node_answer};

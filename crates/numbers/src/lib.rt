@@ -1,1 +1,2 @@
 // What word numbers mean, in specs/.
+#![tactic(auto)]

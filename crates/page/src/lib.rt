@@ -1,4 +1,6 @@
 // A page of words for the text service: 24 rows of 40 bytes, a title and up to 23 words with their numbers.
+#![tactic(auto)]
+
 mod checks;
 mod walking;
 mod writing;

@@ -1,4 +1,6 @@
 // A whole load, its file cut into pieces: what the calls of a loader come to.
+#![tactic(auto)]
+
 ghost use Rattle.std.specs.Prelude.{◌≡◌, ◌+◌, ◌≤◌, min, set};
 ghost use Rattle.answers.specs.Answers.{refusalIn};
 ghost use Rattle.load.specs.Said.{said_feed};

@@ -1,5 +1,7 @@
 // Loads document 01's five nodes in pieces, and prints in hexadecimal what each load leaves: the answers of begin, of every feed and of
 // finish, the bytes taken, and the nodes. Lent entries that no call may write are 9 among the answers and 7 among the nodes.
+#![tactic(auto)]
+
 use base::{MOST, widened};
 use load::{BeginAnswer, Finished};
 use node::Layout;

@@ -2,6 +2,8 @@
 // it, on the inputs of a case, and what it answers is held to what is stored. The capital letters
 // before a function are the words of its case as oracle/README.md names them; after a semicolon,
 // its bytes.
+#![tactic(auto)]
+
 mod building;
 mod counts;
 mod files;

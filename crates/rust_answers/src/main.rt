@@ -1,5 +1,7 @@
 // Replays the stored answers of a Rust program, which stand on standard input a case to a line, and
 // says which lines our calls answer otherwise.
+#![tactic(auto)]
+
 ghost use Rattle.std.specs.Prelude.{◌≤◌, length};
 
 use stored::{CALLS, CaseTally, Ended, Line, ROOM, print_cases};

@@ -1,5 +1,7 @@
 // Stored answers of another program: a list has a case to a line, and a case is a line's numbers
 // after the call's: a list of words and a list of bytes, which are the inputs, and then the answer.
+#![tactic(auto)]
+
 mod answers;
 mod inputs;
 mod lines;

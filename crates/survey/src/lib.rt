@@ -4,6 +4,8 @@
 // before a node that is known already, back to where it was entered, so that each node is filled in once.
 // Where a function takes nodes, they must have passed the checks 10, 8, 9 and 21, a place must be in them, and the work list must have
 // room for the tables, which must be right.
+#![tactic(auto)]
+
 ghost use Rattle.std.specs.Prelude.{◌≡◌, true, false, ◌||◌, ◌+◌, ◌*◌, ◌<◌, ◌≤◌, length};
 ghost use Rattle.base.specs.Numbers.{most};
 ghost use Rattle.node.specs.Nodes.{kbwg, tile, arc};

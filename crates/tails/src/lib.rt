@@ -7,6 +7,8 @@
 // The words are taken from the last to the first. While a word is at hand, entry d of `behind` is the tail after the word's tile d, counted from 0, in
 // that tile's run: what words further on have left there. The entry after its last tile is the tail of the run that the whole word leads to. What the
 // word does not share with the word before it can have nothing added and is closed, the last tile first.
+#![tactic(auto)]
+
 ghost use Rattle.std.specs.Prelude.{◌≡◌, ◌+◌, ◌*◌, ◌≤◌, ◌<◌, min, length};
 ghost use Rattle.shelf.specs.Shelving.{shelf_entry};
 ghost use Rattle.word_list.specs.Words.{IsLexicon};

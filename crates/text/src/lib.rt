@@ -1,4 +1,6 @@
 // Texts as bytes: their lines, and tiles written in decimal.
+#![tactic(auto)]
+
 mod line;
 mod tile;
 

@@ -1,4 +1,6 @@
 // Words as viewers type them: the lines of a text read as tiles, by the labels of a label file.
+#![tactic(auto)]
+
 mod batch;
 mod next;
 mod word;

@@ -1,4 +1,6 @@
 // The words of a list of bytes: one length byte and that many tiles each, in ascending order.
+#![tactic(auto)]
+
 mod checking;
 mod words;
 

@@ -1,4 +1,6 @@
 // Lists the words of a KWG on standard input, a line each: the number, a tab, the tiles.
+#![tactic(auto)]
+
 use listing::BlockMade;
 
 fn main() {
