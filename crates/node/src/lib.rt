@@ -7,7 +7,7 @@ ghost use Rattle.node.specs.Said.{bit_layout, said_node, pack_answer, repack_nod
 
 use base::bit;
 
-#[derive(Drop)]
+#[derive(Clone, Copy)]
 pub enum Layout {
     Kwg,
     Kbwg,
@@ -20,7 +20,7 @@ pub enum Packed {
 }
 
 // A KWG node.
-#[derive(Drop)]
+#[derive(Clone, Copy)]
 pub struct Node22(pub u32);
 
 impl Node22 {
@@ -61,7 +61,7 @@ impl Node22 {
 }
 
 // A KBWG node.
-#[derive(Drop)]
+#[derive(Clone, Copy)]
 pub struct Node24(pub u32);
 
 impl Node24 {

@@ -7,7 +7,7 @@ ghost use Rattle.stored.specs.Lines.{empty_line, is_start, first_part, with_digi
 pub const ROOM: usize = 32768;
 
 // What the bytes so far end in.
-#[derive(Drop)]
+#[derive(Clone, Copy)]
 pub enum Part {
     Start,
     Number(u64),
@@ -18,7 +18,7 @@ pub enum Part {
 }
 
 // The numbers before that part are complete, and there are count of them.
-#[derive(Drop)]
+#[derive(Clone, Copy)]
 pub struct Line {
     pub count: usize,
     pub part: Part,

@@ -171,9 +171,9 @@ pub Visits-lines : (text : List ℕ) → Visits text 0 (lines text)
 Visits-lines text = Visits-from (length text) text 0 (omega arith)
 
 pub Visits-only : (text : List ℕ) (at : ℕ) (ls : List (List ℕ)) → Visits text at ls → ls ≡ lines (drop at text)
-Visits-only text at [] (done h) = sym (lines-past text at h)
-Visits-only text at (l ∷ ls) (visit h v) =
-    ap (first_line (drop at text) ∷◌) (Visits-only text (at + line_width (drop at text)) ls v) ∙ sym (lines_at text at h)
+Visits-only text at ls (done h) = sym (lines-past text at h)
+Visits-only text at ls (visit {ls = rest} h v) =
+    ap (first_line (drop at text) ∷◌) (Visits-only text (at + line_width (drop at text)) rest v) ∙ sym (lines_at text at h)
 
 -- ---- a line and what follows it, by the place where it ends
 module _ (text : List ℕ) (at end : ℕ) (e : end ≡ at + length (first_line (drop at text))) where

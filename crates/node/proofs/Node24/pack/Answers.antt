@@ -1,0 +1,18 @@
+-- `Node24::pack` meets its contract: a tile or an arc over its limit is refused, else the sum is the packed node.
+use native.Mathlib.Omega.{arith}
+use mathlib.Core.Path.{sym, ap, ◌∙◌}
+use mathlib.Core.List.{[], ◌∷◌}
+use Rattle.answers.specs.Answers.{gives}
+use Rattle.node.specs.Nodes.{kbwg}
+use Rattle.node.proofs.PackAnswers.{pack-within, pack-tile_over, pack-arc_over}
+use borrow.Author.Rules.{rules}
+use Rattle.node.proofs.Node24.pack.Goals as goal
+
+pub returns-then-tile-ge64 : goal.returns-then-tile-ge64
+returns-then-tile-ge64 c = sym (pack-tile_over kbwg _ (omega arith))
+
+pub returns-then-arc_index-ge16777216 : goal.returns-then-arc_index-ge16777216
+returns-then-arc_index-ge16777216 c = sym (pack-arc_over kbwg _ (omega arith))
+
+pub returns : goal.returns
+returns c = ap (λ n. gives (n ∷ [])) (omega arith) ∙ sym (pack-within kbwg _ (omega arith) (omega arith))

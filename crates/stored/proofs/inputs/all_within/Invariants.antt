@@ -1,0 +1,15 @@
+-- `inputs::all_within` looks at number after number; those left are within the limit as all of them are.
+use native.Mathlib.Omega.{arith}
+use Prim.Native.Nat.{◌≤◌, ◌-◌}
+use mathlib.Core.Path.{◌≡◌, refl, ◌∙◌}
+use lib.ListN.{length, drop}
+use borrow.Author.Rules.{rules}
+use Rattle.stored.specs.Inputs.{all_within}
+use Rattle.stored.proofs.InputLaws.{over_limit, within_limit, all_looked_at}
+use Rattle.stored.proofs.inputs.all_within.Given as goal
+
+abbrev pub invariant-loop-i : goal.invariant-loop-i
+invariant-loop-i l = (l.i ≤ length l.numbers) × (all_within l.most (drop l.i l.numbers) ≡ all_within l.most l.numbers)
+
+abbrev pub decreases-loop-i : goal.decreases-loop-i
+decreases-loop-i l = length l.numbers - l.i

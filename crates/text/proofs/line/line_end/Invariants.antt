@@ -1,0 +1,16 @@
+-- `line::line_end` meets its contract: the line's bytes from the place reached on end where all of it does.
+use borrow.Author.Rules.{rules}
+use native.Mathlib.Omega.{arith}
+use mathlib.Core.Path.{◌≡◌, sym, ap, ◌∙◌}
+use mathlib.Core.List.{List}
+use Prim.Native.Nat.{ℕ, ◌+◌, ◌-◌, ◌<◌}
+use lib.ListN.{length, get_or, drop}
+use Rattle.text.specs.Lines.{is_ending, first_line}
+use Rattle.text.specs.LineLaws.{line-here, line-next, line-past}
+use Rattle.text.proofs.line.line_end.Given as goal
+
+abbrev pub invariant-loop-i : goal.invariant-loop-i
+invariant-loop-i l = l.i + length (first_line (drop l.i l.text)) ≡ l.at + length (first_line (drop l.at l.text))
+
+abbrev pub decreases-loop-i : goal.decreases-loop-i
+decreases-loop-i l = length l.text - l.i
