@@ -1,0 +1,16 @@
+-- `ranges::fill_begins` meets its contract: the lines from the place reached on stand at or after their range's beginning.
+use borrow.Author.Rules.{rules}
+use native.Mathlib.Omega.{arith}
+use mathlib.Core.Path.{◌≡◌, refl, sym, subst}
+use mathlib.Core.List.{List}
+use Prim.Native.Nat.{ℕ, ◌-◌, ◌≤◌, ◌<◌}
+use lib.ListN.{length, set, length-set}
+use Rattle.label_index.specs.Index.{first_in}
+use Rattle.label_index.proofs.RangeLaws.{BegunFrom, begun_more}
+use Rattle.label_index.proofs.ranges.fill_begins.Given as goal
+
+abbrev pub invariant-loop-i : goal.invariant-loop-i
+invariant-loop-i l = (l.i ≤ l.n) × (length l.begin ≡ length l.initial.begin) × BegunFrom l.i l.n l.order l.begin
+
+abbrev pub decreases-loop-i : goal.decreases-loop-i
+decreases-loop-i l = l.i
