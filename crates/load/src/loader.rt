@@ -37,14 +37,14 @@ pub enum Finished {
 }
 
 // The refusal that a load keeps once a node does not fit.
-#[derive(Drop)]
+#[derive(Clone, Copy)]
 pub enum KeptRefusal {
     Nothing,
     DoesNotFit(Misfit),
 }
 
 // The state of a load. The first held_count places of held are the bytes after the last whole node.
-#[derive(Drop)]
+#[derive(Clone, Copy)]
 pub struct Loader {
     pub announced: usize,
     pub layout: Layout,

@@ -7,7 +7,7 @@ ghost use Rattle.load.specs.Loading.{misfit_in, nodes_after};
 use node::{Layout, Packed};
 
 // A node whose fields do not fit the other layout.
-#[derive(Drop)]
+#[derive(Clone, Copy)]
 pub struct Misfit {
     pub node: usize,
     pub tile: u8,
