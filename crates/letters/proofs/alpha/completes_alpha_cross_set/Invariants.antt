@@ -1,0 +1,31 @@
+-- `completes_alpha_cross_set` meets its contract. The loops' invariants: the letters left, and the copies left before them,
+-- lead where the whole leads.
+use mathlib.Core.Path.{◌≡◌, refl, sym, ap, ◌∙◌}
+use mathlib.Core.List.{List}
+use Prim.Native.Nat.{ℕ, ◌-◌}
+use native.Mathlib.Omega.{arith}
+use borrow.Author.Rules.{rules}
+use lib.ListN.{length, drop}
+use Rattle.letters.specs.AlphaSets.{spent}
+use Rattle.letters.proofs.AlphaLaws.{spending, spent-end, spent-letter, spent-none, spent-step, spent-stop}
+use Rattle.letters.proofs.AlphaLaws.{completes-no, completes-stop, completes-out, completes-at}
+use Rattle.answers.specs.Answers.{Answer}
+use Rattle.lookup.specs.Steps.{Try, on, stop}
+use Rattle.lookup.specs.Walks.{step_to}
+use Rattle.lookup.specs.Said.{search_try}
+use Rattle.lookup.specs.declared.run.RunSearch.{RunSearch}
+use Rattle.letters.proofs.alpha.completes_alpha_cross_set.Given as goal
+
+abbrev pub invariant-copies : goal.invariant-copies
+invariant-copies l =
+    spending l.nodes l.tally l.left l.letter l.p ≡ spent l.nodes l.next_letter (drop l.next_letter l.tally) l.p-2
+
+abbrev pub decreases-copies : goal.decreases-copies
+decreases-copies l = l.left
+
+abbrev pub invariant-letters : goal.invariant-letters
+invariant-letters l =
+    spent l.nodes l.letter (drop l.letter l.tally) l.p ≡ spent l.nodes l.next_letter (drop l.next_letter l.tally) l.p-2
+
+abbrev pub decreases-letters : goal.decreases-letters
+decreases-letters l = length l.tally - l.letter

@@ -1,0 +1,37 @@
+-- `cross_from` meets its contract. The invariant of each loop: the walk from there gives the answer of the whole.
+use mathlib.Core.Path.{◌≡◌, sym, ap, ◌∙◌}
+use mathlib.Core.Bool.{Bool}
+use mathlib.Core.Logic.{◌≢◌}
+use mathlib.Core.List.{List}
+use Prim.Native.Nat.{ℕ, ◌-◌, ◌≤◌, ◌<◌}
+use native.Mathlib.Omega.{arith}
+use borrow.Author.Rules.{rules}
+use lib.ListN.{length}
+use Rattle.answers.specs.Answers.{Answer}
+use Rattle.node.specs.Nodes.{kbwg, tile, is_end}
+use Rattle.graph.specs.Runs.{Graph, node}
+use Rattle.letters.specs.AlphaSets.{completes, cross_from}
+use Rattle.letters.specs.Said.{completes_try}
+use Rattle.letters.specs.declared.alpha.Completes.{Completes}
+use Rattle.lookup.specs.Steps.{on}
+use Rattle.letters.proofs.AlphaLaws.{at_letter, at_copy, at_node, letters-end, letters-one, copies-none, copies-one}
+use Rattle.letters.proofs.AlphaLaws.{node-out, node_greater, node-no-arc, node-arc, node-stop, node_end, node-next, cross-out, cross-none, cross-letters}
+use Rattle.letters.proofs.alpha.cross_from.Given as goal
+
+abbrev pub invariant-run : goal.invariant-run
+invariant-run l = at_node l.nodes l.tally l.left l.letter l.p l.answer ≡ cross_from l.nodes l.tally
+
+abbrev pub decreases-run : goal.decreases-run
+decreases-run l = length l.nodes - l.p
+
+abbrev pub invariant-copies : goal.invariant-copies
+invariant-copies l = at_copy l.nodes l.tally l.left l.letter l.p l.answer ≡ cross_from l.nodes l.tally
+
+abbrev pub decreases-copies : goal.decreases-copies
+decreases-copies l = l.left
+
+abbrev pub invariant-letters : goal.invariant-letters
+invariant-letters l = at_letter l.nodes l.tally l.letter l.p l.answer ≡ cross_from l.nodes l.tally
+
+abbrev pub decreases-letters : goal.decreases-letters
+decreases-letters l = length l.tally - l.letter
