@@ -18,6 +18,8 @@ HEADS = {"use", "mod", "module", "unfolding", "let", "in", "where", "with", "do"
 
 # Names whose new spelling no rule gives.
 CHOSEN = {"KWG": "kwg", "KBWG": "kbwg", "LXD": "lxd", "G": "five_nodes", "getD-map-in": "get_or-map-in", "loadedG": "loaded_five_nodes", "letterBits": "letter_bits_of"}
+# Names brought in by `as`, and variables.
+MORE = "lentNodes refusalIn lentFile countWork lentTiles lentSizes asAnswer verdictOf byteRoom fedNodes wordRoom tilesLeft afterAccepting sizesLeft lxdRuns afterWords' afterBytes' roomT roomS lentChecks labelChecks afterPair tilesBefore tilesAfter sizesBefore sizesAfter lentAll lentAccepting".split()
 # What stands beside a parameter or a module of its new name, which no clause means by it.
 BESIDE = {"isEnd", "runLength"}
 # Lemmas that had their function's name but for the spelling, by crate.
@@ -168,6 +170,8 @@ def main(argv):
             left.append((name, new, "as " + twin[0] if twin else "taken in " + ", ".join(taken[:3])))
             continue
         turned[name] = new
+    for name in MORE:
+        turned[name] = snake(name)
     local = {}
     for path, names in alone.items():
         for name, rest in names.items():

@@ -1,5 +1,1 @@
 pub mod Alphagrams
-pub mod InsertLaws
-pub mod AcceptsLaws
-pub mod CrossLaws
-pub mod MeaningLaws

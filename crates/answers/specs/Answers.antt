@@ -13,10 +13,10 @@ IsRefusal nothing = ⊥
 IsRefusal (refused n vs) = Unit
 
 -- an answer as one number: that of its refusal, or 0
-abbrev pub refusalIn : Answer → ℕ
-refusalIn (gives vs) = 0
-refusalIn nothing = 0
-refusalIn (refused n vs) = n
+abbrev pub refusal_in : Answer → ℕ
+refusal_in (gives vs) = 0
+refusal_in nothing = 0
+refusal_in (refused n vs) = n
 
 -- a value of an answer, or 0 where it has none
 abbrev pub value_at : ℕ → Answer → ℕ
@@ -32,8 +32,8 @@ pub record Refusal : Type 0 where
 abbrev pub refusing : ℕ → List ℕ → Refusal
 refusing n vs = record { number = n; carries = vs }
 
-abbrev pub asAnswer : Refusal → Answer
-asAnswer r = refused r.number r.carries
+abbrev pub as_answer : Refusal → Answer
+as_answer r = refused r.number r.carries
 
 -- A row of the table "Where each check stands": conditions, each with what it refuses by.
 abbrev pub Row : Type 0
@@ -42,7 +42,7 @@ Row = List (Bool × Refusal)
 -- "In each place the order is that of the row": the first condition that holds refuses.
 unfoldable pub first_of : Row → Option Answer
 first_of [] = none
-first_of (c ∷ cs) = elim c.0 [ true ↦ some (asAnswer c.1) | false ↦ first_of cs ]
+first_of (c ∷ cs) = elim c.0 [ true ↦ some (as_answer c.1) | false ↦ first_of cs ]
 
 -- A refusal where there is one, or else the answer given.
 abbrev pub or_else : Option Answer → Answer → Answer

@@ -5,10 +5,10 @@ use Rattle.std.proofs.lemmas.Bool.{false≢true}
 use Rattle.std.proofs.Math.Option.{none, some}
 use Rattle.laws.specs.Cases.{split, is_some, some≢none}
 use Rattle.laws.specs.Lists.{All}
-use Rattle.answers.specs.Answers.{Answer, gives, nothing, refused, Refusal, asAnswer, Row, first_of}
+use Rattle.answers.specs.Answers.{Answer, gives, nothing, refused, Refusal, as_answer, Row, first_of}
 
 module _ (c : Bool) (r : Refusal) (cs : Row) where
-  pub row-refuses : c ≡ true → first_of ((c, r) ∷ cs) ≡ some (asAnswer r)
+  pub row-refuses : c ≡ true → first_of ((c, r) ∷ cs) ≡ some (as_answer r)
   unfolding first_of
   row-refuses e = rw (e, first_of)
 
@@ -51,7 +51,7 @@ StopsAt (suc k) (c ∷ cs) = (c.0 ≡ false) × StopsAt k cs
 
 abbrev pub answer_at : ℕ → Row → Answer
 answer_at k [] = nothing
-answer_at zero (c ∷ cs) = asAnswer c.1
+answer_at zero (c ∷ cs) = as_answer c.1
 answer_at (suc k) (c ∷ cs) = answer_at k cs
 
 pub stops_at : (k : ℕ) (row : Row) → StopsAt k row → first_of row ≡ some (answer_at k row)
@@ -69,21 +69,21 @@ passed-all [] e = tt
 passed-all (c ∷ cs) e = let p = row-passed c.0 c.1 cs e in (p.0, passed-all cs p.1)
 
 -- ---- what it refuses by: a row with one refusal refuses by that
-pub one-refusal : (r : Refusal) (cs : Row) → All (λ (c : Bool × Refusal). c.1 ≡ r) cs → is_some (first_of cs) ≡ true → first_of cs ≡ some (asAnswer r)
+pub one-refusal : (r : Refusal) (cs : Row) → All (λ (c : Bool × Refusal). c.1 ≡ r) cs → is_some (first_of cs) ≡ true → first_of cs ≡ some (as_answer r)
 unfolding first_of
 one-refusal r [] h e = absurd (false≢true e)
 one-refusal r (c ∷ cs) h e =
     split c.0
-    (λ t. row-refuses c.0 c.1 cs t ∙ ap (λ x. some (asAnswer x)) h.0)
+    (λ t. row-refuses c.0 c.1 cs t ∙ ap (λ x. some (as_answer x)) h.0)
     (λ t. let p = row-passes c.0 c.1 cs t in p ∙ one-refusal r cs h.1 (ap is_some (sym p) ∙ e))
 
 -- what a row answers is a refusal
-pub row-refusal : (cs : Row) {a : Answer} → first_of cs ≡ some a → (r : Refusal) × (a ≡ asAnswer r)
+pub row-refusal : (cs : Row) {a : Answer} → first_of cs ≡ some a → (r : Refusal) × (a ≡ as_answer r)
 unfolding first_of
 row-refusal [] e = some≢none (sym e)
 row-refusal (c ∷ cs) {a} e =
     split c.0
-    (λ t. let i : some (asAnswer c.1) ≡ some a = sym (row-refuses c.0 c.1 cs t) ∙ e in (c.1, cc))
+    (λ t. let i : some (as_answer c.1) ≡ some a = sym (row-refuses c.0 c.1 cs t) ∙ e in (c.1, cc))
     (λ t. row-refusal cs (sym (row-passes c.0 c.1 cs t) ∙ e))
 
 is_refused : Answer → Bool

@@ -12,7 +12,7 @@ use Rattle.laws.specs.Cases.{split}
 use Rattle.laws.specs.Cleared.{cleared, cleared_at}
 use Rattle.laws.specs.Lists.{is_empty, join_all, member}
 use Rattle.laws.specs.Members.{map_same, map_in, in_filtered, filtered_in, member_mem, mem_member}
-use Rattle.laws.specs.Same.{exact-number}
+use Rattle.laws.proofs.SameLaws.{exact-number}
 use Rattle.graph.specs.Lent.{kept-further, cleared-kept}
 use Rattle.export.specs.Blocks.{met, block_at, total}
 use Rattle.export.specs.BlocksLaws.{every-met, first-met, children_met, blocks-length, block-first, block_within}

@@ -12,10 +12,10 @@ build_checks bytes lent_work = list_row bytes ++ (ltb lent_work (8 * length byte
 
 -- "25 for over 16,777,216 nodes; then 11 where the finished graph has more nodes than the lent list"
 abbrev pub built_row : Graph → ℕ → Row
-built_row g lentNodes = (ltb 16_777_216 (length g), refusing 25 []) ∷ (ltb lentNodes (length g), refusing 11 []) ∷ []
+built_row g lent_nodes = (ltb 16_777_216 (length g), refusing 25 []) ∷ (ltb lent_nodes (length g), refusing 11 []) ∷ []
 
 unfoldable pub build_row : List ℕ → ℕ → ℕ → Row
-build_row bytes lent_work lentNodes = build_checks bytes lent_work ++ built_row (built (words_listed bytes)) lentNodes
+build_row bytes lent_work lent_nodes = build_checks bytes lent_work ++ built_row (built (words_listed bytes)) lent_nodes
 
 pub record Building : Type 0 where
   pub answer : Answer

@@ -1,6 +1,2 @@
 pub mod History
 pub mod Trusted
-pub mod PlaceLaws
-pub mod ExactlyLaws
-pub mod CallLaws
-pub mod EveningLaws

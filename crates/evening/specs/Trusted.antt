@@ -1,7 +1,7 @@
 -- What can be trusted over a whole evening.
 use Rattle.std.specs.Prelude.{◌≡◌, true, false, ◌↔◌, ℕ, ◌*◌, ◌≤◌, ◌<◌, length, get_or}
 use mathlib.Core.List.{List, [], map, Memᴰ}
-use Rattle.answers.specs.Answers.{refused, refusalIn}
+use Rattle.answers.specs.Answers.{refused, refusal_in}
 use Rattle.graph.specs.Words.{Word}
 use Rattle.in_play.specs.InPlay.{in_play}
 use Rattle.evening.specs.History.{Call, Evening, is_arrival, arrived, answer_after, answers_after, history_after}
@@ -19,9 +19,9 @@ pub record Agrees (lex : List Word) (first bits : List ℕ) (accepted : List Cal
 -- "29 for a word not in the lexicon [..], 30 for an arrival of a word in play, 31 for leaving when it isn't": a call after this history is refused by
 -- each exactly then
 pub record Exactly (lex : List Word) (accepted : List Call) (c : Call) : Type 0 where
-  pub unknown : (refusalIn (answer_after lex accepted c) ≡ 29) ↔ (Memᴰ c.word lex → ⊥)
-  pub again : (refusalIn (answer_after lex accepted c) ≡ 30) ↔ (is_arrival c.move ≡ true) × (arrived accepted c.word ≡ true)
-  pub away : (refusalIn (answer_after lex accepted c) ≡ 31)
+  pub unknown : (refusal_in (answer_after lex accepted c) ≡ 29) ↔ (Memᴰ c.word lex → ⊥)
+  pub again : (refusal_in (answer_after lex accepted c) ≡ 30) ↔ (is_arrival c.move ≡ true) × (arrived accepted c.word ≡ true)
+  pub away : (refusal_in (answer_after lex accepted c) ≡ 31)
       ↔ (is_arrival c.move ≡ false) × (arrived accepted c.word ≡ false) × Memᴰ c.word lex
 
 -- every answer of a list of calls over a record, refused ones too, and the record in the end

@@ -8,7 +8,8 @@ use mathlib.Core.List.{Memᴰ}
 use Prim.Native.Nat.{ℕ, zero, suc, ◌+◌}
 use Rattle.laws.specs.Cases.{split}
 use Rattle.laws.specs.Lists.{some_of}
-use Rattle.laws.specs.Same.{Exact, exact-apart, apart-exact}
+use Rattle.laws.specs.Same.{Exact}
+use Rattle.laws.proofs.SameLaws.{exact-apart, apart-exact}
 use Rattle.export.specs.Blocks.{each, met, block_at}
 use Rattle.export.specs.BlocksLaws.{met_holds}
 

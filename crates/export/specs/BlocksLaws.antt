@@ -12,7 +12,8 @@ use Rattle.std.proofs.Math.ListN.{length-append}
 use Rattle.std.proofs.Math.Seq.{drop-append_seam}
 use Rattle.laws.specs.Cases.{split, below?}
 use Rattle.laws.specs.Lists.{filtered, member, some_of, join_all, join_map_append}
-use Rattle.laws.specs.Same.{Exact, exact-number, exact-apart}
+use Rattle.laws.specs.Same.{Exact}
+use Rattle.laws.proofs.SameLaws.{exact-number, exact-apart}
 use Rattle.laws.specs.Members.{member_mem, mem_member, some_of_lem, filtered-length, filtered-less}
 use Rattle.laws.specs.Without.{below, length-below, in_below}
 use Rattle.export.specs.Blocks.{each, met, block_at, total}

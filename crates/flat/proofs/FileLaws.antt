@@ -11,13 +11,13 @@ use Rattle.lxd.specs.contracts.Lxd as lxd
 use Rattle.lxd.specs.Said.{said_lxd}
 use Rattle.lxd.specs.declared.Lxd.{Lxd}
 use Rattle.lxd.specs.declared.Lxd.TheVariants as L
-use Rattle.answers.specs.Answers.{Answer, refusalIn}
+use Rattle.answers.specs.Answers.{Answer, refusal_in}
 use Rattle.flat.specs.FlatFiles.{file_of, flat_file}
 use Rattle.flat.specs.declared.files.FlatFile.{FlatFile}
 
 -- a flat answer with no more than the number
 abbrev pub number_only : Answer → FlatFile
-number_only a = record { refusal = refusalIn a; arc = 0; written = 0 }
+number_only a = record { refusal = refusal_in a; arc = 0; written = 0 }
 
 -- which is read as the answer, and filled by it
 abbrev pub Says : Answer → Type 0

@@ -35,7 +35,7 @@ abbrev pub found : Bool → List ℕ → Answer
 found true vs = gives vs
 found false vs = nothing
 
--- ---- how an answer fills fields: the refusal's number by `refusalIn`, and 0 where it has no value for one
+-- ---- how an answer fills fields: the refusal's number by `refusal_in`, and 0 where it has no value for one
 abbrev pub value_in : Answer → ℕ
 value_in a = value_at 0 a
 

@@ -1,6 +1,6 @@
 -- The flat answer of building: how many nodes the graph has.
 use Rattle.std.specs.Prelude.{[], ◌∷◌}
-use Rattle.answers.specs.Answers.{Answer, gives, refusalIn}
+use Rattle.answers.specs.Answers.{Answer, gives, refusal_in}
 use Rattle.graph.specs.Runs.{Graph}
 use Rattle.built.specs.Build.{Building}
 use Rattle.flat.specs.Flat.{plainly, value_in}
@@ -15,4 +15,4 @@ abbrev pub building_of : FlatBuilt → Graph → Building
 building_of r after = record { answer = built_of r; nodes = after }
 
 abbrev pub flat_built : Answer → FlatBuilt
-flat_built a = record { refusal = refusalIn a; nodes = value_in a }
+flat_built a = record { refusal = refusal_in a; nodes = value_in a }

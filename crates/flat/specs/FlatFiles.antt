@@ -1,6 +1,6 @@
 -- The flat answer of the writers of files.
 use Rattle.std.specs.Prelude.{true, false, List, [], ◌∷◌, ℕ, eqb}
-use Rattle.answers.specs.Answers.{Answer, gives, refusalIn}
+use Rattle.answers.specs.Answers.{Answer, gives, refusal_in}
 use Rattle.export.specs.Written.{Written}
 use Rattle.macondo.specs.declared.MacondoFormat.{MacondoFormat}
 use Rattle.macondo.specs.declared.MacondoFormat.TheVariants.{Dawg, Gaddag}
@@ -19,4 +19,4 @@ abbrev pub file_written : FlatFile → List ℕ → Written
 file_written r bytes = record { answer = file_of r; bytes = bytes }
 
 abbrev pub flat_file : Answer → FlatFile
-flat_file a = record { refusal = refusalIn a; arc = arc_carried a; written = value_in a }
+flat_file a = record { refusal = refusal_in a; arc = arc_carried a; written = value_in a }

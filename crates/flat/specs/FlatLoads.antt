@@ -1,6 +1,6 @@
 -- The flat answers of repacking and loading, and a load's flat state.
 use Rattle.std.specs.Prelude.{true, false, List, [], ◌∷◌, ℕ, eqb}
-use Rattle.answers.specs.Answers.{Answer, gives, refusalIn}
+use Rattle.answers.specs.Answers.{Answer, gives, refusal_in}
 use Rattle.graph.specs.Runs.{Graph}
 use Rattle.load.specs.Repacking.{misfit, misfit_answer}
 use Rattle.load.specs.Loading.{kept_misfit, Begins, Feeds, Finishes}
@@ -21,7 +21,7 @@ abbrev pub repacked_of : FlatRepacked → Answer
 repacked_of r = refused_or r.refusal r.node r.tile r.arc (gives [])
 
 abbrev pub flat_repacked : Answer → FlatRepacked
-flat_repacked a = record { refusal = refusalIn a; arc = arc_carried a; node = node_carried a; tile = tile_carried a }
+flat_repacked a = record { refusal = refusal_in a; arc = arc_carried a; node = node_carried a; tile = tile_carried a }
 
 -- ---- the state: "a refusal 6 once met" is kept where the state's refusal is not 0
 abbrev pub kept_of : ℕ → ℕ → ℕ → ℕ → KeptRefusal
@@ -49,7 +49,7 @@ flat_loader s =
       held_count = s.held_count;
       node = node_carried (kept_answer s.kept);
       layout = layout_number s.layout;
-      refusal = refusalIn (kept_answer s.kept);
+      refusal = refusal_in (kept_answer s.kept);
       arc = arc_carried (kept_answer s.kept);
       tile = tile_carried (kept_answer s.kept);
       held = s.held;
@@ -60,7 +60,7 @@ abbrev pub begun_of : FlatBegun → Begins
 begun_of r = record { answer = plainly r.refusal (gives []); state = state_of r.loader }
 
 abbrev pub flat_begun : Begins → FlatBegun
-flat_begun b = record { refusal = refusalIn b.answer; loader = flat_loader b.state }
+flat_begun b = record { refusal = refusal_in b.answer; loader = flat_loader b.state }
 
 abbrev pub fed_of : FlatFed → Graph → Feeds
 fed_of r nodes =
@@ -73,7 +73,7 @@ fed_of r nodes =
 abbrev pub flat_fed : Feeds → FlatFed
 flat_fed f =
     record {
-      refusal = refusalIn f.answer;
+      refusal = refusal_in f.answer;
       arc = arc_carried f.answer;
       node = node_carried f.answer;
       tile = tile_carried f.answer;
@@ -87,7 +87,7 @@ abbrev pub finishes_of : FlatFinished → Graph → Finishes
 finishes_of r nodes = record { answer = finished_of r; nodes = nodes }
 
 abbrev pub flat_finished : Answer → FlatFinished
-flat_finished a = record { refusal = refusalIn a; arc = arc_carried a; nodes = value_in a; node = node_carried a; tile = tile_carried a }
+flat_finished a = record { refusal = refusal_in a; arc = arc_carried a; nodes = value_in a; node = node_carried a; tile = tile_carried a }
 
 -- ---- a whole load, with the lists that it left
 abbrev pub loaded_of : FlatLoaded → List ℕ → Graph → LoadLeft
@@ -101,4 +101,4 @@ loaded_of r answers nodes =
     }
 
 abbrev pub flat_loaded : LoadLeft → FlatLoaded
-flat_loaded l = record { begun = refusalIn l.begun; loader = flat_loader l.state; finished = flat_finished l.finished }
+flat_loaded l = record { begun = refusal_in l.begun; loader = flat_loader l.state; finished = flat_finished l.finished }

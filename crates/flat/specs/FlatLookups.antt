@@ -1,6 +1,6 @@
 -- The flat answers of run lookup, the run cursor and both word-number conversions.
 use Rattle.std.specs.Prelude.{◌≡◌, Bool, true, false, List, [], ◌∷◌, ◌++◌, ℕ, length, drop}
-use Rattle.answers.specs.Answers.{Answer, gives, nothing, refused, refusalIn, value_at}
+use Rattle.answers.specs.Answers.{Answer, gives, nothing, refused, refusal_in, value_at}
 use Rattle.graph.specs.Runs.{Graph}
 use Rattle.lookup.specs.Steps.{on, ◌>>=◌, answer, lent_part, lent}
 use Rattle.cursor.specs.RunSteps.{Moves}
@@ -14,7 +14,7 @@ abbrev pub sought_of : FlatSought → Answer
 sought_of r = plainly r.refusal (found r.found (r.place ∷ r.before ∷ []))
 
 abbrev pub flat_sought : Answer → FlatSought
-flat_sought a = record { refusal = refusalIn a; found = is_given a; place = value_in a; before = value_at 1 a }
+flat_sought a = record { refusal = refusal_in a; found = is_given a; place = value_in a; before = value_at 1 a }
 
 -- ---- the cursor
 -- "made at a lent node": elsewhere 14, as each step from there
@@ -45,20 +45,20 @@ is_none nothing = true
 is_none (refused n vs) = false
 
 abbrev pub flat_cursor : Moves → FlatCursor
-flat_cursor m = record { refusal = refusalIn m.answer; done = is_none m.answer; at = m.at }
+flat_cursor m = record { refusal = refusal_in m.answer; done = is_none m.answer; at = m.at }
 
 -- ---- numbers
 abbrev pub index_of : FlatIndex → Answer
 index_of r = plainly r.refusal (found r.found (r.number ∷ []))
 
 abbrev pub flat_index : Answer → FlatIndex
-flat_index a = record { refusal = refusalIn a; found = is_given a; number = value_in a }
+flat_index a = record { refusal = refusal_in a; found = is_given a; number = value_in a }
 
 abbrev pub word_of : FlatWord → Answer
 word_of r = plainly r.refusal (found r.found (r.tiles ∷ []))
 
 abbrev pub flat_word : Answer → FlatWord
-flat_word a = record { refusal = refusalIn a; found = is_given a; tiles = value_in a }
+flat_word a = record { refusal = refusal_in a; found = is_given a; tiles = value_in a }
 
 -- "After a refusal or none the tiles already put stay, the rest of the buffer as before."
 pub record FlatWordPut (walk : List ℕ × Answer) (before after : List ℕ) (r : FlatWord) : Type 0 where

@@ -1,6 +1,6 @@
 -- The flat answer of words in play: how many are not, and the lowest of their numbers where there is one.
 use Rattle.std.specs.Prelude.{Bool, true, false, List, [], ◌∷◌, ℕ}
-use Rattle.answers.specs.Answers.{Answer, gives, nothing, refused, refusalIn, value_at}
+use Rattle.answers.specs.Answers.{Answer, gives, nothing, refused, refusal_in, value_at}
 use Rattle.in_play.specs.InPlay.{Played}
 use Rattle.flat.specs.Flat.{plainly, value_in}
 use Rattle.flat.specs.declared.playing.FlatInPlay.{FlatInPlay}
@@ -24,4 +24,4 @@ has_lowest nothing = false
 has_lowest (refused n vs) = false
 
 abbrev pub flat_play : Answer → FlatInPlay
-flat_play a = record { refusal = refusalIn a; found = has_lowest a; remaining = value_in a; lowest = value_at 1 a }
+flat_play a = record { refusal = refusal_in a; found = has_lowest a; remaining = value_in a; lowest = value_at 1 a }

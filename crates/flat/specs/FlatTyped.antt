@@ -1,6 +1,6 @@
 -- The flat answers of words as viewers type them.
 use Rattle.std.specs.Prelude.{Bool, true, false, ◌||◌, [], ◌∷◌, ℕ, eqb, get_or}
-use Rattle.answers.specs.Answers.{Answer, gives, nothing, refused, refusalIn, value_at}
+use Rattle.answers.specs.Answers.{Answer, gives, nothing, refused, refusal_in, value_at}
 use Rattle.flat.specs.Flat.{found, is_given}
 use Rattle.flat.specs.declared.typing.FlatTyped.{FlatTyped}
 use Rattle.flat.specs.declared.typing.FlatTypedList.{FlatTypedList}
@@ -29,7 +29,7 @@ bad_carried (refused n vs) = elim (carries_bad n) [ true ↦ get_or vs 0 0 | fal
 abbrev pub flat_typed : Answer → FlatTyped
 flat_typed a =
     record {
-      refusal = refusalIn a;
+      refusal = refusal_in a;
       found = is_given a;
       bad = bad_carried a;
       start = value_at 0 a;
@@ -41,7 +41,7 @@ flat_typed a =
 abbrev pub flat_typed_list : Answer → FlatTypedList
 flat_typed_list a =
     record {
-      refusal = refusalIn a;
+      refusal = refusal_in a;
       found = is_given a;
       bad = bad_carried a;
       words = value_at 0 a;

@@ -1,7 +1,7 @@
 -- A flat state is read back as the state that it was made of: field by field, with the two cases of the layout and of the kept refusal.
 use Rattle.std.specs.Prelude.{◌≡◌, refl}
 use Rattle.std.proofs.Common.{sym, ap, ◌∙◌}
-use Rattle.answers.specs.Answers.{refusalIn}
+use Rattle.answers.specs.Answers.{refusal_in}
 use Rattle.node.specs.declared.Layout.{Layout}
 use Rattle.node.specs.declared.Layout.TheVariants.{Kwg, Kbwg}
 use Rattle.load.specs.declared.loader.KeptRefusal.{KeptRefusal}
@@ -15,7 +15,7 @@ layout-back : (y : Layout) → layout_of (layout_number y) ≡ y
 layout-back Kwg = refl
 layout-back Kbwg = refl
 
-kept_back : (k : KeptRefusal) → let a = kept_answer k in kept_of (refusalIn a) (node_carried a) (tile_carried a) (arc_carried a) ≡ k
+kept_back : (k : KeptRefusal) → let a = kept_answer k in kept_of (refusal_in a) (node_carried a) (tile_carried a) (arc_carried a) ≡ k
 kept_back Nothing = refl
 kept_back (DoesNotFit m) = refl
 

@@ -1,6 +1,6 @@
 // Files for other programs. A format is a number: 0 is a DAWG, every other number a GADDAG.
 ghost use Rattle.std.specs.Prelude.{◌≡◌};
-ghost use Rattle.answers.specs.Answers.{refusalIn};
+ghost use Rattle.answers.specs.Answers.{refusal_in};
 ghost use Rattle.macondo.specs.Said.{said_macondo};
 ghost use Rattle.lxd.specs.Said.{said_lxd};
 ghost use Rattle.flat.specs.FlatFiles.{format_numbered, file_of, flat_file};
@@ -38,7 +38,7 @@ pub fn format_numbered(number: u32) -> MacondoFormat
 }
 
 fn macondo_refusal(answer: Macondo) -> u32
-    ensures { result ≡ refusalIn (said_macondo answer) }
+    ensures { result ≡ refusal_in (said_macondo answer) }
 {
     match answer {
         Macondo::Written(_) => 0,
@@ -69,7 +69,7 @@ pub fn flat_macondo(answer: Macondo) -> FlatFile
 }
 
 fn lxd_refusal(answer: Lxd) -> u32
-    ensures { result ≡ refusalIn (said_lxd answer) }
+    ensures { result ≡ refusal_in (said_lxd answer) }
 {
     match answer {
         Lxd::Written(_) => 0,

@@ -1,2 +1,4 @@
 -- What the proofs of several functions use.
 mod CheckRows
+pub mod CountedOnce
+pub mod WordsAscend

@@ -8,8 +8,6 @@ pub mod Lent
 pub mod Checks
 pub mod ChecksLaws
 pub mod Counting
-pub mod CountedOnce
-pub mod WordsAscend
 pub mod WordsEquation
 pub mod UpwardLaws
 pub mod LoopLaws

@@ -23,14 +23,14 @@ use Rattle.graph.specs.Counting.{counts, count_row, IsCounted, all, Counts}
 use Rattle.built.specs.Listed.{words_listed}
 use Rattle.built.specs.Build.{build_as}
 use Rattle.built.specs.Claim.{FromList}
-use Rattle.built.specs.ClaimLaws.{was_built, built_claim}
+use Rattle.built.proofs.ClaimLaws.{was_built, built_claim}
 use Rattle.guarantees.specs.Demand3.{CountedLoad, loaded_graph}
 use Rattle.guarantees.specs.BuiltLexicon.{LexiconInUse, BuiltLexicons}
 use Rattle.guarantees.proofs.Demand3Laws.{demand_3}
 
 module _ (limit : ℕ) (ws : List Word) (g : Graph) (claim : FromList ws g) (few : length ws < limit) (n : ℕ) (size : length g ≡ n)
     (lent : Graph) (room : n ≤ length lent) (pieces : List (List ℕ)) (cut : join_all pieces ≡ node_bytes g)
-    (lent_counts : List ℕ) (countWork : ℕ) (enough : n ≤ length lent_counts) (work : 2 * n ≤ countWork) where
+    (lent_counts : List ℕ) (count_work : ℕ) (enough : n ≤ length lent_counts) (work : 2 * n ≤ count_work) where
   abbrev announced : ℕ
   announced = length (node_bytes g)
 
@@ -46,16 +46,16 @@ module _ (limit : ℕ) (ws : List Word) (g : Graph) (claim : FromList ws g) (few
   counting : Counts limit g
   counting = claim.counts limit few
 
-  passes : first_of (count_row g (length lent_counts) countWork) ≡ none
+  passes : first_of (count_row g (length lent_counts) count_work) ≡ none
   passes =
       rows_pass (graph_row g) _ counting.fit
-      ∙ row-passes _ _ _ (rw (le-ltb (length lent_counts) (length g) (omega arith), le-ltb countWork (2 * length g) (omega arith)))
+      ∙ row-passes _ _ _ (rw (le-ltb (length lent_counts) (length g) (omega arith), le-ltb count_work (2 * length g) (omega arith)))
       ∙ row_ends
 
-  counts-so : IsCounted limit graph lent_counts countWork (gives []) counted
+  counts-so : IsCounted limit graph lent_counts count_work (gives []) counted
   counts-so =
-      subst (λ (h : Graph). IsCounted limit h lent_counts countWork (gives []) (counts h ++ drop n lent_counts)) (sym graph_is)
-      (subst (λ k. IsCounted limit g lent_counts countWork (gives []) (counts g ++ drop k lent_counts)) size
+      subst (λ (h : Graph). IsCounted limit h lent_counts count_work (gives []) (counts h ++ drop n lent_counts)) (sym graph_is)
+      (subst (λ k. IsCounted limit g lent_counts count_work (gives []) (counts g ++ drop k lent_counts)) size
       (all passes counting.loopless counting.few))
 
   loaded : CountedLoad announced Kbwg lent pieces limit n counted
@@ -63,7 +63,7 @@ module _ (limit : ℕ) (ws : List Word) (g : Graph) (claim : FromList ws g) (few
       record {
         loads = (claim.loads lent (omega arith) pieces cut).0 ∙ ap (λ k. gives (k ∷ [])) size;
         lent_counts = lent_counts;
-        lent_work = countWork;
+        lent_work = count_work;
         counts = counts-so;
         ascending = subst (λ (h : Graph). ascends kbwg h ≡ true) (sym graph_is) claim.ascending;
       }
@@ -87,7 +87,7 @@ module _ (limit : ℕ) (ws : List Word) (g : Graph) (claim : FromList ws g) (few
 
 -- for counts of any width
 pub built_lexicons : (limit : ℕ) → BuiltLexicons limit
-built_lexicons limit bytes lent_work lentNodes n built few lent room pieces cut lent_counts countWork enough work =
-    let b = was_built bytes lent_work lentNodes n built in
-    lexicon_in_use limit (words_listed bytes) (take n (build_as bytes lent_work lentNodes).nodes) (built_claim bytes lent_work lentNodes n built) few n
-    (ap length b.nodes-are ∙ b.size) lent room pieces cut lent_counts countWork enough work
+built_lexicons limit bytes lent_work lent_nodes n built few lent room pieces cut lent_counts count_work enough work =
+    let b = was_built bytes lent_work lent_nodes n built in
+    lexicon_in_use limit (words_listed bytes) (take n (build_as bytes lent_work lent_nodes).nodes) (built_claim bytes lent_work lent_nodes n built) few n
+    (ap length b.nodes-are ∙ b.size) lent room pieces cut lent_counts count_work enough work

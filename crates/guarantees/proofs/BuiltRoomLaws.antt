@@ -16,9 +16,9 @@ use Rattle.export.specs.Blocks.{each, met, total}
 use Rattle.export.specs.BlocksLaws.{blocks-length}
 use Rattle.built.specs.Branches.{Branch, branches_with, branches, first_tiles, onward, onwards}
 use Rattle.built.specs.Built.{same_words, word_runs, arc_to, built}
-use Rattle.built.specs.RunsLaws.{run_length, run_block, built-is}
+use Rattle.built.proofs.RunsLaws.{run_length, run_block, built-is}
 use Rattle.built.specs.Listed.{words_listed, list_row, list_bytes}
-use Rattle.built.specs.ListedLaws.{listed-lexicon}
+use Rattle.built.proofs.ListedLaws.{listed-lexicon}
 use Rattle.built.specs.Build.{build_checks, built_row, build_row, building, build_as}
 use Rattle.guarantees.specs.BuiltRoom.{RoomEnough}
 
@@ -123,11 +123,11 @@ bytes-tiles (w ∷ ws) =
 
 pub room-enough : RoomEnough
 unfolding build_as build_row
-room-enough bytes lent_work lentNodes checked few room =
+room-enough bytes lent_work lent_nodes checked few room =
     let g = built (words_listed bytes) in
     let read = ap length (listed-lexicon bytes (rows-passed (list_row bytes) _ checked)).1 in
     let a = built-small (words_listed bytes) in
     let b = bytes-tiles (words_listed bytes) in
-    let fits : length g ≤ length lentNodes = omega arith in
-    let passes = all_pass (built_row g (length lentNodes)) (le-ltb 16_777_216 (length g) few, (le-ltb (length lentNodes) (length g) fits, tt)) in
-    ap (λ o. (building o g lentNodes).answer) (rows_pass (build_checks bytes lent_work) (built_row g (length lentNodes)) checked ∙ passes)
+    let fits : length g ≤ length lent_nodes = omega arith in
+    let passes = all_pass (built_row g (length lent_nodes)) (le-ltb 16_777_216 (length g) few, (le-ltb (length lent_nodes) (length g) fits, tt)) in
+    ap (λ o. (building o g lent_nodes).answer) (rows_pass (build_checks bytes lent_work) (built_row g (length lent_nodes)) checked ∙ passes)

@@ -12,23 +12,23 @@ use Rattle.answers.specs.RowLaws.{row-never_gives}
 use Rattle.node.specs.declared.Layout.{Layout}
 use Rattle.graph.specs.Runs.{Graph, start_node}
 use Rattle.graph.specs.Counting.{Counts}
-use Rattle.load.specs.FinishLaws.{finished-within}
-use Rattle.load.specs.StateLaws.{sound}
+use Rattle.load.proofs.FinishLaws.{finished-within}
+use Rattle.load.proofs.StateLaws.{sound}
 use Rattle.pieces.specs.Pieces.{load_pieces, fed_pieces}
-use Rattle.pieces.specs.PiecesLaws.{loads_as_whole, loads_however_cut}
+use Rattle.pieces.proofs.PiecesLaws.{loads_as_whole, loads_however_cut}
 use Rattle.lookup.specs.GraphLent.{GraphLent}
 use Rattle.numbers.specs.WordNumbers.{WordNumbers}
-use Rattle.numbers.specs.WordNumbersLaws.{numbered, counted-lent, lent-left}
+use Rattle.numbers.proofs.WordNumbersLaws.{numbered, counted-lent, lent-left}
 use Rattle.export.specs.ChainLaws.{shallow-equation}
 use Rattle.export.specs.Written.{written}
 use Rattle.macondo_file.specs.File.{Format, dawg, gaddag, marks, macondo_file}
 use Rattle.macondo_file.specs.Row.{macondo_row, to_macondo}
 use Rattle.macondo_file.specs.RowLaws.{accepted-checks, accepted-walk}
-use Rattle.macondo_file.specs.SpellingLaws.{macondo-spells}
+use Rattle.macondo_file.proofs.SpellingLaws.{macondo-spells}
 use Rattle.lxd_file.specs.File.{lxd_file}
 use Rattle.lxd_file.specs.Row.{lxd_row, to_lxd}
-use Rattle.lxd_file.specs.RowLaws.{accepted}
-use Rattle.lxd_file.specs.SpellingLaws.{lxd-spells}
+use Rattle.lxd_file.proofs.RowLaws.{accepted}
+use Rattle.lxd_file.proofs.SpellingLaws.{lxd-spells}
 use Rattle.guarantees.specs.Demand3.{Demand3, CountedLoad, Wrote, WordsAt, loaded_nodes, loaded_graph}
 
 module _ (announced : ℕ) (layout : Layout) (lent : Graph) (pieces : List (List ℕ)) (limit n : ℕ) (counted : List ℕ)
@@ -53,8 +53,8 @@ module _ (announced : ℕ) (layout : Layout) (lent : Graph) (pieces : List (List
   pub loaded-inside : (p : ℕ) → p < n → p < length graph
   loaded-inside p h = rw (length-take-le n nodes within) h
 
-  numbers : (lentNodes counts : List ℕ) → GraphLent graph lentNodes counts → (p : ℕ) → 0 < p → p < n → WordNumbers limit graph lentNodes counts p
-  numbers lentNodes counts is p z h = numbered limit graph loaded-counts r.ascending lentNodes counts is p z (loaded-inside p h)
+  numbers : (lent_nodes counts : List ℕ) → GraphLent graph lent_nodes counts → (p : ℕ) → 0 < p → p < n → WordNumbers limit graph lent_nodes counts p
+  numbers lent_nodes counts is p z h = numbered limit graph loaded-counts r.ascending lent_nodes counts is p z (loaded-inside p h)
 
 -- ---- where a writer answers a length, no check refused, and the bytes are the file's
 wrote-passed : (row : Row) (file lent : List ℕ) {bytes : List ℕ} (o : Option Answer) → first_of row ≡ o

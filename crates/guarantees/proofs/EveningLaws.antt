@@ -1,7 +1,7 @@
 -- An evening can be trusted. The idea: it is a law of the crate that owns evenings; here is only that a graph that loads and counts has what
 -- that asks.
 use Prim.Native.Nat.{ℕ}
-use Rattle.evening.specs.EveningLaws.{played-trusted}
+use Rattle.evening.proofs.EveningLaws.{played-trusted}
 use Rattle.guarantees.specs.Demand3.{loaded_graph}
 use Rattle.guarantees.specs.Evening.{TrustedEvening}
 use Rattle.guarantees.proofs.Demand3Laws.{loaded-counts, loaded-inside}

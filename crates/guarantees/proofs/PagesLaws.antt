@@ -1,8 +1,8 @@
 -- Pages hold. The idea: they are laws of the crate that owns pages; here is only that a graph that loads and counts has what these ask.
 use Rattle.page.specs.Rows.{Widths, page_widths}
 use Rattle.page.specs.Columns.{WideEnough}
-use Rattle.page.specs.ColumnsLaws.{page_wide, columns}
-use Rattle.page.specs.ShowsLaws.{page-shows}
+use Rattle.page.proofs.ColumnsLaws.{page_wide, columns}
+use Rattle.page.proofs.ShowsLaws.{page-shows}
 use Rattle.guarantees.specs.Demand3.{loaded_graph}
 use Rattle.guarantees.specs.Pages.{Pages}
 use Rattle.guarantees.proofs.Demand3Laws.{loaded-counts, loaded-inside}

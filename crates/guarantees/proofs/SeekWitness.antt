@@ -10,7 +10,7 @@ use Rattle.graph.specs.Counting.{counts}
 use Rattle.lookup.specs.Steps.{lent}
 use Rattle.lookup.specs.Walks.{find_in, arc_of, step_to, seek}
 use Rattle.lookup.specs.WordsBefore.{words_before, named_before}
-use Rattle.lookup.specs.WordsBeforeLaws.{seek-names}
+use Rattle.lookup.proofs.WordsBeforeLaws.{seek-names}
 use Rattle.guarantees.specs.Starred.{five_nodes}
 use Rattle.guarantees.proofs.PageWitness.{G-own}
 

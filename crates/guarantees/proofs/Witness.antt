@@ -36,7 +36,7 @@ use Rattle.lxd_file.specs.File.{runs, child, lxd_node, lxd_nodes, lxd_file}
 use Rattle.lxd_file.specs.Row.{lxd_row, to_lxd}
 use Rattle.lxd_file.specs.Spelling.{SpellsLxd}
 use Rattle.alphagrams.specs.Alphagrams.{NeverDescends, AlphagramLexicon, AlphaMeans}
-use Rattle.alphagrams.specs.MeaningLaws.{alpha-means}
+use Rattle.alphagrams.proofs.MeaningLaws.{alpha-means}
 use Rattle.guarantees.specs.Demand3.{CountedLoad, Wrote, loaded_nodes}
 use Rattle.guarantees.proofs.Demand3Laws.{demand_3}
 use Rattle.guarantees.specs.Starred.{five_nodes, labels}

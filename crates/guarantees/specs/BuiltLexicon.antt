@@ -29,10 +29,10 @@ pub record LexiconInUse (limit : ℕ) (ws : List Word) (announced : ℕ) (lent :
 -- of the nodes, however it is cut, and counted with lists long enough.
 abbrev pub BuiltLexicons : ℕ → Type 0
 BuiltLexicons limit =
-    (bytes : List ℕ) (lent_work : ℕ) (lentNodes : Graph) (n : ℕ)
-    → (build_as bytes lent_work lentNodes).answer ≡ gives (n ∷ [])
+    (bytes : List ℕ) (lent_work : ℕ) (lent_nodes : Graph) (n : ℕ)
+    → (build_as bytes lent_work lent_nodes).answer ≡ gives (n ∷ [])
     → length (words_listed bytes) < limit
-    → let file = node_bytes (take n (build_as bytes lent_work lentNodes).nodes) in
+    → let file = node_bytes (take n (build_as bytes lent_work lent_nodes).nodes) in
     (lent : Graph) → n ≤ length lent → (pieces : List (List ℕ)) → join_all pieces ≡ file
-    → (lent_counts : List ℕ) (countWork : ℕ) → n ≤ length lent_counts → 2 * n ≤ countWork
+    → (lent_counts : List ℕ) (count_work : ℕ) → n ≤ length lent_counts → 2 * n ≤ count_work
     → LexiconInUse limit (words_listed bytes) (length file) lent pieces n (counts (loaded_graph (length file) Kbwg lent pieces n) ++ drop n lent_counts)

@@ -12,8 +12,8 @@ use Rattle.built.specs.Build.{build_checks, build_as}
 -- so with that many nodes lent the last 11 never comes.
 abbrev pub RoomEnough : Type 0
 RoomEnough =
-    (bytes : List ℕ) (lent_work : ℕ) (lentNodes : Graph)
+    (bytes : List ℕ) (lent_work : ℕ) (lent_nodes : Graph)
     → first_of (build_checks bytes lent_work) ≡ none
     → length (built (words_listed bytes)) ≤ 16_777_216
-    → 2 + length bytes ≤ length lentNodes
-    → (build_as bytes lent_work lentNodes).answer ≡ gives (length (built (words_listed bytes)) ∷ [])
+    → 2 + length bytes ≤ length lent_nodes
+    → (build_as bytes lent_work lent_nodes).answer ≡ gives (length (built (words_listed bytes)) ∷ [])

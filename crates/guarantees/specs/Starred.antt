@@ -1,5 +1,5 @@
--- The starred cases of document 01, "Five nodes to check by", computed from the definitions themselves: the entries of one list, and
--- the lemma that goes through it.
+-- The starred cases of document 01, "Five nodes to check by", as the entries of one list; that
+-- they hold is computed from the definitions themselves.
 use Rattle.std.specs.Prelude.{◌≡◌, refl, List, [], ◌∷◌, map, ℕ, get_or}
 use Rattle.laws.specs.BitSets.{bit_set}
 use Rattle.laws.specs.Lists.{All}
@@ -96,12 +96,3 @@ cases =
       expected = (0x8A800000 ∷ 0x8A800002 ∷ 0x50400004 ∷ 0x90800004 ∷ 0xD0800000 ∷ [], 3);
     }
     ∷ []
-
-pub starred : All Holds cases
-unfolding cases fits fitting run in_order spelled words_within words table load_pieces fed_pieces feed_all begin feed finish first_of holding
-    state_after nodes_after whole_nodes part_node first_misfit zeros largest_arc last_ends lent difference sum find_in arc_of step_to
-    words_between passed passed_after passed_first number_ending index_from index_of_word word_index words_here turn_in word_from
-    word_by_index bit_set letter_bits_of bits_written tiles_of copies spent accepts_at completes closing along cross_copies cross_letters
-    cross_from cross_set inserted_all met block_at letters letter_of arcs_of set_of blocks letter_sets block_of macondo_nodes byte_of runs
-    child lxd_node lxd_nodes
-starred = (refl, (refl, (refl, (refl, (refl, (refl, (refl, (refl, (refl, (refl, (refl, tt)))))))))))

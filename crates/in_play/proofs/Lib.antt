@@ -1,3 +1,5 @@
 pub mod UpFromLaws
 pub mod GroupLaws
 pub mod ScanLaws
+pub mod PlayLaws
+pub mod ChangesLaws

@@ -27,7 +27,7 @@ every v = true
 
 -- "11+ a lent list too short"
 abbrev pub bits_row : Graph → ℕ → ℕ → Row
-bits_row g lentAll lentAccepting = (ltb lentAll (length g) || ltb lentAccepting (length g), refusing 11 []) ∷ []
+bits_row g lent_all lent_accepting = (ltb lent_all (length g) || ltb lent_accepting (length g), refusing 11 []) ∷ []
 
 -- What the call answers, and both lists after it.
 pub record Lettered : Type 0 where

@@ -18,7 +18,7 @@ use Rattle.graph.specs.ChecksLaws.{fit}
 use Rattle.graph.specs.Counting.{Counts}
 use Rattle.lookup.specs.Walks.{word_by_index}
 use Rattle.lookup.specs.GraphLent.{GraphLent}
-use Rattle.numbers.specs.LentNumbers.{named-lent, cut-lent}
+use Rattle.numbers.proofs.LentNumbers.{named-lent, cut-lent}
 use Rattle.listing.specs.Lines.{line, refusal_line}
 use Rattle.listing.specs.Wordlist.{start_words, most_tiles, listed}
 use Rattle.listing.specs.Blocks.{NumberWalk, line_for, goes_on, lines_of}

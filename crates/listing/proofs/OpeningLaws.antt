@@ -17,7 +17,7 @@ use Rattle.graph.specs.Runs.{Graph, start_node}
 use Rattle.graph.specs.Words.{words, count}
 use Rattle.graph.specs.ChecksLaws.{Fit, fit}
 use Rattle.graph.specs.Counting.{counts, IsCounted, Counts, count_limit}
-use Rattle.load.specs.FinishLaws.{finished-within}
+use Rattle.load.proofs.FinishLaws.{finished-within}
 use Rattle.load.specs.Loading.{Feeds, begin, feed, finish}
 use Rattle.load.specs.Said.{said_begin, said_finish, begun_as, fed_as, finished_as}
 use Rattle.load.specs.declared.loader.BeginAnswer.{BeginAnswer}
@@ -26,7 +26,7 @@ use Rattle.load.specs.declared.loader.Begun.{Begun}
 use Rattle.load.specs.declared.loader.Fed.{Fed}
 use Rattle.pieces.specs.Pieces.{LoadOutcome, feed_all, fed_pieces, load_pieces, one_feed}
 use Rattle.laws.specs.Tables.{table-length, table_at}
-use Rattle.numbers.specs.WordNumbersLaws.{counted-lent}
+use Rattle.numbers.proofs.WordNumbersLaws.{counted-lent}
 use Rattle.listing.specs.Wordlist.{start_words, most_bytes, load_input, last_answer, load_answer, RefusesBy, CountWork, LongEnough, ReadInto, longer, unloaded, uncounted, counted, refuses, lists}
 use Rattle.listing.specs.Said.{LoadSaid, LoadsAs, at_start, CountSaid, CountsAs, Opening, OpensRead}
 use Rattle.listing.specs.declared.opening.Unprinted.{Unprinted}
@@ -46,14 +46,14 @@ pub record Answered (l : LoadOutcome) (begun : BeginAnswer) (finished : Finished
   pub table : nodes ≡ l.nodes
 
 -- begin, one feed and finish load the whole
-pub whole-load : (input lentNodes : List ℕ) (b : Begun) (f : Fed) (finished : Finished) {fedNodes nodes : List ℕ}
-    → begun_as b ≡ begin (length input) Kwg (length lentNodes) → fed_as f fedNodes ≡ feed b.loader lentNodes input
-    → finished_as finished nodes ≡ finish f.loader fedNodes → Answered (load_input input lentNodes) b.answer finished nodes
+pub whole-load : (input lent_nodes : List ℕ) (b : Begun) (f : Fed) (finished : Finished) {fed_nodes nodes : List ℕ}
+    → begun_as b ≡ begin (length input) Kwg (length lent_nodes) → fed_as f fed_nodes ≡ feed b.loader lent_nodes input
+    → finished_as finished nodes ≡ finish f.loader fed_nodes → Answered (load_input input lent_nodes) b.answer finished nodes
 unfolding load_pieces fed_pieces feed_all one_feed
-whole-load input lentNodes b f finished {fedNodes} {nodes} e d g =
-    let s : b.loader ≡ (begin (length input) Kwg (length lentNodes)).state = ap (λ x. x.state) e in
-    let fed : fed_as f fedNodes ≡ one_feed (length input) Kwg lentNodes input = d ∙ ap (λ x. feed x lentNodes input) s in
-    let last : finished_as finished nodes ≡ finish (one_feed (length input) Kwg lentNodes input).state (one_feed (length input) Kwg lentNodes input).nodes =
+whole-load input lent_nodes b f finished {fed_nodes} {nodes} e d g =
+    let s : b.loader ≡ (begin (length input) Kwg (length lent_nodes)).state = ap (λ x. x.state) e in
+    let fed : fed_as f fed_nodes ≡ one_feed (length input) Kwg lent_nodes input = d ∙ ap (λ x. feed x lent_nodes input) s in
+    let last : finished_as finished nodes ≡ finish (one_feed (length input) Kwg lent_nodes input).state (one_feed (length input) Kwg lent_nodes input).nodes =
     g ∙ ap (λ (x : Feeds). finish x.state x.nodes) fed in
     record { begins = ap (λ x. x.answer) e; finishes = ap (λ x. x.answer) last; table = ap (λ x. x.nodes) last }
 
@@ -75,16 +75,16 @@ last_gives (gives vs) b e = e
 last_gives nothing b e = e
 last_gives (refused k vs) b e = gives≢refused (sym e)
 
-pub loaded-within : (input lentNodes : List ℕ) {n : ℕ} → load_answer (load_input input lentNodes) ≡ gives (n ∷ [])
-    → n ≤ length (load_input input lentNodes).nodes
+pub loaded-within : (input lent_nodes : List ℕ) {n : ℕ} → load_answer (load_input input lent_nodes) ≡ gives (n ∷ [])
+    → n ≤ length (load_input input lent_nodes).nodes
 unfolding load_pieces fed_pieces feed_all one_feed
-loaded-within input lentNodes e =
-    let l = load_input input lentNodes in
-    let fed = one_feed (length input) Kwg lentNodes input in
+loaded-within input lent_nodes e =
+    let l = load_input input lent_nodes in
+    let fed = one_feed (length input) Kwg lent_nodes input in
     finished-within fed.state fed.nodes (last_gives l.begun l.finished e)
 
-pub nodes-within : (input lentNodes : List ℕ) {nodes : List ℕ} {n : ℕ} → LoadsAs (load_input input lentNodes) (Nodes n) nodes → n ≤ length nodes
-nodes-within input lentNodes {nodes} {n} a = subst (λ l. n ≤ length l) (sym a.table) (loaded-within input lentNodes a.said)
+pub nodes-within : (input lent_nodes : List ℕ) {nodes : List ℕ} {n : ℕ} → LoadsAs (load_input input lent_nodes) (Nodes n) nodes → n ≤ length nodes
+nodes-within input lent_nodes {nodes} {n} a = subst (λ l. n ≤ length l) (sym a.table) (loaded-within input lent_nodes a.said)
 
 -- what holds of the answer of a load holds where a match finds it
 pub loads_as : {l : LoadOutcome} {x y : FileLoaded} {nodes : List ℕ} → x ≡ y → LoadsAs l x nodes → LoadsAs l y nodes
@@ -154,17 +154,17 @@ read_whole buffer input read r h =
     sym (take_all (length buffer) input n) ∙ h
 
 -- ---- the whole
-module _ {input lentNodes lent_counts lent_work : List ℕ} (n : LongEnough lentNodes lent_counts lent_work) where
-  pub open-longer : most_bytes < length input → Opening input lentNodes lent_counts lent_work (Refusal 2) lentNodes lent_counts lent_work
+module _ {input lent_nodes lent_counts lent_work : List ℕ} (n : LongEnough lent_nodes lent_counts lent_work) where
+  pub open-longer : most_bytes < length input → Opening input lent_nodes lent_counts lent_work (Refusal 2) lent_nodes lent_counts lent_work
   open-longer h = record { enough = n; ends = refuses 2; said = refl; opens = longer h }
 
   module _ (h : length input ≤ most_bytes) {nodes : List ℕ} where
-    pub open-unloaded : (m : ℕ) → LoadsAs (load_input input lentNodes) (Refused m) nodes
-        → Opening input lentNodes lent_counts lent_work (Refusal m) nodes lent_counts lent_work
+    pub open-unloaded : (m : ℕ) → LoadsAs (load_input input lent_nodes) (Refused m) nodes
+        → Opening input lent_nodes lent_counts lent_work (Refusal m) nodes lent_counts lent_work
     open-unloaded m a = record { enough = n; ends = refuses m; said = refl; opens = rw a.table (unloaded h a.said) }
 
-    pub open-loaded : (size : ℕ) (r : Unprinted) {counts work : List ℕ} → LoadsAs (load_input input lentNodes) (Nodes size) nodes
-        → CountsAs (take size nodes) lent_counts lent_work r counts work → Opening input lentNodes lent_counts lent_work r nodes counts work
+    pub open-loaded : (size : ℕ) (r : Unprinted) {counts work : List ℕ} → LoadsAs (load_input input lent_nodes) (Nodes size) nodes
+        → CountsAs (take size nodes) lent_counts lent_work r counts work → Opening input lent_nodes lent_counts lent_work r nodes counts work
     open-loaded size (Refusal m) a c =
         let k = rw a.table at c.counted in
         let w = rw a.table at c.free in
@@ -176,14 +176,14 @@ module _ {input lentNodes lent_counts lent_work : List ℕ} (n : LongEnough lent
         let all : (s ≡ start_node (take size nodes) 0) × (m ≡ length (start_words (take size nodes))) × (i ≡ 0) = (c.said.1, c.said.2, c.said.3) in
         record {
           enough = n;
-          ends = lists (take size (load_input input lentNodes).nodes);
+          ends = lists (take size (load_input input lent_nodes).nodes);
           said = rw a.table at all;
           opens = rw a.table (counted h a.said k w);
         }
 
 -- what holds of the bytes read holds of the input, where they are fewer than there is room for
-pub opens-read : {lentNodes lent_counts lent_work nodes counts work : List ℕ} {r : Unprinted} (buffer : List ℕ) (read : ℕ) → read < length buffer
-    → Opening (take read buffer) lentNodes lent_counts lent_work r nodes counts work
-    → OpensRead buffer read lentNodes lent_counts lent_work r nodes counts work
-opens-read {lentNodes} {lent_counts} {lent_work} {nodes} {counts} {work} {r} buffer read h o input i =
-    subst (λ l. Opening l lentNodes lent_counts lent_work r nodes counts work) (sym (read_whole buffer input read h i)) o
+pub opens-read : {lent_nodes lent_counts lent_work nodes counts work : List ℕ} {r : Unprinted} (buffer : List ℕ) (read : ℕ) → read < length buffer
+    → Opening (take read buffer) lent_nodes lent_counts lent_work r nodes counts work
+    → OpensRead buffer read lent_nodes lent_counts lent_work r nodes counts work
+opens-read {lent_nodes} {lent_counts} {lent_work} {nodes} {counts} {work} {r} buffer read h o input i =
+    subst (λ l. Opening l lent_nodes lent_counts lent_work r nodes counts work) (sym (read_whole buffer input read h i)) o

@@ -12,9 +12,9 @@ use Rattle.laws.specs.Lists.{join_all}
 use Rattle.answers.specs.Answers.{Answer, gives, nothing, refused}
 use Rattle.graph.specs.Runs.{Graph}
 use Rattle.graph.specs.Counting.{IsCounted, Counts, count_limit}
-use Rattle.graph.specs.CountedOnce.{counted-once}
+use Rattle.graph.proofs.CountedOnce.{counted-once}
 use Rattle.lookup.specs.GraphLent.{GraphLent}
-use Rattle.numbers.specs.WordNumbersLaws.{counted-lent, lent-left}
+use Rattle.numbers.proofs.WordNumbersLaws.{counted-lent, lent-left}
 use Rattle.listing.specs.Lines.{refusal_line}
 use Rattle.listing.specs.Wordlist.{start_words, load_input, load_answer, RefusesBy, Ends, refuses, lists}
 use Rattle.listing.specs.Wordlist.{Opens, longer, unloaded, uncounted, counted, printed, Prints}
@@ -30,12 +30,12 @@ use Rattle.listing.proofs.OpeningLaws.{loaded-within}
 
 -- ---- the blocks, joined
 -- a graph that loads and counts stands in the lists that are left
-lists-left : {input lentNodes lent_counts lent_work nodes counts work : List ℕ} {g : Graph}
-    → Opens input lentNodes lent_counts lent_work (lists g) nodes counts work → Counts count_limit g × GraphLent g nodes counts
-lists-left {input} {lentNodes} {lent_counts} {lent_work} {counts = after} (counted {size} h a c w) =
-    let nodes = (load_input input lentNodes).nodes in (
+lists-left : {input lent_nodes lent_counts lent_work nodes counts work : List ℕ} {g : Graph}
+    → Opens input lent_nodes lent_counts lent_work (lists g) nodes counts work → Counts count_limit g × GraphLent g nodes counts
+lists-left {input} {lent_nodes} {lent_counts} {lent_work} {counts = after} (counted {size} h a c w) =
+    let nodes = (load_input input lent_nodes).nodes in (
       (counted-lent count_limit (take size nodes) lent_counts after (length lent_work) c).0,
-      lent-left count_limit size nodes lent_counts after (length lent_work) (loaded-within input lentNodes a) c,
+      lent-left count_limit size nodes lent_counts after (length lent_work) (loaded-within input lent_nodes a) c,
     )
 
 module _ (nodes counts : List ℕ) where
@@ -78,8 +78,8 @@ module _ (nodes counts : List ℕ) where
       (λ e. rw (e, blocks_within) (sym (none_left u e)))
       (λ b e. rw (e, blocks_within) (ap (b.bytes ++◌) (blocks_join t b.unprinted (omega (arith, h, fewer_lines-left nodes counts u e))) ∙ sym (one_block u e)))
 
-module _ {input lentNodes lent_counts lent_work nodes counts work : List ℕ} where
-  joined : (u : Unprinted) (e : Ends) → OpenSaid u e → Opens input lentNodes lent_counts lent_work e nodes counts work
+module _ {input lent_nodes lent_counts lent_work nodes counts work : List ℕ} where
+  joined : (u : Unprinted) (e : Ends) → OpenSaid u e → Opens input lent_nodes lent_counts lent_work e nodes counts work
       → bytes_left nodes counts u ≡ printed e
   joined (Refusal n) (refuses m) s o = ap refusal_line s
   joined (Refusal n) (lists g) s o = absurd s
@@ -89,8 +89,8 @@ module _ {input lentNodes lent_counts lent_work nodes counts work : List ℕ} wh
       let z : c - 0 ≡ length (start_words g) = omega (arith, s.1) in
       rw (s.2, s.0, z) (start-listed count_limit g k.0 nodes counts k.1)
 
-  calls-print : (u : Unprinted) → Opening input lentNodes lent_counts lent_work u nodes counts work
-      → Prints input lentNodes lent_counts lent_work (join_all (output_blocks nodes counts u))
+  calls-print : (u : Unprinted) → Opening input lent_nodes lent_counts lent_work u nodes counts work
+      → Prints input lent_nodes lent_counts lent_work (join_all (output_blocks nodes counts u))
   calls-print u o =
       record {
         enough = o.enough;
@@ -112,28 +112,28 @@ refuses-once nothing e f = absurd e
 gives_refuses : {a : Answer} {vs : List ℕ} (n : ℕ) {C : Type 0} → a ≡ gives vs → RefusesBy a n → C
 gives_refuses n e r = absurd (subst (λ x. RefusesBy x n) e r)
 
-module _ (input lentNodes lent_counts lent_work : List ℕ) where
+module _ (input lent_nodes lent_counts lent_work : List ℕ) where
   abbrev graph_of : ℕ → Graph
-  graph_of size = take size (load_input input lentNodes).nodes
+  graph_of size = take size (load_input input lent_nodes).nodes
 
-  same_size : {s t : ℕ} → load_answer (load_input input lentNodes) ≡ gives (s ∷ []) → load_answer (load_input input lentNodes) ≡ gives (t ∷ []) → s ≡ t
+  same_size : {s t : ℕ} → load_answer (load_input input lent_nodes) ≡ gives (s ∷ []) → load_answer (load_input input lent_nodes) ≡ gives (t ∷ []) → s ≡ t
   same_size e f = let i = sym e ∙ f in cc
 
   -- two counts of the loaded nodes
-  both_counted : {s t : ℕ} {a b : Answer} {after after' : List ℕ} → load_answer (load_input input lentNodes) ≡ gives (s ∷ [])
-      → load_answer (load_input input lentNodes) ≡ gives (t ∷ []) → IsCounted count_limit (graph_of s) lent_counts (length lent_work) a after
+  both_counted : {s t : ℕ} {a b : Answer} {after after' : List ℕ} → load_answer (load_input input lent_nodes) ≡ gives (s ∷ [])
+      → load_answer (load_input input lent_nodes) ≡ gives (t ∷ []) → IsCounted count_limit (graph_of s) lent_counts (length lent_work) a after
       → IsCounted count_limit (graph_of t) lent_counts (length lent_work) b after' → a ≡ b
   both_counted {s} {t} {a} {after = after} e f c d =
       (counted-once (subst (λ k. IsCounted count_limit (graph_of k) lent_counts (length lent_work) a after) (same_size e f) c) d).0
 
-  ends-once : {e f : Ends} {nodes counts work nodes' counts' work' : List ℕ} → Opens input lentNodes lent_counts lent_work e nodes counts work
-      → Opens input lentNodes lent_counts lent_work f nodes' counts' work' → e ≡ f
+  ends-once : {e f : Ends} {nodes counts work nodes' counts' work' : List ℕ} → Opens input lent_nodes lent_counts lent_work e nodes counts work
+      → Opens input lent_nodes lent_counts lent_work f nodes' counts' work' → e ≡ f
   ends-once (longer h) (longer i) = refl
   ends-once (longer h) (unloaded i r) = absurd (omega arith)
   ends-once (longer h) (uncounted i a c r w) = absurd (omega arith)
   ends-once (longer h) (counted i a c w) = absurd (omega arith)
   ends-once (unloaded h r) (longer i) = absurd (omega arith)
-  ends-once (unloaded h r) (unloaded i s) = ap refuses (refuses-once (load_answer (load_input input lentNodes)) r s)
+  ends-once (unloaded h r) (unloaded i s) = ap refuses (refuses-once (load_answer (load_input input lent_nodes)) r s)
   ends-once (unloaded {n} h r) (uncounted i a c s w) = gives_refuses n a r
   ends-once (unloaded {n} h r) (counted i a c w) = gives_refuses n a r
   ends-once (uncounted h a c r w) (longer i) = absurd (omega arith)
@@ -145,13 +145,13 @@ module _ (input lentNodes lent_counts lent_work : List ℕ) where
   ends-once (counted h a c w) (uncounted {n} i b d s v) = gives_refuses n (both_counted b a d c) s
   ends-once (counted h a c w) (counted i b d v) = ap (λ k. lists (graph_of k)) (same_size a b)
 
-  Prints-once : {a b : List ℕ} → Prints input lentNodes lent_counts lent_work a → Prints input lentNodes lent_counts lent_work b → a ≡ b
+  Prints-once : {a b : List ℕ} → Prints input lent_nodes lent_counts lent_work a → Prints input lent_nodes lent_counts lent_work b → a ≡ b
   Prints-once p q = p.is ∙ ap printed (ends-once p.opens q.opens) ∙ sym q.is
 
 -- ---- the claim
 whole_output : WholeOutput
 whole_output =
     record {
-      joins = λ input buffer read lentNodes lent_counts lent_work nodes counts work u r o. calls-print u (o input r);
-      once = λ input lentNodes lent_counts lent_work. Prints-once input lentNodes lent_counts lent_work;
+      joins = λ input buffer read lent_nodes lent_counts lent_work nodes counts work u r o. calls-print u (o input r);
+      once = λ input lent_nodes lent_counts lent_work. Prints-once input lent_nodes lent_counts lent_work;
     }

@@ -55,16 +55,16 @@ OpenSaid (Words s c i) (lists g) = (s ≡ start_node g 0) × (c ≡ length (star
 OpenSaid (Refusal n) (lists g) = ⊥
 OpenSaid (Words s c i) (refuses m) = ⊥
 
-pub record Opening (input lentNodes lent_counts lent_work : List ℕ) (r : Unprinted) (nodes counts work : List ℕ) : Type 0 where
-  pub enough : LongEnough lentNodes lent_counts lent_work
+pub record Opening (input lent_nodes lent_counts lent_work : List ℕ) (r : Unprinted) (nodes counts work : List ℕ) : Type 0 where
+  pub enough : LongEnough lent_nodes lent_counts lent_work
   pub ends : Ends
   pub said : OpenSaid r ends
-  pub opens : Opens input lentNodes lent_counts lent_work ends nodes counts work
+  pub opens : Opens input lent_nodes lent_counts lent_work ends nodes counts work
 
 -- the opening of every input of which so many bytes were read into a buffer
 abbrev pub OpensRead : List ℕ → ℕ → List ℕ → List ℕ → List ℕ → Unprinted → List ℕ → List ℕ → List ℕ → Type 0
-OpensRead buffer read lentNodes lent_counts lent_work r nodes counts work =
-    ((input : List ℕ) → ReadInto buffer read input → Opening input lentNodes lent_counts lent_work r nodes counts work)
+OpensRead buffer read lent_nodes lent_counts lent_work r nodes counts work =
+    ((input : List ℕ) → ReadInto buffer read input → Opening input lent_nodes lent_counts lent_work r nodes counts work)
 
 -- ---- blocks
 pub record PutWord (number : ℕ) (walked : Word × Answer) (before : List ℕ) (at : ℕ) (after : List ℕ) (r : LinePut) : Type 0 where
@@ -86,10 +86,10 @@ Makes none before after (Bytes written u) = ⊥
 -- ---- the program
 -- What the calls come to, whatever is read and lent: their blocks join to the whole output, and no other bytes are that.
 pub record WholeOutput : Type 0 where
-  pub joins : (input buffer : List ℕ) (read : ℕ) (lentNodes lent_counts lent_work nodes counts work : List ℕ) (u : Unprinted)
+  pub joins : (input buffer : List ℕ) (read : ℕ) (lent_nodes lent_counts lent_work nodes counts work : List ℕ) (u : Unprinted)
       → ReadInto buffer read input
-      → OpensRead buffer read lentNodes lent_counts lent_work u nodes counts work
-      → Prints input lentNodes lent_counts lent_work (join_all (output_blocks nodes counts u))
-  pub once : (input lentNodes lent_counts lent_work : List ℕ) {a b : List ℕ} → Prints input lentNodes lent_counts lent_work a
-      → Prints input lentNodes lent_counts lent_work b
+      → OpensRead buffer read lent_nodes lent_counts lent_work u nodes counts work
+      → Prints input lent_nodes lent_counts lent_work (join_all (output_blocks nodes counts u))
+  pub once : (input lent_nodes lent_counts lent_work : List ℕ) {a b : List ℕ} → Prints input lent_nodes lent_counts lent_work a
+      → Prints input lent_nodes lent_counts lent_work b
       → a ≡ b

@@ -34,8 +34,8 @@ abbrev pub most_bytes : ℕ
 most_bytes = 16_384
 
 -- "with lists long enough": for the most nodes, their counts, and two numbers a node to count in
-pub record LongEnough (lentNodes lent_counts lent_work : List ℕ) : Type 0 where
-  pub nodes : most_nodes ≤ length lentNodes
+pub record LongEnough (lent_nodes lent_counts lent_work : List ℕ) : Type 0 where
+  pub nodes : most_nodes ≤ length lent_nodes
   pub counts : most_nodes ≤ length lent_counts
   pub work : 2 * most_nodes ≤ length lent_work
 
@@ -45,7 +45,7 @@ ReadInto buffer read input = take (length buffer) input ≡ take read buffer
 
 -- the load of a whole input, over lent nodes
 abbrev pub load_input : List ℕ → List ℕ → LoadOutcome
-load_input input lentNodes = load_whole (length input) Kwg lentNodes input
+load_input input lent_nodes = load_whole (length input) Kwg lent_nodes input
 
 -- its answer: begin's refusal, or else what finish answers
 abbrev pub last_answer : Answer → Answer → Answer
@@ -72,21 +72,21 @@ pub data Ends : Type 0 where
   lists : Graph → Ends
 
 -- How opening an input ends, over lent nodes, counts and work, and these lists then.
-module _ (input lentNodes lent_counts lent_work : List ℕ) where
+module _ (input lent_nodes lent_counts lent_work : List ℕ) where
   pub data Opens : Ends → List ℕ → List ℕ → List ℕ → Type 0 where
     -- "a longer input is 2"
-    longer : most_bytes < length input → Opens (refuses 2) lentNodes lent_counts lent_work
-    unloaded : {n : ℕ} → length input ≤ most_bytes → RefusesBy (load_answer (load_input input lentNodes)) n
-        → Opens (refuses n) (load_input input lentNodes).nodes lent_counts lent_work
+    longer : most_bytes < length input → Opens (refuses 2) lent_nodes lent_counts lent_work
+    unloaded : {n : ℕ} → length input ≤ most_bytes → RefusesBy (load_answer (load_input input lent_nodes)) n
+        → Opens (refuses n) (load_input input lent_nodes).nodes lent_counts lent_work
     uncounted : {n size : ℕ} {r : Answer} {counts work : List ℕ} → length input ≤ most_bytes
-        → load_answer (load_input input lentNodes) ≡ gives (size ∷ [])
-        → IsCounted count_limit (take size (load_input input lentNodes).nodes) lent_counts (length lent_work) r counts → RefusesBy r n
-        → CountWork (take size (load_input input lentNodes).nodes) lent_counts lent_work work
-        → Opens (refuses n) (load_input input lentNodes).nodes counts work
-    counted : {size : ℕ} {counts work : List ℕ} → length input ≤ most_bytes → load_answer (load_input input lentNodes) ≡ gives (size ∷ [])
-        → IsCounted count_limit (take size (load_input input lentNodes).nodes) lent_counts (length lent_work) (gives []) counts
-        → CountWork (take size (load_input input lentNodes).nodes) lent_counts lent_work work
-        → Opens (lists (take size (load_input input lentNodes).nodes)) (load_input input lentNodes).nodes counts work
+        → load_answer (load_input input lent_nodes) ≡ gives (size ∷ [])
+        → IsCounted count_limit (take size (load_input input lent_nodes).nodes) lent_counts (length lent_work) r counts → RefusesBy r n
+        → CountWork (take size (load_input input lent_nodes).nodes) lent_counts lent_work work
+        → Opens (refuses n) (load_input input lent_nodes).nodes counts work
+    counted : {size : ℕ} {counts work : List ℕ} → length input ≤ most_bytes → load_answer (load_input input lent_nodes) ≡ gives (size ∷ [])
+        → IsCounted count_limit (take size (load_input input lent_nodes).nodes) lent_counts (length lent_work) (gives []) counts
+        → CountWork (take size (load_input input lent_nodes).nodes) lent_counts lent_work work
+        → Opens (lists (take size (load_input input lent_nodes).nodes)) (load_input input lent_nodes).nodes counts work
 
 -- ---- what is printed
 -- "A refusal prints `refused`, tab, number"; else the words from the start, numbered from 0
@@ -95,11 +95,11 @@ printed (refuses n) = refusal_line n
 printed (lists g) = listed 0 (start_words g)
 
 -- The whole output for an input. It is determined (`WholeOutput`).
-pub record Prints (input lentNodes lent_counts lent_work output : List ℕ) : Type 0 where
-  pub enough : LongEnough lentNodes lent_counts lent_work
+pub record Prints (input lent_nodes lent_counts lent_work output : List ℕ) : Type 0 where
+  pub enough : LongEnough lent_nodes lent_counts lent_work
   pub ends : Ends
   pub nodes : List ℕ
   pub counts : List ℕ
   pub work : List ℕ
-  pub opens : Opens input lentNodes lent_counts lent_work ends nodes counts work
+  pub opens : Opens input lent_nodes lent_counts lent_work ends nodes counts work
   pub is : output ≡ printed ends

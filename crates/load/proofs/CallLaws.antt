@@ -14,17 +14,17 @@ use Rattle.graph.specs.Runs.{Graph}
 use Rattle.graph.specs.Checks.{nodes_row}
 use Rattle.load.specs.Repacking.{misfit_answer}
 use Rattle.load.specs.Loading.{sound_row, kept_misfit, state_row, finish_row, Feeds, feed, finishes, finish, held_then, state_after, nodes_after}
-use Rattle.load.specs.StateLaws.{state-keeps}
-use Rattle.load.specs.FeedLaws.{state-kept, state-passes, feed-reads}
+use Rattle.load.proofs.StateLaws.{state-keeps}
+use Rattle.load.proofs.FeedLaws.{state-kept, state-passes, feed-reads}
 use Rattle.load.specs.declared.repack.Misfit.{Misfit}
 use Rattle.load.specs.declared.loader.Loader.{Loader}
 
-module _ (s : Loader) (lentNodes : ℕ) where
-  pub unsound : not (is_some (first_of (sound_row s lentNodes))) ≡ false → first_of (sound_row s lentNodes) ≡ some (refused 4 [])
-  unsound e = one-refusal (refusing 4 []) (sound_row s lentNodes) (refl, (refl, (refl, (refl, tt)))) (not-false (is_some (first_of (sound_row s lentNodes))) e)
+module _ (s : Loader) (lent_nodes : ℕ) where
+  pub unsound : not (is_some (first_of (sound_row s lent_nodes))) ≡ false → first_of (sound_row s lent_nodes) ≡ some (refused 4 [])
+  unsound e = one-refusal (refusing 4 []) (sound_row s lent_nodes) (refl, (refl, (refl, (refl, tt)))) (not-false (is_some (first_of (sound_row s lent_nodes))) e)
 
-  pub is-sound : not (is_some (first_of (sound_row s lentNodes))) ≡ true → first_of (sound_row s lentNodes) ≡ none
-  is-sound e = is_none (first_of (sound_row s lentNodes)) (not-true (is_some (first_of (sound_row s lentNodes))) e)
+  pub is-sound : not (is_some (first_of (sound_row s lent_nodes))) ≡ true → first_of (sound_row s lent_nodes) ≡ none
+  is-sound e = is_none (first_of (sound_row s lent_nodes)) (not-true (is_some (first_of (sound_row s lent_nodes))) e)
 
 -- ---- feed: its answer is what the state after it keeps
 module _ (s : Loader) (nodes : Graph) (piece : List ℕ) (ok : first_of (sound_row s (length nodes)) ≡ none) (k : kept_misfit s.kept ≡ none) where

@@ -8,3 +8,7 @@ mod SoundRow
 mod HeldLaws
 mod PieceLaws
 mod CallLaws
+pub mod BeginLaws
+pub mod StateLaws
+pub mod FeedLaws
+pub mod FinishLaws

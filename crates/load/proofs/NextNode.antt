@@ -10,7 +10,7 @@ use Rattle.node.specs.Nodes.{BitLayout, fields}
 use Rattle.node.specs.Said.{repack_node_answer}
 use Rattle.node.specs.SaidLaws.{node-answered, misfit-answered}
 use Rattle.endian.specs.Bytes.{node_at, whole_nodes}
-use Rattle.endian.specs.BytesLaws.{whole-next, whole-none}
+use Rattle.endian.proofs.BytesLaws.{whole-next, whole-none}
 use Rattle.load.specs.Repacking.{misfit, first_misfit, fitting}
 use Rattle.load.specs.RepackingLaws.{fitting-next, fitting-stops, misfit-later, misfit-here}
 

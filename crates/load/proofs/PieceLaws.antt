@@ -12,12 +12,12 @@ use Rattle.node.specs.Said.{bit_layout, repack_node_answer}
 use Rattle.node.specs.declared.Layout.{Layout}
 use Rattle.graph.specs.Runs.{Graph}
 use Rattle.endian.specs.Bytes.{node_at, part_node}
-use Rattle.endian.specs.BytesLaws.{part-next, part-whole, part-drop, length_part}
+use Rattle.endian.proofs.BytesLaws.{part-next, part-whole, part-drop, length_part}
 use Rattle.load.specs.Repacking.{misfit}
 use Rattle.load.proofs.NextNode.{next_fits, next-stops, no-next-node}
 use Rattle.load.specs.Loading.{places, holding, stopped, misfit_in, state_at, state_after, nodes_after, held_then}
 use Rattle.load.proofs.HeldLaws.{held-then-length, held-then-places}
-use Rattle.load.specs.StateLaws.{Sound, sound, state-stopped, state-holding}
+use Rattle.load.proofs.StateLaws.{Sound, sound, state-stopped, state-holding}
 use Rattle.load.specs.declared.repack.Misfit.{Misfit}
 use Rattle.load.specs.declared.loader.KeptRefusal.TheVariants.{Nothing}
 use Rattle.load.specs.declared.loader.Loader.{Loader}
@@ -58,7 +58,7 @@ module _ (announced : ℕ) (layout : Layout) (nodes : Graph) (k : ℕ) (j : List
       )
 
 -- ---- a piece that only adds to the held bytes of a sound state
-pub held-longer : (s : Loader) (lentNodes : ℕ) → Sound s lentNodes → (piece : List ℕ) {h : List ℕ} → length s.held ≡ 3
+pub held-longer : (s : Loader) (lent_nodes : ℕ) → Sound s lent_nodes → (piece : List ℕ) {h : List ℕ} → length s.held ≡ 3
     → s.held_count + length piece < 4 → h ≡ sets s.held s.held_count piece
     → ◌≡◌ {A = Loader}
     (record {
@@ -71,7 +71,7 @@ pub held-longer : (s : Loader) (lentNodes : ℕ) → Sound s lentNodes → (piec
     })
     (holding s.announced s.layout (4 * (s.taken / 4) + length (held_then s piece)) (held_then s piece))
 unfolding holding
-held-longer s lentNodes ok piece three short p =
+held-longer s lent_nodes ok piece three short p =
     let n = held-then-length s.held s.held_count piece three (omega arith) in
     let h = p ∙ sym (held-then-places s.held s.held_count piece three (omega arith) ok.unused) in
     let t : s.taken + length piece ≡ 4 * (s.taken / 4) + length (held_then s piece) = let q = ok.count in rw n (omega arith) in

@@ -52,10 +52,10 @@ fresh_loader announced layout = holding announced layout 0 []
 -- ---- the rows of checks
 -- "1 length 0 or no multiple of 4; 2+ over 67,108,864; 3+ node buffer under max(length / 4, 2)"
 abbrev pub begin_row : ℕ → ℕ → Row
-begin_row announced lentNodes =
+begin_row announced lent_nodes =
     (eqb announced 0 || not (eqb (announced % 4) 0), refusing 1 [])
     ∷ (ltb 67_108_864 announced, refusing 2 [])
-    ∷ (ltb lentNodes (max (announced / 4) 2), refusing 3 [])
+    ∷ (ltb lent_nodes (max (announced / 4) 2), refusing 3 [])
     ∷ []
 
 -- "unused places 0"
@@ -65,8 +65,8 @@ zeros (b ∷ bs) = eqb b 0 && zeros bs
 
 -- "4+ length that begin refuses for this buffer, taken above length, or held bytes not taken mod 4, or an unused place not 0"
 abbrev pub sound_row : Loader → ℕ → Row
-sound_row s lentNodes =
-    (is_some (first_of (begin_row s.announced lentNodes)), refusing 4 [])
+sound_row s lent_nodes =
+    (is_some (first_of (begin_row s.announced lent_nodes)), refusing 4 [])
     ∷ (ltb s.announced s.taken, refusing 4 [])
     ∷ (not (eqb s.held_count (s.taken % 4)), refusing 4 [])
     ∷ (not (zeros (drop s.held_count s.held)), refusing 4 [])
@@ -84,11 +84,11 @@ kept_row (some m) = (true, misfit_refusal m) ∷ []
 
 -- the row "feed, finish"
 abbrev pub state_row : Loader → ℕ → Row
-state_row s lentNodes = sound_row s lentNodes ++ kept_row (kept_misfit s.kept)
+state_row s lent_nodes = sound_row s lent_nodes ++ kept_row (kept_misfit s.kept)
 
 -- "5+ piece longer than what is missing"
 abbrev pub feed_row : Loader → ℕ → List ℕ → Row
-feed_row s lentNodes piece = state_row s lentNodes ++ (ltb s.announced (s.taken + length piece), refusing 5 []) ∷ []
+feed_row s lent_nodes piece = state_row s lent_nodes ++ (ltb s.announced (s.taken + length piece), refusing 5 []) ∷ []
 
 -- "7+ bytes missing; 8 largest arc (carried) at least the node count; 9 last node no end"
 abbrev pub finish_row : Loader → Graph → Row
@@ -108,7 +108,7 @@ begins (some r) announced layout = record { answer = r; state = fresh_loader 0 l
 
 -- "begin gives a state, and each feed hands a new one back"
 unfoldable pub begin : ℕ → Layout → ℕ → Begins
-begin announced layout lentNodes = begins (first_of (begin_row announced lentNodes)) announced layout
+begin announced layout lent_nodes = begins (first_of (begin_row announced lent_nodes)) announced layout
 
 -- What a feed answers, and the state and the nodes after it.
 pub record Feeds : Type 0 where

@@ -2,7 +2,7 @@
 use Rattle.std.specs.Prelude.{true, false, List, [], ◌∷◌, ℕ, suc}
 use Rattle.std.proofs.Math.Option.{Option, none, some}
 use Rattle.std.proofs.lemmas.List.Edits.{sets}
-use Rattle.answers.specs.Answers.{Answer, gives, Refusal, refusing, asAnswer}
+use Rattle.answers.specs.Answers.{Answer, gives, Refusal, refusing, as_answer}
 use Rattle.node.specs.Nodes.{BitLayout, fields, tile, arc, fits, packed}
 use Rattle.endian.specs.Bytes.{whole_nodes, node_bytes}
 use Rattle.load.specs.declared.repack.Misfit.{Misfit}
@@ -34,7 +34,7 @@ misfit_refusal m = refusing 6 (m.node ∷ m.tile ∷ m.arc_index ∷ [])
 -- the row "repacking: 6"
 abbrev pub misfit_answer : Option Misfit → Answer
 misfit_answer none = gives []
-misfit_answer (some m) = asAnswer (misfit_refusal m)
+misfit_answer (some m) = as_answer (misfit_refusal m)
 
 -- "a node that doesn't fit stops it with the nodes before rewritten; a part node at the end stays"
 module _ (old new : BitLayout) (bytes : List ℕ) where

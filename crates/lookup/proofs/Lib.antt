@@ -5,3 +5,5 @@ mod PassedLaws
 mod WordIndexLaws
 mod WordByIndexLaws
 mod Buffer
+pub mod FoundLaws
+pub mod WordsBeforeLaws

@@ -4,6 +4,4 @@ pub mod Walks
 pub mod WalkedLaws
 pub mod GraphLent
 pub mod WordsBefore
-pub mod FoundLaws
-pub mod WordsBeforeLaws
 pub mod Said

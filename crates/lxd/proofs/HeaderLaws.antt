@@ -9,7 +9,7 @@ use Rattle.laws.specs.ListWrites.{sets_append, sets-next}
 use Rattle.endian.specs.Bytes.{to_bytes}
 use Rattle.windows1252.specs.Windows1252.{byte_of, byte_written}
 use Rattle.lxd_file.specs.File.{field, header}
-use Rattle.lxd_file.specs.FileLaws.{length-field}
+use Rattle.lxd_file.proofs.FileLaws.{length-field}
 
 -- ---- a text, byte by byte
 pub text-inside : (text : List ℕ) (i : ℕ) → byte_written (get_or text i 0) ≡ get_or (map byte_written text) i 0

@@ -19,9 +19,9 @@ use Rattle.block_record.specs.Record.{child_in, blocks_in}
 use Rattle.block_record.specs.RecordLaws.{holds-most, child-none, child-some}
 use Rattle.block_record.specs.declared.BlockTally.{BlockTally}
 use Rattle.lxd_file.specs.File.{runs, reached, run_place, child, lxd_node, lxd_nodes}
-use Rattle.lxd_file.specs.RunsLaws.{no-child, child-place, reached-size, runs-inside, arc_in_runs, place-within}
-use Rattle.lxd_file.specs.NodesLaws.{nodes-none, nodes-some, length_none, length_some, words_or_none}
-use Rattle.endian.specs.BytesLaws.{length-numbers}
+use Rattle.lxd_file.proofs.RunsLaws.{no-child, child-place, reached-size, runs-inside, arc_in_runs, place-within}
+use Rattle.lxd_file.proofs.NodesLaws.{nodes-none, nodes-some, length_none, length_some, words_or_none}
+use Rattle.endian.proofs.BytesLaws.{length-numbers}
 use Rattle.lxd_blocks.specs.Placed.{node_in, order_bytes, LxdReady}
 use Rattle.lxd.specs.Planned.{Planned, nodes_written}
 

@@ -32,9 +32,9 @@ use Rattle.survey.specs.declared.Findings.{Findings}
 use Rattle.survey.specs.declared.Surveyed.{Surveyed}
 use Rattle.block_record.specs.declared.BlockTally.{BlockTally}
 use Rattle.lxd_file.specs.File.{header, runs, reached, run_size, lxd_nodes, lxd_file}
-use Rattle.lxd_file.specs.FileLaws.{length-header, length-file}
+use Rattle.lxd_file.proofs.FileLaws.{length-header, length-file}
 use Rattle.lxd_file.specs.Row.{lxd_walk_row}
-use Rattle.lxd_file.specs.RunsLaws.{reached-size}
+use Rattle.lxd_file.proofs.RunsLaws.{reached-size}
 use Rattle.lxd_blocks.specs.RunsNumbered.{RunsNumbered}
 use Rattle.lxd_blocks.specs.declared.numbering.Walked.{Walked}
 use Rattle.lxd.specs.Said.{after_checks}

@@ -38,7 +38,7 @@ after_checks g labels title date lent = written (first_of (lxd_walk_row g labels
 
 -- its refusal, whatever the texts and the file are
 abbrev pub WalkRefuses : Graph → List ℕ → Lxd → Type 0
-WalkRefuses g labels r = (title date : List ℕ) (lentFile : ℕ) → first_of (lxd_walk_row g labels title date lentFile) ≡ some (said_lxd r)
+WalkRefuses g labels r = (title date : List ℕ) (lent_file : ℕ) → first_of (lxd_walk_row g labels title date lent_file) ≡ some (said_lxd r)
 
 abbrev pub checked_refusal : LxdChecked → Option Answer
 checked_refusal Passed = none

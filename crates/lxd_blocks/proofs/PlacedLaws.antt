@@ -11,7 +11,7 @@ use lib.Seq.{sets, drop-cons, get_or-take, get_or-drop, length-take-le}
 use Rattle.laws.specs.Lists.{join_all}
 use Rattle.laws.specs.Members.{at_in}
 use Rattle.endian.specs.Bytes.{to_bytes, node_bytes}
-use Rattle.endian.specs.BytesLaws.{numbers_append}
+use Rattle.endian.proofs.BytesLaws.{numbers_append}
 use Rattle.endian.specs.Putting.{Putting, put-start, put_next, put-done}
 use Rattle.node.specs.Nodes.{kbwg, tile, arc, accepts, is_end, values, packed}
 use Rattle.graph.specs.Runs.{Graph, node}

@@ -1,10 +1,5 @@
 pub mod CopiedLaws
 pub mod File
-pub mod FileLaws
-pub mod NodesLaws
 pub mod Reading
 pub mod Row
-pub mod RowLaws
-pub mod RunsLaws
 pub mod Spelling
-pub mod SpellingLaws

@@ -27,16 +27,16 @@ lxd_checks g labels title date lent_work =
 
 -- those of the walk and of the sizes; nodes 0 and 1 are counted, "before the no-words cut"
 abbrev pub lxd_walk_row : Graph → List ℕ → List ℕ → List ℕ → ℕ → Row
-lxd_walk_row g labels title date lentFile =
+lxd_walk_row g labels title date lent_file =
     (deeper g 64 (start_node g 0), refusing 22 [])
     ∷ (some_of (λ v. no_byte (get_or labels (tile kbwg v) 0)) (reached g), refusing 23 [])
     ∷ (leb most (count kbwg g (start_node g 0)), refusing 13 [])
     ∷ (ltb (2 ^ 22) (2 + length (reached g)), refusing 25 [])
-    ∷ (ltb lentFile (length (lxd_file g labels title date)), refusing 11 [])
+    ∷ (ltb lent_file (length (lxd_file g labels title date)), refusing 11 [])
     ∷ []
 
 unfoldable pub lxd_row : Graph → List ℕ → List ℕ → List ℕ → ℕ → ℕ → Row
-lxd_row g labels title date lent_work lentFile = lxd_checks g labels title date lent_work ++ lxd_walk_row g labels title date lentFile
+lxd_row g labels title date lent_work lent_file = lxd_checks g labels title date lent_work ++ lxd_walk_row g labels title date lent_file
 
 -- what the call answers, and the file after it
 unfoldable pub to_lxd : Graph → List ℕ → List ℕ → List ℕ → ℕ → List ℕ → Written

@@ -9,7 +9,7 @@ use lib.ListN.{length, get_or, take, get_or-eq_default}
 use Rattle.laws.specs.Cases.{split}
 use Rattle.laws.specs.Lists.{All}
 use Rattle.macondo_file.specs.Alphabet.{letters, letter_in, letter_of}
-use Rattle.macondo_file.specs.AlphabetLaws.{letter-most}
+use Rattle.macondo_file.proofs.AlphabetLaws.{letter-most}
 use Rattle.macondo_blocks.specs.LettersLaws.{letter-in, letters-below, letters-low}
 use Rattle.macondo_blocks.specs.EntriesLaws.{all-taken}
 use Rattle.letter_sets.specs.Letters.{Ranks, Small}

@@ -11,7 +11,7 @@ use Rattle.laws.specs.Cases.{split}
 use Rattle.laws.specs.Firsts.{place_in, firsts}
 use Rattle.laws.specs.Lists.{member, join_all}
 use Rattle.laws.specs.Members.{at_in, map_same, member_mem, mem_member}
-use Rattle.laws.specs.Same.{exact-number}
+use Rattle.laws.proofs.SameLaws.{exact-number}
 use Rattle.node.specs.Nodes.{kbwg, tile, arc}
 use Rattle.endian.specs.Bytes.{big_endian}
 use Rattle.graph.specs.Runs.{Graph}
@@ -25,10 +25,10 @@ use Rattle.block_record.specs.declared.BlockTally.{BlockTally}
 use Rattle.macondo_file.specs.Alphabet.{letters}
 use Rattle.macondo_file.specs.File.{section, Format, marks, arcs_of, size_of, set_of, blocks, letter_sets, block_number}
 use Rattle.macondo_file.specs.File.{head_node, arc_node, block_of, macondo_nodes, macondo_file}
-use Rattle.macondo_file.specs.ReadingLaws.{file-length}
+use Rattle.macondo_file.proofs.ReadingLaws.{file-length}
 use Rattle.macondo_file.specs.RowLaws.{MacondoReady}
-use Rattle.macondo_file.specs.ArcLaws.{in_arcs}
-use Rattle.macondo_file.specs.BlockLaws.{block-is, nodes-length, sets-few, block_inside, set-number-below, child-block}
+use Rattle.macondo_file.proofs.ArcLaws.{in_arcs}
+use Rattle.macondo_file.proofs.BlockLaws.{block-is, nodes-length, sets-few, block_inside, set-number-below, child-block}
 use Rattle.letter_sets.specs.Letters.{Ranks, Small}
 use Rattle.letter_sets.specs.SetNumbers.{sets_in, SetsNumbered}
 use Rattle.macondo_writing.specs.declared.tables.SectionCounts.{SectionCounts}

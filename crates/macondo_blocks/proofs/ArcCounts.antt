@@ -12,7 +12,7 @@ use Rattle.export.specs.Blocks.{total}
 use Rattle.export.specs.LabelLaws.{labelled_in}
 use Rattle.block_record.specs.Record.{HoldsBlocks}
 use Rattle.block_record.specs.declared.BlockTally.{BlockTally}
-use Rattle.macondo_file.specs.ArcLaws.{in_arcs, arcs-few}
+use Rattle.macondo_file.proofs.ArcLaws.{in_arcs, arcs-few}
 use Rattle.macondo_file.specs.File.{arcs_of, size_of}
 use Rattle.macondo_file.specs.RowLaws.{MacondoReady}
 use Rattle.macondo_blocks.specs.Blocks.{AllLabelled}

@@ -24,7 +24,7 @@ use Rattle.block_record.specs.DepthsLaws.{deep-by-arc, loop-deep, below-arc, dee
 use Rattle.block_record.specs.DepthsLaws.{depths-none, depths-kept, none-left-followed, opened-depths, opened-but}
 use Rattle.block_record.specs.declared.BlockTally.{BlockTally}
 use Rattle.macondo_file.specs.File.{arcs_of, children_of, size_of}
-use Rattle.macondo_file.specs.ArcLaws.{in_children, children_in}
+use Rattle.macondo_file.proofs.ArcLaws.{in_children, children_in}
 use Rattle.macondo_blocks.specs.declared.blocks.Reached.{Reached}
 use Rattle.macondo_blocks.specs.declared.blocks.BlockNumbering.{BlockNumbering}
 use Rattle.macondo_blocks.specs.declared.blocks.BlockNumbering.TheVariants.{Done, TooDeep}

@@ -7,7 +7,7 @@ use Rattle.node.specs.Nodes.{kbwg, arc}
 use Rattle.graph.specs.Runs.{Graph}
 use Rattle.export.specs.Starts.{arcs_from}
 use Rattle.export.specs.ChainLaws.{arc-from, arcs-inside}
-use Rattle.macondo_file.specs.ArcLaws.{in_arcs}
+use Rattle.macondo_file.proofs.ArcLaws.{in_arcs}
 use Rattle.macondo_file.specs.File.{arcs_of}
 use Rattle.macondo_file.specs.RowLaws.{MacondoReady}
 

@@ -3,7 +3,7 @@ use Rattle.std.specs.Prelude.{◌≡◌, refl, List, ℕ, ◌≤◌, ◌<◌, le
 use Rattle.std.proofs.Common.{arith}
 use Rattle.laws.specs.Lists.{All, all_weaken, all_members}
 use Rattle.macondo_file.specs.Alphabet.{letters, letter_in, letter_of}
-use Rattle.macondo_file.specs.AlphabetLaws.{in_letters}
+use Rattle.macondo_file.proofs.AlphabetLaws.{in_letters}
 
 pub letters-below : (labels : List ℕ) → All (λ t. t < length labels) (letters labels)
 letters-below labels = all_members _ (letters labels) (λ t m. (in_letters labels t m).1)

@@ -1,15 +1,6 @@
 pub mod Alphabet
-pub mod AlphabetLaws
 pub mod File
 pub mod Reading
 pub mod Row
 pub mod RowLaws
-pub mod ArcLaws
-pub mod SetLaws
-pub mod BlockLaws
-pub mod BlockReading
-pub mod ReadingLaws
 pub mod Spelling
-pub mod WordLaws
-pub mod OnceLaws
-pub mod SpellingLaws

@@ -26,15 +26,15 @@ macondo_checks g labels name lent_work =
 
 -- those of the walk, the letters ("tiles 1 up") and the sizes
 abbrev pub macondo_walk_row : Graph → List ℕ → List ℕ → Format → ℕ → Row
-macondo_walk_row g labels name f lentFile =
+macondo_walk_row g labels name f lent_file =
     (deeper g 64 (start_node g (marks f).root), refusing 22 [])
     ∷ (some_of no_code_point (drop 1 labels), refusing 23 [])
     ∷ (ltb (2 ^ 24) (length (macondo_nodes g labels f)), refusing 25 [])
-    ∷ (ltb lentFile (length (macondo_file g labels f name)), refusing 11 [])
+    ∷ (ltb lent_file (length (macondo_file g labels f name)), refusing 11 [])
     ∷ []
 
 unfoldable pub macondo_row : Graph → List ℕ → List ℕ → Format → ℕ → ℕ → Row
-macondo_row g labels name f lent_work lentFile = macondo_checks g labels name lent_work ++ macondo_walk_row g labels name f lentFile
+macondo_row g labels name f lent_work lent_file = macondo_checks g labels name lent_work ++ macondo_walk_row g labels name f lent_file
 
 -- what the call answers, and the file after it
 unfoldable pub to_macondo : Graph → List ℕ → List ℕ → Format → ℕ → List ℕ → Written

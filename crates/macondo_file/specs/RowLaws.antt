@@ -54,17 +54,17 @@ pub record MacondoWalked (g : Graph) (labels : List ℕ) (f : Format) : Type 0 w
   pub code_points : some_of no_code_point (drop 1 labels) ≡ false
   pub few : length (macondo_nodes g labels f) ≤ 2 ^ 24
 
-walk-passed : (g : Graph) (labels name : List ℕ) (f : Format) (lentFile : ℕ)
-    → first_of (macondo_walk_row g labels name f lentFile) ≡ none → MacondoWalked g labels f
-walk-passed g labels name f lentFile e =
-    let p = passed-all (macondo_walk_row g labels name f lentFile) e in
+walk-passed : (g : Graph) (labels name : List ℕ) (f : Format) (lent_file : ℕ)
+    → first_of (macondo_walk_row g labels name f lent_file) ≡ none → MacondoWalked g labels f
+walk-passed g labels name f lent_file e =
+    let p = passed-all (macondo_walk_row g labels name f lent_file) e in
     record { shallow = p.0; code_points = p.1.0; few = ltb-false (2 ^ 24) (length (macondo_nodes g labels f)) p.1.1.0 }
 
-module _ (g : Graph) (labels name : List ℕ) (f : Format) (lent_work lentFile : ℕ)
-    (e : first_of (macondo_row g labels name f lent_work lentFile) ≡ none) where
+module _ (g : Graph) (labels name : List ℕ) (f : Format) (lent_work lent_file : ℕ)
+    (e : first_of (macondo_row g labels name f lent_work lent_file) ≡ none) where
   passed-checks : first_of (macondo_checks g labels name lent_work) ≡ none
   unfolding macondo_row
-  passed-checks = rows-passed (macondo_checks g labels name lent_work) (macondo_walk_row g labels name f lentFile) e
+  passed-checks = rows-passed (macondo_checks g labels name lent_work) (macondo_walk_row g labels name f lent_file) e
 
   pub accepted-checks : MacondoChecked g labels name lent_work
   accepted-checks = checked g labels name lent_work passed-checks
@@ -72,5 +72,5 @@ module _ (g : Graph) (labels name : List ℕ) (f : Format) (lent_work lentFile :
   pub accepted-walk : MacondoWalked g labels f
   unfolding macondo_row
   accepted-walk =
-      walk-passed g labels name f lentFile
-      (sym (rows_pass (macondo_checks g labels name lent_work) (macondo_walk_row g labels name f lentFile) passed-checks) ∙ e)
+      walk-passed g labels name f lent_file
+      (sym (rows_pass (macondo_checks g labels name lent_work) (macondo_walk_row g labels name f lent_file) passed-checks) ∙ e)

@@ -8,7 +8,7 @@ use lib.ListN.{length, get_or, take, length-map}
 use lib.Seq.{sets, length-take-le}
 use Rattle.laws.specs.ListWrites.{sets_append}
 use Rattle.endian.specs.Bytes.{big_endian, big_endians}
-use Rattle.endian.specs.BigLaws.{bigs_length, bigs_append}
+use Rattle.endian.proofs.BigLaws.{bigs_length, bigs_append}
 use Rattle.endian.specs.Putting.{Putting, put-start, put-room, put_next, put-done}
 use Rattle.node.specs.Nodes.{kbwg, tile, arc}
 use Rattle.graph.specs.Runs.{Graph}

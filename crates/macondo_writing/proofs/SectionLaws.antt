@@ -10,11 +10,11 @@ use lib.Seq.{sets, drop-cons, get_or-take, length-take-le}
 use Rattle.laws.specs.Members.{get_or-map-in}
 use Rattle.laws.specs.ListWrites.{sets_append}
 use Rattle.endian.specs.Bytes.{big_endian, big_endians}
-use Rattle.endian.specs.BigLaws.{big_length, bigs_length}
+use Rattle.endian.proofs.BigLaws.{big_length, bigs_length}
 use Rattle.endian.specs.Putting.{Putting, put-start, put-room, put_next, put-done}
 use Rattle.laws.specs.Tables.{table-length}
 use Rattle.macondo_file.specs.File.{section}
-use Rattle.macondo_file.specs.ReadingLaws.{section-length}
+use Rattle.macondo_file.proofs.ReadingLaws.{section-length}
 use Rattle.letter_sets.specs.SetNumbers.{set_at, sets_in}
 use Rattle.macondo_writing.specs.declared.tables.SectionCounts.{SectionCounts}
 use Rattle.macondo_writing.specs.FileTables.{block_nodes_from, file_in}

@@ -11,9 +11,9 @@ use Rattle.node.specs.Nodes.{tile, arc, accepts, kbwg, is_end}
 use Rattle.graph.specs.Runs.{Graph, node, ascends}
 use Rattle.graph.specs.Words.{Word, spelled, words}
 use Rattle.laws.specs.Lists.{all_mem}
-use Rattle.graph.specs.WordsAscend.{words-nonempty, From, ascends-next, words-from-tile}
+use Rattle.graph.proofs.WordsAscend.{words-nonempty, From, ascends-next, words-from-tile}
 use Rattle.graph.specs.CountLaws.{words-end, words-on}
-use Rattle.lookup.specs.FoundLaws.{AllBelow, below-not_in}
+use Rattle.lookup.proofs.FoundLaws.{AllBelow, below-not_in}
 use Rattle.numbers.specs.RunWords.{spelled-alone, spelled_both, spelled_none, spelled-arc}
 use Rattle.numbers.specs.Walkable.{Walkable}
 

@@ -10,7 +10,7 @@ use Rattle.laws.specs.Lists.{All, join_all, none_left}
 use Rattle.page.specs.Rows.{Widths, row_of}
 use Rattle.page.specs.RowsLaws.{HasRoom}
 use Rattle.page.specs.Columns.{WideEnough}
-use Rattle.page.specs.ColumnsLaws.{digits-fit}
+use Rattle.page.proofs.ColumnsLaws.{digits-fit}
 use Rattle.page.specs.Page.{shown_tiles}
 use Rattle.page.specs.Held.{held_word, held, held_tiles, held_rows}
 

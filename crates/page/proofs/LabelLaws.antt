@@ -13,7 +13,7 @@ use Rattle.laws.specs.Members.{at_in, in_drop, none_of}
 use Rattle.graph.specs.Words.{Word}
 use Rattle.page.specs.Rows.{label_of}
 use Rattle.page.specs.Page.{outside}
-use Rattle.page.specs.ColumnsLaws.{inside}
+use Rattle.page.proofs.ColumnsLaws.{inside}
 use Rattle.page.specs.Said.{Labelled}
 
 -- the two checks

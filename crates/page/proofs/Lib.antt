@@ -5,3 +5,5 @@ mod HeldLaws
 mod PageLaws
 mod WalkingLaws
 mod RowByRow
+pub mod ColumnsLaws
+pub mod ShowsLaws

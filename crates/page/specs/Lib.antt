@@ -6,6 +6,4 @@ pub mod Said
 pub mod RowsLaws
 pub mod ShownLaws
 pub mod Columns
-pub mod ColumnsLaws
 pub mod Shows
-pub mod ShowsLaws

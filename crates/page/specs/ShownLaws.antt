@@ -96,12 +96,12 @@ module _ (w : Widths) (nodes counts labels title : List ℕ) (p first : ℕ) whe
   all-passed : (lent : ℕ) → OnOrRefused PagePassed (page_words w nodes counts labels title p first lent)
   unfolding page_words
   all-passed lent =
-      let lentChecks = lent_row w title lent in
-      then-on (λ _. first_of lentChecks ≡ none) PagePassed (checking (first_of lentChecks)) _ (checking-on lentChecks (first_of lentChecks) refl)
+      let lent_checks = lent_row w title lent in
+      then-on (λ _. first_of lent_checks ≡ none) PagePassed (checking (first_of lent_checks)) _ (checking-on lent_checks (first_of lent_checks) refl)
       (λ _ _ a. then-on (AtMost w word_rows first) PagePassed (shown_from w nodes counts p word_rows first) _ (shown-from w nodes counts p word_rows first)
       (λ es s m.
-      let labelChecks = label_row labels title (shown_tiles es) in
-      then-on (λ _. first_of labelChecks ≡ none) PagePassed (checking (first_of labelChecks)) _ (checking-on labelChecks (first_of labelChecks) refl)
+      let label_checks = label_row labels title (shown_tiles es) in
+      then-on (λ _. first_of label_checks ≡ none) PagePassed (checking (first_of label_checks)) _ (checking-on label_checks (first_of label_checks) refl)
       (λ _ _ b.
       let title-row = row-passed _ _ _ a in
       let inside = (row-passed _ _ _ (row-passed _ _ _ b).1).0 in

@@ -8,7 +8,7 @@ use native.Mathlib.Numerals.{add-one}
 use lib.ListN.{length, get_or, take, drop, set, length-drop, length-set, drop_of_length-le}
 use lib.Seq.{sets, take_all, drop-drop, drop-cons, set_out}
 use borrow.Author.Tests.{ltb-true, ltb-false}
-use Rattle.answers.specs.Answers.{refusalIn}
+use Rattle.answers.specs.Answers.{refusal_in}
 use Rattle.laws.specs.Cases.{split}
 use Rattle.node.specs.declared.Layout.{Layout}
 use Rattle.graph.specs.Runs.{Graph}
@@ -47,12 +47,12 @@ sets-room l (suc n) (x ∷ xs) i h = let e = length-set l i x in sets-room (set 
 abbrev pub fed_from : List ℕ → ℕ → Loader → Graph → List ℕ → List ℕ → List ℕ × Loader × Graph
 fed_from answers i s nodes cuts bytes =
     let all = feed_all s nodes (cut_at cuts bytes) in
-    (sets answers i (map refusalIn all.answers), all.state, all.nodes)
+    (sets answers i (map refusal_in all.answers), all.state, all.nodes)
 
 module _ (answers : List ℕ) (s : Loader) (nodes : Graph) (cuts bytes : List ℕ) (i from : ℕ) where
   pub feed-next : (end : ℕ) {after : Feeds} {more : List ℕ} → i < length cuts → from ≤ length bytes
       → end ≡ min (from + get_or cuts i 0) (length bytes) → after ≡ feed s nodes (take (end - from) (drop from bytes))
-      → more ≡ set answers i (refusalIn after.answer)
+      → more ≡ set answers i (refusal_in after.answer)
       → fed_from more (i + 1) after.state after.nodes (drop (i + 1) cuts) (drop end bytes) ≡ fed_from answers i s nodes (drop i cuts) (drop from bytes)
   unfolding feed_all cut_at
   feed-next end h l e f t =
@@ -60,7 +60,7 @@ module _ (answers : List ℕ) (s : Loader) (nodes : Graph) (cuts bytes : List �
       rw (t, f, p.0, p.1, add-one, drop-cons cuts i 0 h)
 
   pub feed-rest : {after : Feeds} {more : List ℕ} → length cuts ≤ i → after ≡ feed s nodes (drop from bytes)
-      → more ≡ set answers i (refusalIn after.answer)
+      → more ≡ set answers i (refusal_in after.answer)
       → (more, after.state, after.nodes) ≡ fed_from answers i s nodes (drop i cuts) (drop from bytes)
   unfolding feed_all cut_at
   feed-rest h f t = rw (t, f, drop_of_length-le cuts h)
@@ -75,4 +75,4 @@ pub load-left : (announced : ℕ) (layout : Layout) (nodes : Graph) (cuts bytes 
 unfolding load_pieces fed_pieces
 load-left announced layout nodes cuts bytes lent answers p q t =
     let all = feed_all (begin announced layout (length nodes)).state nodes (cut_at cuts bytes) in
-    rw (t, ap (λ x. x.0) q, ap (λ x. x.1) q, ap (λ x. x.2) q, p, sets-room lent (length lent) (map refusalIn all.answers) 0 (omega arith))
+    rw (t, ap (λ x. x.0) q, ap (λ x. x.1) q, ap (λ x. x.2) q, p, sets-room lent (length lent) (map refusal_in all.answers) 0 (omega arith))

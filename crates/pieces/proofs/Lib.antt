@@ -1,2 +1,4 @@
 -- What the proofs of several functions use.
 mod CutLaws
+pub mod PiecesLaws
+pub mod LoadsItself

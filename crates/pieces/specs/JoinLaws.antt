@@ -14,12 +14,12 @@ use Rattle.node.specs.Said.{bit_layout}
 use Rattle.node.specs.declared.Layout.{Layout}
 use Rattle.graph.specs.Runs.{Graph}
 use Rattle.endian.specs.Bytes.{whole_nodes, part_node}
-use Rattle.endian.specs.BytesLaws.{length_whole, length_part}
+use Rattle.endian.proofs.BytesLaws.{length_whole, length_part}
 use Rattle.load.specs.Repacking.{first_misfit, fitting}
 use Rattle.load.specs.declared.repack.Misfit.{Misfit}
 use Rattle.load.specs.RepackingLaws.{fitting-next, fitting-stops, misfit-later, misfit-here}
 use Rattle.load.specs.Loading.{places, zeros, holding, misfit_in, state_at, state_after, nodes_after}
-use Rattle.load.specs.StateLaws.{state-stopped}
+use Rattle.load.proofs.StateLaws.{state-stopped}
 
 whole_append : (b p : List ℕ) → whole_nodes (b ++ p) ≡ whole_nodes b ++ whole_nodes (part_node b ++ p)
 unfolding whole_nodes part_node

@@ -1,7 +1,7 @@
 -- What a load in pieces leaves: the terms of its definition, with each feed's answer as a number.
 use Rattle.std.specs.Prelude.{List, map, ℕ, length, take}
 use Rattle.std.proofs.lemmas.List.Edits.{sets}
-use Rattle.answers.specs.Answers.{Answer, refusalIn}
+use Rattle.answers.specs.Answers.{Answer, refusal_in}
 use Rattle.graph.specs.Runs.{Graph}
 use Rattle.load.specs.Said.{said_begin, said_finish}
 use Rattle.load.specs.declared.loader.Loader.{Loader}
@@ -10,7 +10,7 @@ use Rattle.pieces.specs.declared.Loaded.{Loaded}
 
 -- the numbers of the answers at the front of a lent list, as many as it has room for; "entries past that stay"
 abbrev pub answers_stored : List ℕ → List Answer → List ℕ
-answers_stored lent answers = sets lent 0 (take (length lent) (map refusalIn answers))
+answers_stored lent answers = sets lent 0 (take (length lent) (map refusal_in answers))
 
 pub record LoadLeft : Type 0 where
   pub begun : Answer

@@ -2,7 +2,7 @@
 #![tactic(auto)]
 
 ghost use Rattle.std.specs.Prelude.{◌≡◌, ◌+◌, ◌≤◌, min, set};
-ghost use Rattle.answers.specs.Answers.{refusalIn};
+ghost use Rattle.answers.specs.Answers.{refusal_in};
 ghost use Rattle.load.specs.Said.{said_feed};
 ghost use Rattle.pieces.specs.Pieces.{cut_at, load_pieces};
 ghost use Rattle.pieces.specs.Said.{load_leaves, loaded_as};
@@ -27,7 +27,7 @@ fn piece_end(from: usize, cut: u32, end: usize) -> usize
 }
 
 fn feed_refusal(answer: FeedAnswer) -> u32
-    ensures { result ≡ refusalIn (said_feed answer) }
+    ensures { result ≡ refusal_in (said_feed answer) }
 {
     match answer {
         FeedAnswer::Taken => 0,
@@ -39,7 +39,7 @@ fn feed_refusal(answer: FeedAnswer) -> u32
 
 // Puts a feed's answer at its place, if the list has that place.
 fn store_answer(answers: &mut [u32], place: usize, answer: FeedAnswer)
-    ensures { answers.new ≡ set answers.old place (refusalIn (said_feed answer)) }
+    ensures { answers.new ≡ set answers.old place (refusal_in (said_feed answer)) }
 {
     let number = feed_refusal(answer);
     if place < answers.len() {

@@ -4,7 +4,7 @@ use mathlib.Core.List.{List, [], ◌∷◌, ◌++◌}
 use Prim.Native.Nat.{ℕ}
 use borrow.Author.Tests.{eq-eqb, ne_eqb}
 use lib.ListN.{length, get_or, take, drop}
-use Rattle.answers.specs.Answers.{gives, refusalIn}
+use Rattle.answers.specs.Answers.{gives, refusal_in}
 use Rattle.node.specs.Said.{bit_layout}
 use Rattle.node.specs.declared.Layout.{Layout}
 use Rattle.load.specs.Repacking.{repack_answer, repacked_bytes}
@@ -30,7 +30,7 @@ repack-replies ws bytes after r n m en em said ea flat =
 
 -- ---- a load in two pieces
 module _ (announced : ℕ) (layout : Layout) (lent p q : List ℕ) (b : FlatBegun) (eb : begun_of b ≡ begin announced layout (length lent)) where
-  begun-is : refusalIn (load_pieces announced layout lent (p ∷ q ∷ [])).begun ≡ b.refusal
+  begun-is : refusal_in (load_pieces announced layout lent (p ∷ q ∷ [])).begun ≡ b.refusal
   unfolding load_pieces
   begun-is = rw (← eb) (plain_refusal b.refusal)
 

@@ -12,10 +12,10 @@ use Rattle.flat.specs.declared.sets.FlatAccepts.{FlatAccepts}
 use Rattle.flat.specs.declared.sets.FlatCross.{FlatCross}
 use Rattle.replay.specs.Sets.{accepts_fields, cross_fields, bits_reply, accepts_reply, cross_reply}
 
-pub bits-replies : (nodes all accepting after afterAccepting xs ys : List ℕ) (r : ℕ) → bits_of r after afterAccepting ≡ letter_bits_of nodes all accepting
-    → xs ≡ take (length nodes) after → ys ≡ take (length nodes) afterAccepting → r ∷ xs ++ ys ≡ bits_reply nodes all accepting
+pub bits-replies : (nodes all accepting after after_accepting xs ys : List ℕ) (r : ℕ) → bits_of r after after_accepting ≡ letter_bits_of nodes all accepting
+    → xs ≡ take (length nodes) after → ys ≡ take (length nodes) after_accepting → r ∷ xs ++ ys ≡ bits_reply nodes all accepting
 unfolding bits_reply
-bits-replies nodes all accepting after afterAccepting xs ys r e ex ey = rw (← e, plain_refusal r, ex, ey)
+bits-replies nodes all accepting after after_accepting xs ys r e ex ey = rw (← e, plain_refusal r, ex, ey)
 
 pub accepts-replies : (nodes tally : List ℕ) (r : FlatAccepts) (b : ℕ) → b ≡ flag r.accepts → accepts_of r ≡ accepts_alpha nodes tally
     → r ≡ flat_accepts (accepts_of r) → r.refusal ∷ b ∷ [] ≡ accepts_reply nodes tally

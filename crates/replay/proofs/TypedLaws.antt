@@ -105,11 +105,11 @@ module _ (ws bs : List ℕ) where
       rw (eu, tiles) (ap (λ (x : FlatTyped). typed_fields x ++ unmarked (walk.0 ++ drop (length walk.0) lent)) head)
 
 -- ---- the fields tell the words of a batch in the lent lists: a batch without words has no tiles, and what stops a batch is no word
-module _ (after : ℕ) (begun sizesLeft tilesLeft : List ℕ) where
+module _ (after : ℕ) (begun sizes_left tiles_left : List ℕ) where
   abbrev ListsTold : List ℕ → List ℕ → Answer → Type 0
   ListsTold sizes tiles stop =
       let r = flat_typed_list (batch_answer record { sizes = sizes; tiles = tiles; after = after; stop = stop; begun = begun }) in
-      take r.words (sizes ++ sizesLeft) ++ take r.tiles (tiles ++ begun ++ tilesLeft) ≡ sizes ++ tiles
+      take r.words (sizes ++ sizes_left) ++ take r.tiles (tiles ++ begun ++ tiles_left) ≡ sizes ++ tiles
 
   lists-told : (sizes tiles : List ℕ) (stop : Answer) → NoWord stop → (length sizes ≡ 0 → tiles ≡ []) → ListsTold sizes tiles stop
   lists-told [] tiles (gives vs) h bare = absurd h
@@ -117,22 +117,22 @@ module _ (after : ℕ) (begun sizesLeft tilesLeft : List ℕ) where
   lists-told [] tiles (refused r vs) h bare = sym (bare refl)
   lists-told (n ∷ ns) tiles stop h bare =
       rw (ne_eqb (length (n ∷ ns)) 0 (λ e. omega arith))
-      (ap₂ ◌++◌ (take-append_seam (n ∷ ns) sizesLeft)
-      (ap (take (length tiles)) (append_assoc tiles begun tilesLeft) ∙ take-append_seam tiles (begun ++ tilesLeft)))
+      (ap₂ ◌++◌ (take-append_seam (n ∷ ns) sizes_left)
+      (ap (take (length tiles)) (append_assoc tiles begun tiles_left) ∙ take-append_seam tiles (begun ++ tiles_left)))
 
 module _ (ws bs : List ℕ) where
-  pub list-fields : (r : FlatTypedList) (lentTiles tiles lentSizes sizes labels text : List ℕ) (n at : ℕ) → n ≡ get_or ws 3 0 → at ≡ get_or ws 0 0
+  pub list-fields : (r : FlatTypedList) (lent_tiles tiles lent_sizes sizes labels text : List ℕ) (n at : ℕ) → n ≡ get_or ws 3 0 → at ≡ get_or ws 0 0
       → labels ≡ take n bs → text ≡ drop n bs
-      → BatchPut (read_words labels text (length lentSizes) (length lentTiles) at) lentTiles tiles lentSizes sizes (typed_list_of r)
+      → BatchPut (read_words labels text (length lent_sizes) (length lent_tiles) at) lent_tiles tiles lent_sizes sizes (typed_list_of r)
       → r ≡ flat_typed_list (typed_list_of r)
-      → typed_list_fields r ++ (take r.words sizes ++ take r.tiles tiles) ≡ typed_list_reply_in ws bs (length lentSizes) (length lentTiles)
+      → typed_list_fields r ++ (take r.words sizes ++ take r.tiles tiles) ≡ typed_list_reply_in ws bs (length lent_sizes) (length lent_tiles)
   unfolding typed_list_reply_in typed_batch
-  list-fields r lentTiles tiles lentSizes sizes labels text n at en ea el et put flat =
-      let w : read_words labels text (length lentSizes) (length lentTiles) at
-      ≡ read_words (take (get_or ws 3 0) bs) (drop (get_or ws 3 0) bs) (length lentSizes) (length lentTiles) (get_or ws 0 0)
+  list-fields r lent_tiles tiles lent_sizes sizes labels text n at en ea el et put flat =
+      let w : read_words labels text (length lent_sizes) (length lent_tiles) at
+      ≡ read_words (take (get_or ws 3 0) bs) (drop (get_or ws 3 0) bs) (length lent_sizes) (length lent_tiles) (get_or ws 0 0)
       = rw (el, et, en, ea) in
-      let b = read_words labels text (length lentSizes) (length lentTiles) at in
-      let l = read-lines labels text (length lentSizes) (length lentTiles) at in
+      let b = read_words labels text (length lent_sizes) (length lent_tiles) at in
+      let l = read-lines labels text (length lent_sizes) (length lent_tiles) at in
       let head : r ≡ flat_typed_list (batch_answer b) = flat ∙ ap flat_typed_list put.answer in
       let lists : take (flat_typed_list (batch_answer b)).words sizes ++ take (flat_typed_list (batch_answer b)).tiles tiles ≡ b.sizes ++ b.tiles
       = rw (put.sizes, put.tiles)

@@ -10,7 +10,7 @@ use lib.Dec.{ltb}
 use Rattle.laws.specs.Cases.{split}
 use lib.ListN.{length, take, drop, replicate}
 use lib.Seq.{take-append_seam}
-use Rattle.stored.specs.Answers.{same, verdictOf}
+use Rattle.stored.specs.Answers.{same, verdict_of}
 use Rattle.stored.specs.Inputs.{list_in, count_of, copied_to}
 use Rattle.stored.specs.CountLaws.{not-counted, list_counted}
 use Rattle.stored.specs.declared.answers.Verdict.{Verdict}
@@ -50,10 +50,10 @@ module _ (wr br call : ℕ) (case : List ℕ) where
         unread (ap (after_words br case) is ∙ ap (λ (r : List ℕ). after_bytes ws r (list_in 255 br r)) (sym at)
         ∙ ap (after_bytes ws rest) (not-counted (list_in 255 br rest) f))
 
-    pub case-judged : (m : ℕ) (words bytes afterWords' afterBytes' stored part : List ℕ) {b : Bool} → count_of (list_in 255 br rest) ≡ Count.Are m
-        → wr ≡ length words → br ≡ length bytes → afterWords' ≡ copied_to words (list_in 4294967295 wr case)
-        → afterBytes' ≡ copied_to bytes (list_in 255 br rest) → stored ≡ drop (m + 1) rest → part ≡ take n afterWords'
-        → Replied part (take m afterBytes') call stored b → Judged wr br call case (verdictOf b)
+    pub case-judged : (m : ℕ) (words bytes after_words' after_bytes' stored part : List ℕ) {b : Bool} → count_of (list_in 255 br rest) ≡ Count.Are m
+        → wr ≡ length words → br ≡ length bytes → after_words' ≡ copied_to words (list_in 4294967295 wr case)
+        → after_bytes' ≡ copied_to bytes (list_in 255 br rest) → stored ≡ drop (m + 1) rest → part ≡ take n after_words'
+        → Replied part (take m after_bytes') call stored b → Judged wr br call case (verdict_of b)
     case-judged m words bytes aw ab stored part {b} f ew eb cw cb es ep r =
         let (ws, is, sized) = list_counted (list_in 4294967295 wr case) n e in
         let (bs, has, counts) = list_counted (list_in 255 br rest) m f in

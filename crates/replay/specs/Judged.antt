@@ -3,7 +3,7 @@ use Rattle.std.specs.Prelude.{◌≡◌, Bool, false, ◌&&◌, List, ℕ, ◌+�
 use Rattle.std.proofs.Math.Option.{Option, none, some}
 use Rattle.answers.specs.Answers.{Answer}
 use Rattle.graph.specs.Counting.{IsCounted, count_limit}
-use Rattle.stored.specs.Answers.{same, verdictOf}
+use Rattle.stored.specs.Answers.{same, verdict_of}
 use Rattle.stored.specs.Inputs.{list_in}
 use Rattle.stored.specs.declared.answers.Verdict.{Verdict}
 use Rattle.replay.specs.Nodes.{fields_reply, pack_reply, repack_node_reply}
@@ -27,12 +27,12 @@ after_bytes ws rest none = none
 after_bytes ws rest (some bs) = some record { words = ws; bytes = bs; answer = drop (length bs + 1) rest }
 
 abbrev pub after_words : ℕ → List ℕ → Option (List ℕ) → Option Read
-after_words byteRoom case none = none
-after_words byteRoom case (some ws) = after_bytes ws (drop (length ws + 1) case) (list_in 255 byteRoom (drop (length ws + 1) case))
+after_words byte_room case none = none
+after_words byte_room case (some ws) = after_bytes ws (drop (length ws + 1) case) (list_in 255 byte_room (drop (length ws + 1) case))
 
 -- with room for so many words and bytes
 abbrev pub read_case : ℕ → ℕ → List ℕ → Option Read
-read_case wordRoom byteRoom case = after_words byteRoom case (list_in 4294967295 wordRoom case)
+read_case word_room byte_room case = after_words byte_room case (list_in 4294967295 word_room case)
 
 -- ---- the calls by their numbers, with what each replies over the lists that it is lent
 pub data Reply (ws bs : List ℕ) : ℕ → List ℕ → Type 0 where
@@ -60,8 +60,8 @@ pub data Reply (ws bs : List ℕ) : ℕ → List ℕ → Type 0 where
 pub data Replied (ws bs : List ℕ) (call : ℕ) (stored : List ℕ) : Bool → Type 0 where
   by : {a : List ℕ} → Reply ws bs call a → Replied ws bs call stored (same stored a)
 
-pub data Judged (wordRoom byteRoom call : ℕ) (case : List ℕ) : Verdict → Type 0 where
-  no_call : leb 1 call && leb call 19 ≡ false → Judged wordRoom byteRoom call case Verdict.Malformed
-  unread : read_case wordRoom byteRoom case ≡ none → Judged wordRoom byteRoom call case Verdict.Malformed
-  compared : {r : Read} {b : Bool} → read_case wordRoom byteRoom case ≡ some r → Replied r.words r.bytes call r.answer b
-      → Judged wordRoom byteRoom call case (verdictOf b)
+pub data Judged (word_room byte_room call : ℕ) (case : List ℕ) : Verdict → Type 0 where
+  no_call : leb 1 call && leb call 19 ≡ false → Judged word_room byte_room call case Verdict.Malformed
+  unread : read_case word_room byte_room case ≡ none → Judged word_room byte_room call case Verdict.Malformed
+  compared : {r : Read} {b : Bool} → read_case word_room byte_room case ≡ some r → Replied r.words r.bytes call r.answer b
+      → Judged word_room byte_room call case (verdict_of b)

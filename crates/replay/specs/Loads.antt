@@ -1,6 +1,6 @@
 -- What repacking and loading reply to the words and the bytes of a case: the fields of the flat answer, and then the bytes or the nodes.
 use Rattle.std.specs.Prelude.{List, [], ◌∷◌, ◌++◌, ℕ, eqb, length, get_or, take, drop}
-use Rattle.answers.specs.Answers.{refusalIn}
+use Rattle.answers.specs.Answers.{refusal_in}
 use Rattle.node.specs.Said.{bit_layout}
 use Rattle.load.specs.Repacking.{repack_answer, repacked_bytes}
 use Rattle.pieces.specs.Pieces.{LoadOutcome, load_pieces}
@@ -26,9 +26,9 @@ repack_reply ws bytes =
 -- begin's refusal, or else what finish answers and the nodes that it counts
 unfoldable pub load_fields : LoadOutcome → List ℕ
 load_fields r =
-    pick (eqb (refusalIn r.begun) 0)
+    pick (eqb (refusal_in r.begun) 0)
     (finished_fields (flat_finished r.finished) ++ take (flat_finished r.finished).nodes r.nodes)
-    (refusalIn r.begun ∷ [])
+    (refusal_in r.begun ∷ [])
 
 -- LAYOUT CUT; the bytes of the file, which come in two pieces
 unfoldable pub load_reply : List ℕ → List ℕ → List ℕ → List ℕ

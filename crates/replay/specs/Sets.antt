@@ -1,6 +1,6 @@
 -- What letter bits and alpha sets reply to the nodes of a case and to its tally: the fields of the flat answer, and then the sets.
 use Rattle.std.specs.Prelude.{List, [], ◌∷◌, ◌++◌, ℕ, length, take}
-use Rattle.answers.specs.Answers.{refusalIn}
+use Rattle.answers.specs.Answers.{refusal_in}
 use Rattle.base.specs.Numbers.{flag}
 use Rattle.letters.specs.LetterBits.{letter_bits_of}
 use Rattle.letters.specs.AlphaSets.{accepts_alpha, cross_set}
@@ -18,7 +18,7 @@ cross_fields r = r.refusal ∷ r.tiles ∷ []
 unfoldable pub bits_reply : List ℕ → List ℕ → List ℕ → List ℕ
 bits_reply nodes all accepting =
     let r = letter_bits_of nodes all accepting in
-    refusalIn r.answer ∷ take (length nodes) r.all ++ take (length nodes) r.accepting
+    refusal_in r.answer ∷ take (length nodes) r.all ++ take (length nodes) r.accepting
 
 unfoldable pub accepts_reply : List ℕ → List ℕ → List ℕ
 accepts_reply nodes tally = accepts_fields (flat_accepts (accepts_alpha nodes tally))

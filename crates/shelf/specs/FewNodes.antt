@@ -12,14 +12,14 @@ use Rattle.std.proofs.Math.ListN.{length}
 use Rattle.laws.specs.Cases.{split}
 use Rattle.laws.specs.Lists.{join_all}
 use Rattle.laws.specs.Members.{map_in, filtered_in, join_in}
-use Rattle.laws.specs.Same.{exact-number}
+use Rattle.laws.proofs.SameLaws.{exact-number}
 use Rattle.laws.specs.Without.{covers_length}
 use Rattle.graph.specs.Words.{Word}
 use Rattle.export.specs.BlocksLaws.{Low, start-met, children_met, blocks-length}
 use Rattle.built.specs.Branches.{onwards}
 use Rattle.built.specs.Lexicon.{Lexicon}
 use Rattle.built.specs.Built.{built}
-use Rattle.built.specs.RunsLaws.{low-start}
+use Rattle.built.proofs.RunsLaws.{low-start}
 use Rattle.shelf.specs.Shelf.{ShelfEntry, Shelf, run_entries, number_words, SoundShelf, child_numbers, entry_nodes, numbers_met, arc_of_number}
 use Rattle.shelf.specs.Shelf.{numbered_graph}
 use Rattle.shelf.specs.ShelfLaws.{top_or_below}

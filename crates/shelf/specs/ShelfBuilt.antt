@@ -11,7 +11,7 @@ use Rattle.std.proofs.lemmas.List.{length-map}
 use Rattle.laws.specs.Cases.{split}
 use Rattle.laws.specs.Lists.{filtered, has_entries, is_empty, join_all}
 use Rattle.laws.specs.Members.{in_filtered, in_map, map_same}
-use Rattle.laws.specs.Same.{exact-number}
+use Rattle.laws.proofs.SameLaws.{exact-number}
 use Rattle.graph.specs.Words.{Word}
 use Rattle.export.specs.AlikeLaws.{met-alike, places-alike}
 use Rattle.export.specs.Blocks.{block_at, met}
@@ -19,7 +19,7 @@ use Rattle.export.specs.BlocksLaws.{every-met}
 use Rattle.built.specs.BranchLaws.{words_of_all}
 use Rattle.built.specs.Branches.{branches, first_tiles, onward, onwards, tile_alone}
 use Rattle.built.specs.Built.{arc_to, built, node_of, run_nodes, same_words, word_runs}
-use Rattle.built.specs.RunsLaws.{exact-words}
+use Rattle.built.proofs.RunsLaws.{exact-words}
 use Rattle.shelf.specs.Shelf.{Shelf, ShelfEntry, SoundShelf, arc_of_number, child_numbers, entry_nodes, number_words, numbered_graph, numbers_met}
 use Rattle.shelf.specs.Shelf.{run_entries, tail_of}
 use Rattle.shelf.specs.ShelfLaws.{alone-is, branch-below, branch_of, branches_at, onward-is, tail_below, tail_top, tail_zero, told, top_or_below}

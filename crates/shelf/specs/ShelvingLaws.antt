@@ -6,7 +6,8 @@ use mathlib.Core.List.{List, [], ◌∷◌, ◌++◌, Memᴰ}
 use Rattle.std.proofs.lemmas.Bool.{eqb-false}
 use Rattle.laws.specs.Cases.{and_left, and_right, split}
 use Rattle.laws.specs.Lists.{has_entries, is_empty}
-use Rattle.laws.specs.Same.{Exact, exact-apart}
+use Rattle.laws.specs.Same.{Exact}
+use Rattle.laws.proofs.SameLaws.{exact-apart}
 use Rattle.base.specs.Numbers.{flag, flag-read}
 use Rattle.graph.specs.Words.{Word}
 use Rattle.built.specs.BranchLaws.{empty_word, words_of_all}

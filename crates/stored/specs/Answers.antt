@@ -3,9 +3,9 @@ use Rattle.std.specs.Prelude.{◌≡◌, refl, Bool, true, false, ◌&&◌, List
 use Rattle.stored.specs.declared.answers.Verdict.{Verdict}
 unfoldable pub use Rattle.laws.specs.Same.{same}
 
-abbrev pub verdictOf : Bool → Verdict
-verdictOf true = Verdict.Same
-verdictOf false = Verdict.Different
+abbrev pub verdict_of : Bool → Verdict
+verdict_of true = Verdict.Same
+verdict_of false = Verdict.Different
 
 after : (b c d e : Bool) → c ≡ d && e → b && c ≡ (b && d) && e
 after true c d e h = h

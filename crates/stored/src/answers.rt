@@ -1,6 +1,6 @@
 // Whether what is stored is what a call answered.
 ghost use Rattle.std.specs.Prelude.{◌≡◌, ◌++◌, length, take};
-ghost use Rattle.stored.specs.Answers.{same, verdictOf};
+ghost use Rattle.stored.specs.Answers.{same, verdict_of};
 
 use crate::parts::{numbers_from, numbers_to};
 
@@ -12,7 +12,7 @@ pub enum Verdict {
 }
 
 pub fn verdict_of(same: bool) -> Verdict
-    ensures { result ≡ verdictOf same }
+    ensures { result ≡ verdict_of same }
 {
     if same {
         Verdict::Same

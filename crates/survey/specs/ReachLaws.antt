@@ -10,7 +10,7 @@ use Rattle.std.proofs.Math.Dec.{eqb}
 use Rattle.laws.specs.Cases.{split, or_false-left, or_false-right}
 use Rattle.laws.specs.Lists.{some_of, join_all}
 use Rattle.laws.specs.Members.{all_fail, none_of, in_join, join_in}
-use Rattle.laws.specs.Same.{exact-number}
+use Rattle.laws.proofs.SameLaws.{exact-number}
 use Rattle.base.specs.Numbers.{most}
 use Rattle.node.specs.Nodes.{kbwg, arc}
 use Rattle.graph.specs.Runs.{Graph}

@@ -5,7 +5,7 @@ use mathlib.Core.List.{[], ◌∷◌, Memᴰ}
 use Rattle.laws.specs.Cases.{below?}
 use Rattle.node.specs.Nodes.{kbwg, tile, accepts, arc}
 use Rattle.node.specs.PackedLaws.{Fields}
-use Rattle.built.specs.FieldLaws.{kbwg-fields}
+use Rattle.built.proofs.FieldLaws.{kbwg-fields}
 use Rattle.shelf.specs.Shelf.{ShelfEntry, Shelf}
 use Rattle.tails.specs.Tails.{tail_node, key_of, keys_of, Narrow}
 

@@ -16,10 +16,10 @@ on_first b [] = (b ∷ []) ∷ []
 on_first b (l ∷ ls) = (b ∷ l) ∷ ls
 
 -- the lines from byte b on: `pair`, it ends an empty line with the byte after it; `ending`, by itself; else it is the first of its line
-abbrev pub lines_from : (pair ending : Bool) → ℕ → (afterPair next : List (List ℕ)) → List (List ℕ)
-lines_from true ending b afterPair next = [] ∷ afterPair
-lines_from false true b afterPair next = [] ∷ next
-lines_from false false b afterPair next = on_first b next
+abbrev pub lines_from : (pair ending : Bool) → ℕ → (after_pair next : List (List ℕ)) → List (List ℕ)
+lines_from true ending b after_pair next = [] ∷ after_pair
+lines_from false true b after_pair next = [] ∷ next
+lines_from false false b after_pair next = on_first b next
 
 -- the lines of a text (`visits-lines`, `visits-only`)
 unfoldable pub lines : List ℕ → List (List ℕ)

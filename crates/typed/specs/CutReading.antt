@@ -233,12 +233,12 @@ module _ (file text : List ℕ) (good : bad_line 1 (lines file) ≡ none) (room 
   all-entries = ap (map (with_tiles file)) all_lines ∙ sym (entries-are file es handed.tiles)
 
 module _ (file s t : List ℕ) (good : bad_line 1 (lines file) ≡ none) (cut : closed_after s || closed_before t ≡ true) (es ds : List ReadLine) where
-  pub reads-cut : (roomS roomT room : ℕ → ℕ) → ((at : ℕ) → length (s ++ t) ≤ room at)
-      → ReadingFrom file s roomS 0 es nothing → ReadingFrom file t roomT 0 ds nothing → ReadingFrom file (s ++ t) room 0 (es ++ ds) nothing
-  reads-cut roomS roomT room enough p q =
+  pub reads-cut : (room_s room_t room : ℕ → ℕ) → ((at : ℕ) → length (s ++ t) ≤ room at)
+      → ReadingFrom file s room_s 0 es nothing → ReadingFrom file t room_t 0 ds nothing → ReadingFrom file (s ++ t) room 0 (es ++ ds) nothing
+  reads-cut room_s room_t room enough p q =
       let parts = filled-cut s t cut in
       let all = subst (All (Readable file)) (sym parts)
-      (all_append (Readable file) (filled_lines s) (filled_lines t) (all-readable file s good roomS es p) (all-readable file t good roomT ds q)) in
+      (all_append (Readable file) (filled_lines s) (filled_lines t) (all-readable file s good room_s es p) (all-readable file t good room_t ds q)) in
       let entries = ap (map (with_tiles file)) parts ∙ map-append (with_tiles file) (filled_lines s) (filled_lines t)
-      ∙ ap₂ ◌++◌ (all-entries file s good roomS es p) (all-entries file t good roomT ds q) in
+      ∙ ap₂ ◌++◌ (all-entries file s good room_s es p) (all-entries file t good room_t ds q) in
       subst (λ (xs : List ReadLine). ReadingFrom file (s ++ t) room 0 xs nothing) entries (reads_all file (s ++ t) good room enough 0 all)

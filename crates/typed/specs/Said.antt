@@ -29,10 +29,10 @@ said_batch (B.Unreadable p) = refused 28 (p ∷ [])
 said_batch B.BufferFull = refused 16 []
 
 -- "after 28 or 16 the tiles already put stay" (`Filled`); of several words: their tiles, then those of a refused line, and a number for each word
-pub record BatchPut (batch : Batch) (tilesBefore tilesAfter sizesBefore sizesAfter : List ℕ) (said : Answer) : Type 0 where
+pub record BatchPut (batch : Batch) (tiles_before tiles_after sizes_before sizes_after : List ℕ) (said : Answer) : Type 0 where
   pub answer : said ≡ batch_answer batch
-  pub tiles : let put = batch.tiles ++ batch.begun in tilesAfter ≡ put ++ drop (length put) tilesBefore
-  pub sizes : sizesAfter ≡ batch.sizes ++ drop (length batch.sizes) sizesBefore
+  pub tiles : let put = batch.tiles ++ batch.begun in tiles_after ≡ put ++ drop (length put) tiles_before
+  pub sizes : sizes_after ≡ batch.sizes ++ drop (length batch.sizes) sizes_before
 
 -- "the line handed out is that part of the caller's own text"
 abbrev pub part_of : List ℕ → ℕ → ℕ → List ℕ

@@ -4,7 +4,7 @@ use mathlib.Core.Bool.{true, false}
 use mathlib.Core.Option.{none, some}
 use Prim.Native.Nat.{ℕ}
 use Rattle.windows1252.specs.Windows1252.{is_itself, byte_of, no_byte, byte_written}
-use Rattle.windows1252.specs.Windows1252Laws.{itself-byte}
+use Rattle.windows1252.proofs.Windows1252Laws.{itself-byte}
 use Rattle.windows1252.specs.Encoded.{encoded}
 use Rattle.windows1252.specs.declared.Encoded.{Encoded}
 use Rattle.windows1252.specs.declared.Encoded.TheVariants.{Byte, NoByte}

@@ -14,7 +14,7 @@ use Rattle.laws.specs.Firsts.{place_in}
 use Rattle.laws.specs.Lists.{some_of}
 use Rattle.laws.specs.Tables.{table, table_at}
 use Rattle.windows1252.specs.Windows1252.{entries, is_itself, byte_of}
-use Rattle.windows1252.specs.Windows1252Laws.{Rule, breaks, Rule-at, stands_or_none}
+use Rattle.windows1252.proofs.Windows1252Laws.{Rule, breaks, Rule-at, stands_or_none}
 use Rattle.windows1252.specs.Encoded.{OnlyPlace}
 
 -- what an entry leaves; one without a character leaves no remainder

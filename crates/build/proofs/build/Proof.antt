@@ -14,7 +14,7 @@ use Rattle.answers.specs.Answers.{first_of}
 use Rattle.graph.specs.Lent.{work-untouched, work-walked, kept-part}
 use Rattle.built.specs.Build.{build_checks}
 use Rattle.built.specs.Listed.{words_listed, list_row}
-use Rattle.built.specs.ListedLaws.{listed-lexicon}
+use Rattle.built.proofs.ListedLaws.{listed-lexicon}
 use Rattle.word_list.specs.Checks.{list_refusal}
 use Rattle.word_list.specs.declared.checking.Checked.{Checked}
 use Rattle.build.proofs.BuildLaws.{checks_refuse, checks-pass, list-refuses, work-short, work-enough}

@@ -6,7 +6,7 @@ use lib.ListN.{length}
 use lib.Seq.{sets}
 use borrow.Author.Rules.{rules}
 use Rattle.built.specs.Built.{built}
-use Rattle.built.specs.ClaimLaws.{built-none}
+use Rattle.built.proofs.ClaimLaws.{built-none}
 use Rattle.build.proofs.BuildLaws.{too_short, all-written}
 use Rattle.build.proofs.build_empty.Statement.{statement}
 use Rattle.build.proofs.build_empty.Tie as tie

@@ -4,7 +4,7 @@ use mathlib.Core.List.{List}
 use lib.ListN.{length}
 use Rattle.answers.specs.Answers.{Answer}
 use Rattle.in_play.specs.InPlay.{in_play, not_in_play, remaining, allowed}
-use Rattle.in_play.specs.PlayLaws.{not-allowed, is-allowed}
+use Rattle.in_play.proofs.PlayLaws.{not-allowed, is-allowed}
 use Rattle.in_play.specs.Said.{allowed_as}
 use Rattle.in_play.specs.declared.Allowed.{Allowed}
 use Rattle.in_play.specs.declared.Allowed.TheVariants as A

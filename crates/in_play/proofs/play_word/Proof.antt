@@ -7,7 +7,7 @@ use Rattle.answers.specs.Answers.{Answer}
 use Rattle.graph.specs.Counting.{count_limit}
 use Rattle.lookup.specs.Steps.{stop}
 use Rattle.in_play.specs.InPlay.{in_lexicon, play}
-use Rattle.in_play.specs.PlayLaws.{found_within, play-unknown, play-known}
+use Rattle.in_play.proofs.PlayLaws.{found_within, play-unknown, play-known}
 use Rattle.in_play.specs.Said.{found_as}
 use Rattle.in_play.specs.declared.Move.{Move}
 use Rattle.in_play.specs.declared.lexicon.InLexicon.{InLexicon}

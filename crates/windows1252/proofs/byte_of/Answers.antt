@@ -3,7 +3,7 @@ use mathlib.Core.Path.{◌≡◌, sym, ◌∙◌}
 use mathlib.Core.Bool.{true}
 use borrow.Author.Rules.{rules}
 use Rattle.windows1252.specs.Windows1252.{is_itself}
-use Rattle.windows1252.specs.Windows1252Laws.{itself-below}
+use Rattle.windows1252.proofs.Windows1252Laws.{itself-below}
 use Rattle.windows1252.proofs.EncodedLaws.{own-byte, encoded-none, encoded-byte}
 use Rattle.windows1252.proofs.byte_of.Goals as goal
 use Rattle.windows1252.proofs.byte_of.Goals.{Then-is_itself}

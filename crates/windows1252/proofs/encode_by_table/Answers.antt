@@ -3,7 +3,7 @@ use mathlib.Core.Path.{sym}
 use native.Mathlib.Omega.{arith}
 use borrow.Author.Rules.{rules}
 use Rattle.windows1252.specs.Windows1252.{entries}
-use Rattle.windows1252.specs.Windows1252Laws.{from_80, entry-byte}
+use Rattle.windows1252.proofs.Windows1252Laws.{from_80, entry-byte}
 use Rattle.windows1252.proofs.PlaceLaws.{not_there}
 use Rattle.windows1252.proofs.encode_by_table.Goals as goal
 

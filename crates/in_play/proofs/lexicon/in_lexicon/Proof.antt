@@ -14,7 +14,7 @@ use Rattle.in_play.specs.InPlay.{start_count, number_of, in_lexicon}
 use Rattle.in_play.specs.Said.{start_says}
 use Rattle.in_play.specs.declared.lexicon.StartCount.{StartCount}
 use Rattle.in_play.specs.declared.lexicon.StartCount.TheVariants as S
-use Rattle.in_play.specs.PlayLaws.{no_start, few_bits, no_number, number_past, number-within}
+use Rattle.in_play.proofs.PlayLaws.{no_start, few_bits, no_number, number_past, number-within}
 use borrow.Author.Rules.{rules}
 use Rattle.in_play.proofs.lexicon.in_lexicon.Statement.{statement}
 use Rattle.in_play.proofs.lexicon.in_lexicon.Tie as tie

@@ -2,7 +2,7 @@
 use mathlib.Core.Path.{sym, ◌∙◌}
 use native.Mathlib.Omega.{arith}
 use Rattle.lookup.specs.StepsLaws.{lent-on, lent_out}
-use Rattle.in_play.specs.PlayLaws.{start-out, start_none, start-count}
+use Rattle.in_play.proofs.PlayLaws.{start-out, start_none, start-count}
 use borrow.Author.Rules.{rules}
 use Rattle.in_play.proofs.lexicon.start_count.Statement.{statement}
 use Rattle.in_play.proofs.lexicon.start_count.Tie as tie

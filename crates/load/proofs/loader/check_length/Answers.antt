@@ -1,7 +1,7 @@
 -- `check_length` meets its contract: each refusal by its condition of begin's row, those before it being false.
 use native.Mathlib.Omega.{arith}
 use mathlib.Core.Path.{sym}
-use Rattle.load.specs.BeginLaws.{begin-empty}
+use Rattle.load.proofs.BeginLaws.{begin-empty}
 use Rattle.load.proofs.BeginRow.{begin_ragged, begin_over, begin-short, begin-passes}
 use Rattle.load.proofs.loader.check_length.Goals as goal
 

@@ -12,7 +12,7 @@ use Rattle.node.specs.declared.Packed.{Packed}
 use Rattle.endian.specs.Bytes.{node_at}
 use Rattle.load.specs.Loading.{held_then, state_after, nodes_after}
 use Rattle.load.proofs.HeldLaws.{held-then-length, held-then-rest}
-use Rattle.load.specs.StateLaws.{Sound, sound}
+use Rattle.load.proofs.StateLaws.{Sound, sound}
 use Rattle.load.proofs.PieceLaws.{piece-node, piece-stops, piece-short, held-longer}
 use Rattle.load.specs.declared.loader.Loader.{Loader}
 use borrow.Author.Rules.{rules}

@@ -8,11 +8,11 @@ use lib.Seq.{take_all}
 use Rattle.node.specs.Nodes.{kbwg}
 use Rattle.node.specs.Said.{bit_layout}
 use Rattle.endian.specs.Bytes.{whole_nodes}
-use Rattle.endian.specs.BytesLaws.{length_whole}
+use Rattle.endian.proofs.BytesLaws.{length_whole}
 use Rattle.load.specs.Repacking.{misfit_of}
 use Rattle.load.specs.RepackingLaws.{misfit-within}
 use Rattle.load.specs.Loading.{places, misfit_in}
-use Rattle.load.specs.StateLaws.{state-stopped}
+use Rattle.load.proofs.StateLaws.{state-stopped}
 use Rattle.load.proofs.PieceLaws.{state-cut}
 use Rattle.load.specs.declared.repack.Repacked.{Repacked}
 use borrow.Author.Rules.{rules}

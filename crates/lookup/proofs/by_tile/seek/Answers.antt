@@ -12,7 +12,7 @@ use Rattle.lookup.specs.WordsBefore.{NamesBefore}
 use Rattle.lookup.specs.Said.{passed_try}
 use Rattle.lookup.specs.declared.by_tile.Passed.{Passed}
 use Rattle.lookup.proofs.PassedLaws.{passed-from-lent}
-use Rattle.lookup.specs.WordsBeforeLaws.{seek-names}
+use Rattle.lookup.proofs.WordsBeforeLaws.{seek-names}
 use Rattle.lookup.proofs.by_tile.seek.Goals as goal
 use Rattle.lookup.proofs.by_tile.seek.Goals.{After-pass_from-found, Start}
 

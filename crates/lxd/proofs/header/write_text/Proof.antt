@@ -8,7 +8,7 @@ use lib.ListN.{length, drop, length-set}
 use lib.Seq.{sets}
 use Rattle.laws.specs.ListWrites.{sets-done}
 use Rattle.lxd_file.specs.File.{field}
-use Rattle.lxd_file.specs.FileLaws.{length-field}
+use Rattle.lxd_file.proofs.FileLaws.{length-field}
 use Rattle.lxd.proofs.HeaderLaws.{text-next}
 use Rattle.lxd.proofs.header.write_text.Statement.{statement}
 use Rattle.lxd.proofs.header.write_text.Tie as tie

@@ -13,7 +13,7 @@ use Rattle.export.specs.WrittenLaws.{refused_by}
 use Rattle.macondo_file.specs.File.{Format, marks, macondo_file}
 use Rattle.macondo_file.specs.Row.{macondo_walk_row}
 use Rattle.macondo_file.specs.RowLaws.{MacondoChecked}
-use Rattle.macondo_file.specs.BlockLaws.{format-start-inside}
+use Rattle.macondo_file.proofs.BlockLaws.{format-start-inside}
 use Rattle.macondo_blocks.specs.Blocks.{NumberingIs}
 use Rattle.macondo_blocks.specs.declared.blocks.BlockNumbering.{BlockNumbering}
 use Rattle.macondo.specs.declared.Macondo.{Macondo}

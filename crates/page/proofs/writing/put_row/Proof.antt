@@ -6,7 +6,7 @@ use lib.ListN.{length}
 use Rattle.decimal.specs.Decimal.{decimal}
 use Rattle.endian.specs.Puts.{put-size}
 use Rattle.page.specs.Rows.{page_widths}
-use Rattle.page.specs.ColumnsLaws.{page_wide, digits-fit}
+use Rattle.page.proofs.ColumnsLaws.{page_wide, digits-fit}
 use Rattle.page.proofs.PutLaws.{row_put}
 use Rattle.page.proofs.writing.put_row.Statement.{statement}
 use Rattle.page.proofs.writing.put_row.Tie as tie

@@ -13,7 +13,7 @@ use Rattle.page.specs.Held.{held_word, held_tiles, held_rows}
 use Rattle.page.proofs.LabelLaws.{part-labelled}
 use Rattle.page.proofs.HeldLaws.{tiles-next, rows_next, rows-done}
 use Rattle.page.specs.RowsLaws.{row-length}
-use Rattle.page.specs.ColumnsLaws.{page_wide, digits-fit}
+use Rattle.page.proofs.ColumnsLaws.{page_wide, digits-fit}
 use Rattle.page.proofs.writing.put_rows.Statement.{statement}
 use Rattle.page.proofs.writing.put_rows.Tie as tie
 

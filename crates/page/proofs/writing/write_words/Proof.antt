@@ -9,7 +9,7 @@ use Rattle.endian.specs.Putting.{Putting, put-start, put_next, put-room, put-don
 use Rattle.endian.specs.Puts.{next-put}
 use Rattle.page.specs.Rows.{page_widths, ShownWord, blank, blanks, page_text, word_rows, row_length, page_length}
 use Rattle.page.specs.RowsLaws.{page-length}
-use Rattle.page.specs.ColumnsLaws.{page_wide}
+use Rattle.page.proofs.ColumnsLaws.{page_wide}
 use Rattle.page.specs.Held.{held, held_rows}
 use Rattle.page.proofs.HeldLaws.{held-length, held-room}
 use Rattle.page.proofs.PutLaws.{after_title, after_rows, page-parts}

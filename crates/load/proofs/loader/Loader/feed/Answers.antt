@@ -9,8 +9,8 @@ use lib.ListN.{length}
 use Rattle.answers.specs.Answers.{first_of}
 use Rattle.load.specs.Repacking.{misfit_answer}
 use Rattle.load.specs.Loading.{sound_row, kept_misfit, Feeds, feed}
-use Rattle.load.specs.StateLaws.{sound}
-use Rattle.load.specs.FeedLaws.{feed-unsound, feed-kept, feed-long}
+use Rattle.load.proofs.StateLaws.{sound}
+use Rattle.load.proofs.FeedLaws.{feed-unsound, feed-kept, feed-long}
 use Rattle.load.proofs.CallLaws.{unsound, is-sound, fed-reads}
 use Rattle.load.specs.declared.loader.KeptRefusal.{KeptRefusal}
 use Rattle.load.specs.declared.loader.Loader.{Loader}

@@ -13,8 +13,8 @@ use Rattle.answers.specs.Answers.{first_of}
 use Rattle.graph.specs.Checks.{nodes_refusal}
 use Rattle.graph.specs.declared.NodesCheck.{NodesCheck}
 use Rattle.load.specs.Loading.{sound_row, kept_misfit, finishes, finish}
-use Rattle.load.specs.BeginLaws.{Takes}
-use Rattle.load.specs.StateLaws.{sound}
+use Rattle.load.proofs.BeginLaws.{Takes}
+use Rattle.load.proofs.StateLaws.{sound}
 use Rattle.load.proofs.CallLaws.{unsound, is-sound, finish-unsound, finish-kept, finish-missing, finish-judged}
 use Rattle.load.specs.declared.loader.Loader.{Loader}
 use borrow.Author.Rules.{rules}

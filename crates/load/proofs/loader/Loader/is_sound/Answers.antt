@@ -7,7 +7,7 @@ use Rattle.laws.specs.Cases.{is_some}
 use Rattle.answers.specs.Answers.{first_of}
 use Rattle.load.specs.Loading.{begin_row}
 use Rattle.load.specs.Said.{begin_refusal}
-use Rattle.load.specs.StateLaws.{bad-length}
+use Rattle.load.proofs.StateLaws.{bad-length}
 use Rattle.load.proofs.SoundRow.{bad-taken, bad-count, places_decide}
 use Rattle.load.specs.declared.loader.Loader.{Loader}
 use Rattle.load.proofs.Ready.{refuses}

@@ -1,0 +1,4 @@
+pub mod InsertLaws
+pub mod AcceptsLaws
+pub mod CrossLaws
+pub mod MeaningLaws

@@ -1,0 +1,13 @@
+pub mod RunsLaws
+pub mod RunNodeLaws
+pub mod FieldLaws
+pub mod WithinLaws
+pub mod LooplessLaws
+pub mod WordsLaws
+pub mod EndLaws
+pub mod SoundLaws
+pub mod ManyLaws
+pub mod LxdLaws
+pub mod ListedLaws
+pub mod ClaimLaws
+pub mod Examples

@@ -1,0 +1,4 @@
+pub mod PlaceLaws
+pub mod ExactlyLaws
+pub mod CallLaws
+pub mod EveningLaws

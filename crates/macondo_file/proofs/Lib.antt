@@ -1,0 +1,9 @@
+pub mod AlphabetLaws
+pub mod ArcLaws
+pub mod SetLaws
+pub mod BlockLaws
+pub mod BlockReading
+pub mod ReadingLaws
+pub mod WordLaws
+pub mod OnceLaws
+pub mod SpellingLaws

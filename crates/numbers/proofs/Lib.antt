@@ -1,0 +1,4 @@
+pub mod ByNumber
+pub mod LentNumbers
+pub mod ByWord
+pub mod WordNumbersLaws
