@@ -21,7 +21,7 @@ use windows1252::no_byte;
 
 // What is known of a run: the runs in the longest chain from it, itself included, its words (at most 4,294,967,295), and whether a label
 // that can be reached has no byte.
-#[derive(Drop)]
+#[derive(Clone, Copy)]
 pub struct Findings {
     pub runs: u32,
     pub words: u32,

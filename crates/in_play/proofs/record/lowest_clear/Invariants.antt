@@ -1,0 +1,20 @@
+-- `in_play::lowest_clear` meets its contract. The loop's invariant: the groups passed have no clear bit, so those left from group g on are all.
+use borrow.Author.Rules.{rules}
+use native.Mathlib.Omega.{arith}
+use mathlib.Core.Path.{◌≡◌, refl, sym, ap, ◌∙◌}
+use mathlib.Core.Logic.{◌≢◌}
+use mathlib.Core.List.{List}
+use Prim.Native.Nat.{ℕ, ◌+◌, ◌-◌, ◌*◌, ◌/◌, ◌≤◌}
+use lib.Count.{count_trailing_zeros, trailing_le}
+use lib.Seq.{slice}
+use Rattle.in_play.specs.InPlay.{not_in_play}
+use Rattle.in_play.specs.Groups.{joined, clear_bits, last_clear, first_or}
+use Rattle.in_play.proofs.GroupLaws.{Bytes}
+use Rattle.in_play.proofs.ScanLaws.{left_from, all_left, lowest-here, none_here, lowest-last, last_some, last-below}
+use Rattle.in_play.proofs.record.lowest_clear.Given as goal
+
+abbrev pub invariant-loop-g : goal.invariant-loop-g
+invariant-loop-g l = (l.groups ≡ l.total / 64) × (l.g ≤ l.groups) × (left_from l.bits l.total l.g ≡ not_in_play l.bits l.total)
+
+abbrev pub decreases-loop-g : goal.decreases-loop-g
+decreases-loop-g l = l.groups - l.g

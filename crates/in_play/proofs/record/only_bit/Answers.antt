@@ -1,0 +1,11 @@
+-- `in_play::only_bit` meets its contract.
+use mathlib.Core.Path.{◌∙◌}
+use native.Mathlib.Omega.{arith}
+use native.Mathlib.Nat.{one-mul}
+use lib.Dec.{lit<}
+use lib.Pow.{shl_exact}
+use borrow.Author.Rules.{rules}
+use Rattle.in_play.proofs.record.only_bit.Goals as goal
+
+pub returns : goal.returns
+returns c = shl_exact 1 c.args.k 8 (lit< tt) (omega arith) ∙ one-mul _

@@ -1,0 +1,13 @@
+-- `checks::some_unlabelled` meets its contract: what is left of the tiles answers for all of them.
+use borrow.Author.Rules.{rules}
+use Prim.Native.Nat.{◌-◌}
+use lib.ListN.{length}
+use Rattle.page.proofs.LabelLaws.{lacks_label}
+use Rattle.laws.specs.Searching.{Searching, Tested, search-begins, search_finds, search-passes, search-ends}
+use Rattle.page.proofs.checks.some_unlabelled.Given as goal
+
+abbrev pub invariant-loop-i : goal.invariant-loop-i
+invariant-loop-i l = Searching (lacks_label l.labels) l.tiles 0 l.i
+
+abbrev pub decreases-loop-i : goal.decreases-loop-i
+decreases-loop-i l = length l.tiles - l.i
