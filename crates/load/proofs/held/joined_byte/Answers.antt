@@ -8,9 +8,9 @@ use Rattle.load.proofs.held.joined_byte.Goals as goal
 
 pub returns-then-j-count : goal.returns-then-j-count
 returns-then-j-count c = let a = c.args in
-    sym (held-then-held a.t1 a.count a.piece.now (omega arith) (omega arith) a.j (omega arith))
+    sym (held-then-held a.held a.count a.piece.now (omega arith) (omega arith) a.j (omega arith))
 
 pub returns-else-j-count : goal.returns-else-j-count
 returns-else-j-count c = let a = c.args in
     let e : a.count + (a.j - a.count) ≡ a.j = omega arith in
-    sym (rw e at (held-then-piece a.t1 a.count a.piece.now (omega arith) (omega arith) (a.j - a.count)))
+    sym (rw e at (held-then-piece a.held a.count a.piece.now (omega arith) (omega arith) (a.j - a.count)))

@@ -124,7 +124,7 @@ returns-in-Node c =
     let s = joined b in
     let p = piece-node (state s).announced (state s).layout (nodes s) (k s) (bytes s) (some-node (goal.at.After-repack_node b).After-joined_node-first) (repacked b c.in-Node.is) in
     let w = rw (← after_first (goal.at.After-repack_node b).After-joined_node-first, add-one) at c.read_whole-in-Node.ensures in
-    record { state = w.0 ∙ p.0; written = w.1 ∙ p.1 }
+    record { state = w.state ∙ p.0; written = w.written ∙ p.1 }
 
 pub returns-in-DoesNotFit : goal.returns-in-DoesNotFit
 returns-in-DoesNotFit c =

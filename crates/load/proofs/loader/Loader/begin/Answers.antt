@@ -15,4 +15,4 @@ pub returns-in_default : goal.returns-in_default
 unfolding begin
 returns-in_default c = let a = c.check_length-answer in
     rw (← a.ensures)
-    (ap (λ s. record { answer = said_begin a.result; state = s }) c.started-in_default.ensures ∙ begins_refused a.result c.in_default.in_default-own.keys2 _ _)
+    (ap (λ s. record { answer = said_begin a.result; state = s }) c.started-in_default.ensures ∙ begins_refused a.result c.in_default.not-Ready _ _)

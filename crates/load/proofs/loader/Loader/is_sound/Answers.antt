@@ -33,7 +33,7 @@ module _ (c : In-Ready) where
 
 pub returns-in_default : goal.returns-in_default
 returns-in_default c =
-    let refused = ap is_some (sym c.check_length.ensures) ∙ refuses c.check_length.result c.in_default.in_default-own.keys2 in
+    let refused = ap is_some (sym c.check_length.ensures) ∙ refuses c.check_length.result c.in_default.not-Ready in
     sym (ap (λ o. not (is_some o)) (bad-length (state (goal.at.returns-in_default c).After-check_length) (room (goal.at.returns-in_default c).After-check_length) refused))
 
 pub returns-then-announced-taken : goal.returns-then-announced-taken
