@@ -14,7 +14,7 @@ use Rattle.count.specs.CountWalk.{NextIs}
 use Rattle.count.proofs.Steps.{step-arc, step-next, steps-done}
 use borrow.Author.Rules.{rules}
 use Rattle.count.proofs.walk.next_to_count.Goals as goal
-use Rattle.count.proofs.walk.next_to_count.Goals.{After-arc_index-arc, Joined-arc-ne0, Start}
+use Rattle.count.proofs.walk.next_to_count.Goals.{then-arc-ne0+else-work-arc, else-arc-ne0, After-arc_index-arc, Joined-arc-ne0, Start}
 
 module _ (s : Start) where
   abbrev g : List ℕ
@@ -38,7 +38,7 @@ module _ (c : Joined-arc-ne0) where
   start = (goal.at.Joined-arc-ne0 c).Start
 
   arc-done : c.arc_index-arc.result ≢ 0 → mark (marks start) c.arc_index-arc.result ≡ done
-  arc-done n = ⊎_elim (λ w. w.2.left) (λ w. absurd (n w.left)) c.if-arc-ne0.branch
+  arc-done n = elim c.if-arc-ne0.branch [ then-arc-ne0+else-work-arc w ↦ w.if-work-arc.false | else-arc-ne0 w ↦ absurd (n w.if-arc-ne0.false) ]
 
   -- so all that p leads to is done where the next node of its run is
   all_done : (is_end kbwg (node (g start) (p start)) ≡ false → mark (marks start) (p start + 1) ≡ done)

@@ -91,7 +91,7 @@ pub offset_bounds-work-n : goal.offset_bounds-work-n
 offset_bounds-work-n c = let s = (goal.at.offset_bounds-work-n c).Start in let h = place_in s in let m = s.well_formed in omega arith
 
 pub bounds-work-n : goal.bounds-work-n
-bounds-work-n c = place_in (asked (goal.at.bounds-work-n c).After-slice_known-3-1)
+bounds-work-n c = place_in (goal.at.bounds-work-n c).Start
 
 pub overflow_cast-p : goal.overflow_cast-p
 overflow_cast-p c = let h = node_in (asked c) in let f = (fits (asked c)).most in omega arith
@@ -106,7 +106,7 @@ pub offset_bounds-work-q : goal.offset_bounds-work-q
 offset_bounds-work-q c = let h = q-in c in let f = (fits (begun c)).most in omega arith
 
 pub bounds-work-q : goal.bounds-work-q
-bounds-work-q c = let h = q-in (looked_up (goal.at.bounds-work-q c).After-slice_known-in-At-1) in let r = (walk (begun (looked_up (goal.at.bounds-work-q c).After-slice_known-in-At-1))).room in omega arith
+bounds-work-q c = let h = q-in (goal.at.bounds-work-q c).In-At in let r = (walk (begun (goal.at.bounds-work-q c).In-At)).room in omega arith
 
 pub returns-then-work-q-ne0 : goal.returns-then-work-q-ne0
 returns-then-work-q-ne0 c =

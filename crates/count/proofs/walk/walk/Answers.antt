@@ -99,17 +99,17 @@ take_step-requires c =
 pub loop-roots-smaller : goal.loop-roots-smaller
 loop-roots-smaller c =
     let b = step-over (goal.at.loop-roots-smaller c).After-slice_known-else-size-eq0-2-1 in
-    step_less _ _ _ _ _ _ _ _ (roots (stacked b).before) (stacked b).loop-roots-test.true _ _ _ (stepped b c.in-Stack.is)
+    step_less _ _ _ _ _ _ _ _ (roots (goal.at.After-take_step b).At-loop-roots) (stacked b).loop-roots-test.true _ _ _ (stepped b c.in-Stack.is)
 
 pub loop-roots-preserved : goal.loop-roots-preserved
 loop-roots-preserved c =
     let b = step-over (goal.at.loop-roots-preserved c).After-slice_known-else-size-eq0-2-1 in
-    Roots-step _ _ _ _ _ _ _ _ (roots (stacked b).before) (stacked b).loop-roots-test.true _ _ _ (stepped b c.in-Stack.is)
+    Roots-step _ _ _ _ _ _ _ _ (roots (goal.at.After-take_step b).At-loop-roots) (stacked b).loop-roots-test.true _ _ _ (stepped b c.in-Stack.is)
 
 pub returns-in-LoopMet : goal.returns-in-LoopMet
 returns-in-LoopMet c =
     let b = step-over (goal.at.returns-in-LoopMet c).After-slice_known-else-size-eq0-2-1 in
-    roots_loop _ _ _ _ _ _ _ _ (roots (stacked b).before) _ _ (stepped b c.in-LoopMet.is)
+    roots_loop _ _ _ _ _ _ _ _ (roots (goal.at.After-take_step b).At-loop-roots) _ _ (stepped b c.in-LoopMet.is)
 
 pub returns : goal.returns
 returns c = roots_end _ _ _ _ _ _ _ _ (roots (goal.at.returns c).At-loop-roots) (omega arith)
