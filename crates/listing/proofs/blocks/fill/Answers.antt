@@ -1,0 +1,43 @@
+-- `blocks::fill` meets its contract: the lines that are left, put where they go, give the block.
+use borrow.Author.Rules.{rules}
+use native.Mathlib.Omega.{arith}
+use Prim.Native.Nat.{ℕ, ◌-◌}
+use borrow.Author.Tests.{not-true, not-false}
+use Rattle.listing.proofs.BlocksLaws.{BlockFilling, block_filling_start, fill-next, fill-room, fill-last, fill_done}
+use Rattle.listing.specs.Blocks.{NumberWalk}
+use Rattle.listing.specs.Printing.{walk_from}
+use Rattle.listing.proofs.blocks.fill.Goals as goal
+use Rattle.listing.proofs.blocks.fill.Goals.{After-block_end-end, Start}
+
+-- how many words there are, and the walk to them
+module _ (b : After-block_end-end) where
+  abbrev start : Start
+  start = (goal.at.After-block_end-end b).Start
+
+  abbrev count : ℕ
+  count = start.args.count
+
+  abbrev walk : NumberWalk
+  walk = walk_from start.args.nodes.now start.args.counts.now start.args.start
+
+pub loop-number-init : goal.loop-number-init
+loop-number-init c = block_filling_start (walk c) (start c).args.next c.block_end-end.result (start c).args.out.now (omega (arith, c.block_end-end.ensures))
+
+pub put_word-put-requires : goal.put_word-put-requires
+put_word-put-requires c =
+    let b = (goal.at.put_word-put-requires c).After-block_end-end in
+    fill-room (walk b) c.loop-number.invariant (count b) b.block_end-end.ensures c.loop-number-test.true
+
+pub returns-then-not-put : goal.returns-then-not-put
+returns-then-not-put c =
+    let b = (goal.at.returns-then-not-put c).After-block_end-end in
+    fill-last (walk b) c.loop-number.invariant (count b) b.block_end-end.ensures c.loop-number-test.true c.put_word-put.ensures (not-true _ c.if-not-put.true)
+
+pub loop-number-preserved : goal.loop-number-preserved
+loop-number-preserved c =
+    fill-next (walk (goal.at.loop-number-preserved c).After-block_end-end) c.loop-number.invariant c.loop-number-test.true c.put_word-put.ensures (not-false _ c.if-not-put.false)
+
+pub returns : goal.returns
+returns c =
+    let b = (goal.at.returns c).After-block_end-end in
+    fill_done (walk b) c.loop-number.invariant (count b) b.block_end-end.ensures c.loop-number-test.false
