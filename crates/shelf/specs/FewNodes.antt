@@ -78,11 +78,11 @@ in_run (e ∷ d) v m h k i =
       entry_in = subst (Memᴰ (entry_at (e ∷ d) k)) (sym es) (Memᴰ.head a);
       next_in = λ z.
           let n = ap (λ (x : ShelfEntry). x.next) a in
-          let own = own-number d e.next (subst (0 <◌) n z) v.0.next-Known in
+          let own = own-number d e.next (subst (0 <◌) n z) v.0.next_known in
           subst (λ x. Memᴰ x (run_numbers (e ∷ d) m)) (sym n) (subst (Memᴰ e.next) (sym ns) (Memᴰ.tail own));
     })
     (λ (j : Memᴰ k (run_numbers d e.next)).
-    let r = in_run d v.1 e.next v.0.next-Known k j in
+    let r = in_run d v.1 e.next v.0.next_known k j in
     let l = r.known in
     let a = entry-below e d k l in
     record {

@@ -26,7 +26,7 @@ unfolding keys_of
 entry_keyed [] v a i p h = absurd (omega arith)
 entry_keyed (e ∷ d) v a i p h =
     let c = v.0.child-known in
-    let n = v.0.next-Known in
+    let n = v.0.next_known in
     let k = keys_count d in
     top_or_below d i h
     (λ t. record {
