@@ -16,7 +16,7 @@ use Rattle.export.specs.Blocks.{each, met, total}
 use Rattle.export.specs.BlocksLaws.{blocks-length}
 use Rattle.built.specs.Branches.{Branch, branches_with, branches, first_tiles, onward, onwards}
 use Rattle.built.specs.Built.{same_words, word_runs, arc_to, built}
-use Rattle.built.proofs.RunsLaws.{run_length, run_block, built-is}
+use Rattle.built.proofs.RunsLaws.{run_length_lem, run_block, built-is}
 use Rattle.built.specs.Listed.{words_listed, list_row, list_bytes}
 use Rattle.built.proofs.ListedLaws.{listed-lexicon}
 use Rattle.built.specs.Build.{build_checks, built_row, build_row, building, build_as}
@@ -107,7 +107,7 @@ pub built-small : (ws : List Word) → length (built ws) ≤ 2 + tile_sum ws
 unfolding word_runs total
 built-small ws =
     let a = met_adds same_words onwards first_tiles tile_sum run-few 64 [] ws in
-    let b = blocks-length first_tiles (run_block ws) (λ us. run_length (arc_to ws) (branches us)) (word_runs ws) in
+    let b = blocks-length first_tiles (run_block ws) (λ us. run_length_lem (arc_to ws) (branches us)) (word_runs ws) in
     let c = ap length (built-is ws) in
     omega arith
 

@@ -51,7 +51,7 @@ pub record Case : Type 1 where
 abbrev pub Holds : Case → Type 0
 Holds c = c.found ≡ c.expected
 
-pub cases : List Case
+unfoldable pub cases : List Case
 cases =
     -- "As KWG: 00400002 00400000 01800004 02400004 02C00000."
     record {
