@@ -14,7 +14,7 @@ use export::lacks_label;
 use graph::GraphCheck;
 use walk::write_checked;
 
-#[derive(Drop)]
+#[derive(Clone, Copy)]
 pub enum MacondoFormat {
     Dawg,
     Gaddag,

@@ -2,7 +2,7 @@
 ghost use Rattle.std.specs.Prelude.{◌≡◌, ◌+◌, ◌-◌, ◌*◌, ◌≤◌, ◌<◌};
 
 // The blocks and sets in the work list, and the nodes that the file will have.
-#[derive(Drop)]
+#[derive(Clone, Copy)]
 pub struct SectionCounts {
     pub blocks: u32,
     pub sets: u32,
