@@ -1,6 +1,5 @@
 -- `any_byteless` meets its contract: the first of its three tests that holds decides.
 use mathlib.Core.Path.{sym}
-use borrow.Author.Rules.{rules}
 use Rattle.survey.proofs.any_byteless.Goals as goal
 
 pub returns-then-no_byte : goal.returns-then-no_byte

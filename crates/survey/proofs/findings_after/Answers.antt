@@ -2,7 +2,6 @@
 use native.Mathlib.Omega.{arith}
 use mathlib.Core.Path.{sym, ◌∙◌}
 use Rattle.survey.proofs.SurveyTables.{after-end, after_on}
-use borrow.Author.Rules.{rules}
 use Rattle.survey.proofs.findings_after.Goals as goal
 use Rattle.survey.proofs.findings_after.Goals.{After-is_end, Start}
 

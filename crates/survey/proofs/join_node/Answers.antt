@@ -4,7 +4,6 @@ use mathlib.Core.Bool.{◌||◌}
 use Prim.Native.Nat.{ℕ, ◌+◌, min}
 use lib.ListN.{get_or}
 use Rattle.windows1252.specs.Windows1252.{no_byte}
-use borrow.Author.Rules.{rules}
 use Rattle.base.specs.Numbers.{flag, most}
 use Rattle.node.specs.Nodes.{kbwg, accepts}
 use Rattle.survey.proofs.join_node.Goals as goal

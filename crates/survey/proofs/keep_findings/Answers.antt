@@ -3,7 +3,6 @@ use native.Mathlib.Omega.{arith}
 use mathlib.Core.Path.{ap}
 use Prim.Native.Nat.{ℕ, ◌+◌, ◌*◌}
 use lib.ListN.{length-set, set}
-use borrow.Author.Rules.{rules}
 use Rattle.survey.proofs.keep_findings.Goals as goal
 
 pub bounds-work-n : goal.bounds-work-n

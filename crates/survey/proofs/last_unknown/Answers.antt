@@ -1,10 +1,9 @@
 -- `last_unknown` meets its contract: no node passed ends the run, so there is always a node after it.
-use borrow.Author.Rules.{rules}
 use native.Mathlib.Omega.{arith}
 use mathlib.Core.Path.{◌≡◌, sym, ◌∙◌}
 use mathlib.Core.Bool.{false, true≢false}
 use mathlib.Core.List.{List}
-use Prim.Native.Nat.{ℕ, suc, ◌-◌, ◌≤◌, ◌<◌}
+use Prim.Native.Nat.{ℕ, suc, ◌<◌}
 use lib.ListN.{length}
 use Rattle.node.specs.Nodes.{kbwg, is_end}
 use Rattle.graph.specs.Runs.{node}

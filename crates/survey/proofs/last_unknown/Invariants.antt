@@ -1,14 +1,10 @@
 -- `last_unknown` meets its contract: no node passed ends the run, so there is always a node after it.
-use borrow.Author.Rules.{rules}
-use native.Mathlib.Omega.{arith}
-use mathlib.Core.Path.{◌≡◌, sym, ◌∙◌}
-use mathlib.Core.Bool.{false, true≢false}
-use mathlib.Core.List.{List}
-use Prim.Native.Nat.{ℕ, suc, ◌-◌, ◌≤◌, ◌<◌}
+use mathlib.Core.Path.{◌≡◌}
+use mathlib.Core.Bool.{false}
+use Prim.Native.Nat.{ℕ, ◌-◌, ◌≤◌, ◌<◌}
 use lib.ListN.{length}
 use Rattle.node.specs.Nodes.{kbwg, is_end}
 use Rattle.graph.specs.Runs.{node}
-use Rattle.survey.proofs.SurveyFilling.{one_more}
 use Rattle.survey.proofs.last_unknown.Given as goal
 
 abbrev pub invariant-loop-p : goal.invariant-loop-p

@@ -3,7 +3,6 @@ use mathlib.Core.Path.{sym, subst}
 use Rattle.survey.specs.Survey.{SurveyTables}
 use Rattle.survey.proofs.FindingsLaws.{answers-survey}
 use Rattle.survey.proofs.SurveyTables.{tables_start}
-use borrow.Author.Rules.{rules}
 use Rattle.survey.proofs.survey.Goals as goal
 use Rattle.survey.proofs.survey.Goals.{After-clear, Start}
 
@@ -22,4 +21,4 @@ pub survey_run-requires : goal.survey_run-requires
 survey_run-requires c = let k = (goal.at.survey_run-requires c).After-clear in record { survey_tables = tables k; p_in_bounds = (asked k).requires.s_in_bounds }
 
 pub returns : goal.returns
-returns c = let r = c.survey_run in answers-survey _ _ _ _ r.result r.ensures.0
+returns c = let r = c.survey_run in answers-survey _ _ _ _ r.result r.ensures.run
