@@ -4,4 +4,4 @@ mod Order
 mod RankTable
 mod LetterOrder
 mod Runs
-mod BlockNumbering
+mod BlockNumberingLaws
