@@ -14,7 +14,7 @@ pub enum Place {
 }
 
 // The blocks numbered, and the nodes of the file so far.
-#[derive(Drop)]
+#[derive(Clone, Copy)]
 pub struct BlockTally {
     pub blocks: u32,
     pub nodes: u32,

@@ -1,5 +1,5 @@
 -- The file's nodes by the record of places.
-use Rattle.std.specs.Prelude.{◌≡◌, false, List, map, ℕ, ◌-◌, ◌^◌, ◌≤◌, ◌<◌, length}
+use Rattle.std.specs.Prelude.{◌≡◌, false, List, map, ℕ, ◌^◌, ◌≤◌, ◌<◌, length}
 use Rattle.laws.specs.Lists.{join_all}
 use Rattle.endian.specs.Bytes.{node_bytes}
 use Rattle.graph.specs.Runs.{Graph}
