@@ -11,7 +11,7 @@ pub returns-then-i-eq0 : goal.returns-then-i-eq0
 returns-then-i-eq0 c = let a = c.args in rw (eq-eqb a.i 0 c.if-i-eq0.true) (ap (λ k. refused 28 (k ∷ [])) (omega arith))
 
 pub returns-then-b-le32 : goal.returns-then-b-le32
-returns-then-b-le32 c = let a = c.args in rw (ne_eqb a.i 0 c.if-i-eq0.false) (rw (le-leb a.b 32 c.if-b-le32.true))
+returns-then-b-le32 c = let a = c.args in rw (ne_eqb a.i 0 c.if-i-eq0.false) (rw (le-leb a.b 32 (omega arith)))
 
 pub returns : goal.returns
-returns c = let a = c.args in rw (ne_eqb a.i 0 c.if-i-eq0.false) (rw (lt-leb a.b 32 c.if-b-le32.false))
+returns c = let a = c.args in rw (ne_eqb a.i 0 c.if-i-eq0.false) (rw (lt-leb a.b 32 (omega arith)))
