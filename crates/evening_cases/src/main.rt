@@ -3,8 +3,11 @@
 #![tactic(auto)]
 
 use base::{bit, widened};
+use console::Output;
 use flat::FlatInPlay;
 use machirsun::{machirsun_arrive, machirsun_leave};
+use std::io;
+use std::io::Write;
 use stored::{
     Count, Ended, Line, bytes_in, bytes_to, numbers_from, numbers_to, word_at, words_from,
     words_in, words_to,
@@ -22,36 +25,45 @@ struct Progress {
     lent: usize,
 }
 
-fn main() {
+fn main(rt: HostRuntime) -> io::Result<()> {
     let mut text = [0u8; INPUT];
-    let size = io::read_full(libc::STDIN_FILENO, &mut text);
+    let size = console::read_full(&mut rt.stdin(), &mut text)?;
+    let mut output = Output::new(rt.stdout());
     if INPUT <= size {
-        io::write_all(libc::STDOUT_FILENO, b"the input is too long\n");
+        output.print(b"the input is too long\n");
     } else {
-        play_text(bytes_to(&text, size));
+        play_text(&mut output, bytes_to(&text, size));
     }
+    output.finish()
 }
 
-fn play_text(text: &[u8]) {
+fn play_text<W: Write>(output: &mut Output<W>, text: &[u8]) {
     let mut numbers = [0u64; MOST];
     let mut words = [0u32; MOST];
     let mut bits = [0u8; MOST];
-    play_lines(text, &mut numbers, &mut words, &mut bits);
+    play_lines(output, text, &mut numbers, &mut words, &mut bits);
 }
 
-fn play_lines(text: &[u8], numbers: &mut [u64], words: &mut [u32], bits: &mut [u8]) {
+fn play_lines<W: Write>(
+    output: &mut Output<W>,
+    text: &[u8],
+    numbers: &mut [u64],
+    words: &mut [u32],
+    bits: &mut [u8],
+) {
     let mut progress = Progress {
         line: stored::empty(),
         lent: 0,
     };
     let mut i = 0;
     while i < text.len() {
-        progress = take_byte(progress, text[i], numbers, words, bits);
+        progress = take_byte(output, progress, text[i], numbers, words, bits);
         i += 1;
     }
 }
 
-fn take_byte(
+fn take_byte<W: Write>(
+    output: &mut Output<W>,
     progress: Progress,
     byte: u8,
     numbers: &mut [u64],
@@ -63,7 +75,7 @@ fn take_byte(
     if byte == b'\n' {
         return Progress {
             line: stored::empty(),
-            lent: end_line(line, lent, numbers, words, bits),
+            lent: end_line(output, line, lent, numbers, words, bits),
         };
     }
     Progress {
@@ -72,7 +84,8 @@ fn take_byte(
     }
 }
 
-fn end_line(
+fn end_line<W: Write>(
+    output: &mut Output<W>,
     line: Line,
     lent: usize,
     numbers: &mut [u64],
@@ -82,29 +95,36 @@ fn end_line(
     let ended = stored::end(line, numbers);
     match ended {
         Ended::Comment => lent,
-        Ended::Malformed => malformed(lent),
-        Ended::Case(count) => play_line(numbers_to(numbers, count), lent, words, bits),
+        Ended::Malformed => malformed(output, lent),
+        Ended::Case(count) => play_line(output, numbers_to(numbers, count), lent, words, bits),
     }
 }
 
-fn malformed(lent: usize) -> usize {
-    io::write_all(libc::STDOUT_FILENO, b"malformed\n");
+fn malformed<W: Write>(output: &mut Output<W>, lent: usize) -> usize {
+    output.print(b"malformed\n");
     lent
 }
 
 // The first number is the line's kind: an evening begins, a word arrives, a word leaves.
-fn play_line(line: &[u64], lent: usize, words: &mut [u32], bits: &mut [u8]) -> usize {
+fn play_line<W: Write>(
+    output: &mut Output<W>,
+    line: &[u64],
+    lent: usize,
+    words: &mut [u32],
+    bits: &mut [u8],
+) -> usize {
     if line.len() == 0 {
-        return malformed(lent);
+        return malformed(output, lent);
     }
     let kind = line[0];
     if kind == 0 {
-        return begin_evening(numbers_from(line, 1), lent, words, bits);
+        return begin_evening(output, numbers_from(line, 1), lent, words, bits);
     }
     if 2 < kind {
-        return malformed(lent);
+        return malformed(output, lent);
     }
     play_word(
+        output,
         kind == 1,
         numbers_from(line, 1),
         words_to(words, lent),
@@ -113,14 +133,20 @@ fn play_line(line: &[u64], lent: usize, words: &mut [u32], bits: &mut [u8]) -> u
     lent
 }
 
-fn begin_evening(list: &[u64], lent: usize, words: &mut [u32], bits: &mut [u8]) -> usize {
+fn begin_evening<W: Write>(
+    output: &mut Output<W>,
+    list: &[u64],
+    lent: usize,
+    words: &mut [u32],
+    bits: &mut [u8],
+) -> usize {
     let read = words_in(list, words);
     match read {
         Count::Are(count) => {
             empty(bits);
             count
         }
-        Count::Malformed => malformed(lent),
+        Count::Malformed => malformed(output, lent),
     }
 }
 
@@ -132,62 +158,88 @@ fn empty(bits: &mut [u8]) {
     }
 }
 
-fn play_word(arrives: bool, list: &[u64], lent: &[u32], bits: &mut [u8]) {
+fn play_word<W: Write>(
+    output: &mut Output<W>,
+    arrives: bool,
+    list: &[u64],
+    lent: &[u32],
+    bits: &mut [u8],
+) {
     let mut word = [0u8; MOST];
     let read = bytes_in(list, &mut word);
     match read {
-        Count::Are(tiles) => make_call(arrives, bytes_to(&word, tiles), lent, bits),
+        Count::Are(tiles) => make_call(output, arrives, bytes_to(&word, tiles), lent, bits),
         Count::Malformed => {
-            malformed(0);
+            malformed(output, 0);
         }
     }
 }
 
 // A call over as many bytes of the record as the evening has.
-fn make_call(arrives: bool, word: &[u8], lent: &[u32], bits: &mut [u8]) {
+fn make_call<W: Write>(
+    output: &mut Output<W>,
+    arrives: bool,
+    word: &[u8],
+    lent: &[u32],
+    bits: &mut [u8],
+) {
     let bytes = word_at(lent, 1) as usize;
     if bits.len() < bytes {
-        malformed(0);
+        malformed(output, 0);
         return;
     }
-    call_and_print(arrives, word, lent, &mut bits[..bytes]);
+    call_and_print(output, arrives, word, lent, &mut bits[..bytes]);
 }
 
-fn call_and_print(arrives: bool, word: &[u8], lent: &[u32], bits: &mut [u8]) {
+fn call_and_print<W: Write>(
+    output: &mut Output<W>,
+    arrives: bool,
+    word: &[u8],
+    lent: &[u32],
+    bits: &mut [u8],
+) {
     let start = word_at(lent, 0);
     let count = word_at(lent, 2) as usize;
     let graph = words_from(lent, 3);
     let nodes = words_to(graph, count);
     let counts = words_from(graph, count);
     if arrives {
-        print_answer(machirsun_arrive(nodes, counts, start, word, bits), bits);
+        print_answer(
+            output,
+            machirsun_arrive(nodes, counts, start, word, bits),
+            bits,
+        );
     } else {
-        print_answer(machirsun_leave(nodes, counts, start, word, bits), bits);
+        print_answer(
+            output,
+            machirsun_leave(nodes, counts, start, word, bits),
+            bits,
+        );
     }
 }
 
-fn print_answer(answer: FlatInPlay, bits: &[u8]) {
-    print_number(answer.refusal);
-    print_next(bit(answer.found));
-    print_next(answer.remaining);
-    print_next(answer.lowest);
-    print_bytes(bits);
-    io::write_all(libc::STDOUT_FILENO, b"\n");
+fn print_answer<W: Write>(output: &mut Output<W>, answer: FlatInPlay, bits: &[u8]) {
+    print_number(output, answer.refusal);
+    print_next(output, bit(answer.found));
+    print_next(output, answer.remaining);
+    print_next(output, answer.lowest);
+    print_bytes(output, bits);
+    output.print(b"\n");
 }
 
-fn print_bytes(bits: &[u8]) {
+fn print_bytes<W: Write>(output: &mut Output<W>, bits: &[u8]) {
     let mut i = 0;
     while i < bits.len() {
-        print_next(widened(bits[i]));
+        print_next(output, widened(bits[i]));
         i += 1;
     }
 }
 
-fn print_next(number: u32) {
-    io::write_all(libc::STDOUT_FILENO, b" ");
-    print_number(number);
+fn print_next<W: Write>(output: &mut Output<W>, number: u32) {
+    output.print(b" ");
+    print_number(output, number);
 }
 
-fn print_number(number: u32) {
-    io::print_decimal(libc::STDOUT_FILENO, number as u64);
+fn print_number<W: Write>(output: &mut Output<W>, number: u32) {
+    output.print_number(number as u64);
 }

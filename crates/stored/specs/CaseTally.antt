@@ -1,5 +1,5 @@
 -- What the contracts on the tally cite: the tally of nothing, and a tally after a line or a verdict.
-use Rattle.std.specs.Prelude.{ℕ, ◌+◌, ◌^◌, get_or, set, replicate, ltb}
+use Rattle.std.specs.Prelude.{ℕ, ◌+◌, ◌^◌, get_or, set, replicate, ltb, List, [], ◌++◌, codes, decimal}
 use Rattle.stored.specs.Inputs.{pick}
 use Rattle.stored.specs.declared.answers.Verdict.{Verdict}
 use Rattle.stored.specs.declared.tally.CaseTally.{CaseTally}
@@ -33,3 +33,30 @@ case_tallied call Verdict.Malformed t = with_malformed t
 -- a call that has no place makes its line malformed
 abbrev pub with_verdict : ℕ → Verdict → CaseTally → CaseTally
 with_verdict call verdict t = pick (ltb call 32) (case_tallied call verdict t) (with_malformed t)
+
+-- a number as it is printed, between two texts
+abbrev pub number_said : List ℕ → ℕ → List ℕ → List ℕ
+number_said before number after = before ++ decimal number ++ after
+
+-- what is printed of a line: its number, and what was found
+abbrev pub line_said : ℕ → List ℕ → List ℕ
+line_said line finding = number_said (codes "line ") line finding
+
+abbrev pub malformed_said : ℕ → List ℕ
+malformed_said line = line_said line (codes " malformed\n")
+
+abbrev pub differs_said : ℕ → List ℕ
+differs_said line = line_said line (codes " differs\n")
+
+abbrev pub case_said : Verdict → ℕ → List ℕ
+case_said Verdict.Same line = []
+case_said Verdict.Different line = differs_said line
+case_said Verdict.Malformed line = malformed_said line
+
+-- of a call that has no place, its line is said to be malformed
+abbrev pub verdict_said : ℕ → Verdict → ℕ → List ℕ
+verdict_said call verdict line = pick (ltb call 32) (case_said verdict line) (malformed_said line)
+
+-- what is printed in the end
+abbrev pub findings_said : CaseTally → List ℕ
+findings_said t = number_said (codes "malformed lines: ") t.malformed (codes "\n") ++ number_said (codes "differences: ") t.differences (codes "\n")

@@ -1,9 +1,11 @@
 // What the lines so far came to.
-ghost use Rattle.std.specs.Prelude.{◌≡◌, ◌<◌};
-ghost use Rattle.stored.specs.CaseTally.{one_more_capped, new_tally, with_next_line, with_malformed, with_difference, with_case, with_verdict};
+ghost use Rattle.std.specs.Prelude.{◌≡◌, ◌<◌, codes};
+ghost use Rattle.console.specs.Printing.{Prints};
+ghost use Rattle.stored.specs.CaseTally.{one_more_capped, new_tally, with_next_line, with_malformed, with_difference, with_case, with_verdict, line_said, malformed_said, differs_said, verdict_said, findings_said, number_said};
 
 use crate::answers::Verdict;
-use libc::STDOUT_FILENO;
+use console::Output;
+use std::io::Write;
 
 // One more than the highest number that a call may have.
 pub const CALLS: usize = 32;
@@ -37,26 +39,33 @@ impl CaseTally {
         self
     }
 
-    pub fn malformed(mut self) -> CaseTally
-        ensures { result ≡ with_malformed self }
+    pub fn malformed<W: Write>(mut self, output: &mut Output<W>) -> CaseTally
+        ensures tally { result ≡ with_malformed self }
+        ensures printed { Prints W.contents output.old output.new (malformed_said self.line) }
     {
         self.malformed = one_more(self.malformed);
-        report(self.line, b" malformed\n");
+        report(output, self.line, b" malformed\n");
         self
     }
 
     // A call that has no place in the tally makes its line malformed, so that no case goes uncounted.
-    pub fn with_verdict(self, call: u64, verdict: Verdict) -> CaseTally
-        ensures { result ≡ with_verdict call verdict self }
+    pub fn with_verdict<W: Write>(
+        self,
+        output: &mut Output<W>,
+        call: u64,
+        verdict: Verdict,
+    ) -> CaseTally
+        ensures tally { result ≡ with_verdict call verdict self }
+        ensures printed { Prints W.contents output.old output.new (verdict_said call verdict self.line) }
     {
         let call = call as usize;
         if CALLS <= call {
-            return self.malformed();
+            return self.malformed(output);
         }
         match verdict {
             Verdict::Same => self.case(call),
-            Verdict::Different => self.with_difference().case(call),
-            Verdict::Malformed => self.malformed(),
+            Verdict::Different => self.with_difference(output).case(call),
+            Verdict::Malformed => self.malformed(output),
         }
     }
 
@@ -68,32 +77,41 @@ impl CaseTally {
         self
     }
 
-    fn with_difference(mut self) -> CaseTally
-        ensures { result ≡ with_difference self }
+    fn with_difference<W: Write>(mut self, output: &mut Output<W>) -> CaseTally
+        ensures tally { result ≡ with_difference self }
+        ensures printed { Prints W.contents output.old output.new (differs_said self.line) }
     {
         self.differences = one_more(self.differences);
-        report(self.line, b" differs\n");
+        report(output, self.line, b" differs\n");
         self
     }
 
-    pub fn print_findings(self) {
-        print_number(b"malformed lines: ", self.malformed, b"\n");
-        print_number(b"differences: ", self.differences, b"\n");
+    pub fn print_findings<W: Write>(self, output: &mut Output<W>)
+        ensures { Prints W.contents output.old output.new (findings_said self) }
+    {
+        print_number(output, b"malformed lines: ", self.malformed, b"\n");
+        print_number(output, b"differences: ", self.differences, b"\n");
     }
 }
 
-fn report(line: u64, finding: &[u8]) {
-    print_number(b"line ", line, finding);
+fn report<W: Write>(output: &mut Output<W>, line: u64, finding: &[u8])
+    ensures { Prints W.contents output.old output.new (line_said line finding.now) }
+{
+    print_number(output, b"line ", line, finding);
 }
 
-pub fn print_cases(call: &[u8], cases: u64) {
-    print_number(call, cases, b" cases\n");
+pub fn print_cases<W: Write>(output: &mut Output<W>, call: &[u8], cases: u64)
+    ensures { Prints W.contents output.old output.new (number_said call.now cases (codes " cases\n")) }
+{
+    print_number(output, call, cases, b" cases\n");
 }
 
-fn print_number(before: &[u8], number: u64, after: &[u8]) {
-    io::write_all(STDOUT_FILENO, before);
-    io::print_decimal(STDOUT_FILENO, number);
-    io::write_all(STDOUT_FILENO, after);
+fn print_number<W: Write>(output: &mut Output<W>, before: &[u8], number: u64, after: &[u8])
+    ensures { Prints W.contents output.old output.new (number_said before.now number after.now) }
+{
+    output.print(before);
+    output.print_number(number);
+    output.print(after);
 }
 
 // A count that stands at the highest number stays there: it never wraps to none.

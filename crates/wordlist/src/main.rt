@@ -1,20 +1,22 @@
 // Lists the words of a KWG on standard input, a line each: the number, a tab, the tiles.
 #![tactic(auto)]
 
-use listing::BlockMade;
+use listing::{BLOCK, BlockMade, INPUT, NODES, WORK};
+use std::io;
+use std::io::Write;
 
-fn main() {
-    let mut input = [0u8; listing::INPUT];
-    let read = io::read_full(libc::STDIN_FILENO, &mut input);
-    print_list(&input, read);
+fn main(rt: HostRuntime) -> io::Result<()> {
+    let mut input = [0u8; INPUT];
+    let read = console::read_full(&mut rt.stdin(), &mut input)?;
+    print_list(&mut rt.stdout(), &input, read)
 }
 
 // A write that fails ends the list.
-fn print_list(input: &[u8; listing::INPUT], read: usize) {
-    let mut nodes = [0u32; listing::NODES];
-    let mut counts = [0u32; listing::NODES];
-    let mut work = [0u32; listing::WORK];
-    let mut block = io::large_buffer();
+fn print_list<W: Write>(writer: &mut W, input: &[u8; INPUT], read: usize) -> io::Result<()> {
+    let mut nodes = [0u32; NODES];
+    let mut counts = [0u32; NODES];
+    let mut work = [0u32; WORK];
+    let mut block = [0u8; BLOCK];
     let mut unprinted = listing::open(input, read, &mut nodes, &mut counts, &mut work);
     loop {
         let BlockMade::Bytes {
@@ -22,11 +24,9 @@ fn print_list(input: &[u8; listing::INPUT], read: usize) {
             unprinted: left,
         } = listing::next_block(&nodes, &counts, unprinted, &mut block)
         else {
-            return;
+            return Ok(());
         };
-        if !io::write_all(libc::STDOUT_FILENO, &block[..written]) {
-            return;
-        }
+        writer.write_all(&block[..written])?;
         unprinted = left;
     }
 }

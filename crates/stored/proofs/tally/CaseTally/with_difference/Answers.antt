@@ -2,5 +2,5 @@
 use borrow.Author.Rules.{rules}
 use Rattle.stored.proofs.tally.CaseTally.with_difference.Goals as goal
 
-pub returns : goal.returns
-returns c = rw c.one_more.ensures
+pub returns-clause-tally : goal.returns-clause-tally
+returns-clause-tally g c = rw c.one_more.ensures
