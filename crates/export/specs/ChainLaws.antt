@@ -14,7 +14,7 @@ use Rattle.laws.specs.Lists.{filtered}
 use Rattle.laws.specs.Members.{in_map, map_in, in_filtered, filtered_in, some_of_lem, none_of, filtered-length, filtered_le, filtered-less}
 use Rattle.laws.specs.Without.{below, length-below, in_below}
 use Rattle.node.specs.Nodes.{kbwg, arc}
-use Rattle.graph.specs.Runs.{Graph, node, run}
+use Rattle.graph.specs.Runs.{Graph, node}
 use Rattle.graph.specs.Words.{in_order, spelled, words_within, words}
 use Rattle.graph.specs.ChecksLaws.{Closed}
 use Rattle.graph.specs.RunLaws.{in_graph}

@@ -2,7 +2,7 @@
 use Rattle.std.specs.Prelude.{Bool, true, ◌&&◌, not, List, map, ℕ, zero, suc, eqb, leb, length, drop}
 use Rattle.laws.specs.Lists.{filtered, some_of}
 use Rattle.node.specs.Nodes.{kbwg, tile, arc}
-use Rattle.graph.specs.Runs.{Graph, node, run}
+use Rattle.graph.specs.Runs.{Graph, run}
 
 -- "The run from node p"
 abbrev pub run_of : Graph → ℕ → List ℕ

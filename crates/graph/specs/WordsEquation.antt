@@ -13,7 +13,7 @@ use Rattle.std.proofs.lemmas.Bool.{eqb-false}
 use Rattle.std.proofs.Math.ListN.{length, drop}
 use Rattle.laws.specs.Cases.{split}
 use Rattle.laws.specs.Without.{without, without_lt, without-keeps, below, length-below, in_below}
-use Rattle.node.specs.Nodes.{BitLayout, tile, arc, accepts, is_end}
+use Rattle.node.specs.Nodes.{BitLayout, arc, is_end}
 use Rattle.graph.specs.Runs.{Graph, node, run}
 use Rattle.graph.specs.Words.{Word, in_order, spelled, words_within, words}
 use Rattle.graph.specs.Loops.{Step, by-arc, by-run, Reach, once, then, Clear}

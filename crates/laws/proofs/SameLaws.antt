@@ -1,5 +1,5 @@
 -- What holds of tests whether two things are the same: those of numbers and of lists tell which are one.
-use Rattle.std.specs.Prelude.{◌≡◌, refl, Bool, true, false, ◌&&◌, ◌≢◌, List, [], ◌∷◌, ℕ, eqb}
+use Rattle.std.specs.Prelude.{◌≡◌, refl, Bool, true, false, ◌≢◌, List, [], ◌∷◌, ℕ, eqb}
 use Rattle.std.proofs.Common.{sym, ap, ap₂, ◌∙◌, true≢false, eqb-true, eq-eqb}
 use Rattle.laws.specs.Cases.{split, and_left, and_right}
 use Rattle.laws.specs.Same.{Exact, same_list, same}

@@ -17,7 +17,7 @@ use Rattle.load.specs.Repacking.{misfit}
 use Rattle.load.proofs.NextNode.{next_fits, next-stops, no-next-node}
 use Rattle.load.specs.Loading.{places, holding, stopped, misfit_in, state_at, state_after, nodes_after, held_then}
 use Rattle.load.proofs.HeldLaws.{held-then-length, held-then-places}
-use Rattle.load.proofs.StateLaws.{Sound, sound, state-stopped, state-holding}
+use Rattle.load.proofs.StateLaws.{Sound, state-stopped, state-holding}
 use Rattle.load.specs.declared.repack.Misfit.{Misfit}
 use Rattle.load.specs.declared.loader.KeptRefusal.TheVariants.{Nothing}
 use Rattle.load.specs.declared.loader.Loader.{Loader}

@@ -1,5 +1,5 @@
 -- How many nodes are met, or done, when marks change; and a work list after its marks are cleared, and after a node is put on its stack.
-use Rattle.std.specs.Prelude.{◌≡◌, ◌≢◌, ◌⊎◌, List, length, set}
+use Rattle.std.specs.Prelude.{◌≡◌, ◌≢◌, List, length, set}
 use Rattle.std.proofs.Common.{sym, ap, ◌∙◌, not-suc-le-zero, eq-or-lt_of_le, length-set, get_or-set_same, get_or-set_other}
 use Rattle.std.proofs.Math.Path.{subst}
 use Rattle.std.proofs.Math.Logic.{⊎_elim}

@@ -8,7 +8,7 @@ use Rattle.std.proofs.Math.Nat.{add-mul-div_right, add-mul-mod_self_right, div-e
 use borrow.Author.Tests.{eqb-true, leb-true, lt-ltb}
 use Rattle.laws.specs.Cases.{and_left, and_right}
 use Rattle.node.specs.Nodes.{Field, Tile, Accepts, End, Arc, width, BitLayout, kwg, kbwg, field_bits}
-use Rattle.node.specs.Nodes.{Values, fields, tile, arc, field_sum, packed, fits}
+use Rattle.node.specs.Nodes.{Values, fields, field_sum, packed, fits}
 
 -- the fields stand one above the other, from the bit `from` to the top of 32
 abbrev pub chained : BitLayout → ℕ → List Field → Bool

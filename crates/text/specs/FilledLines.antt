@@ -1,5 +1,5 @@
 -- The lines of a text that are not empty, from its front on; and a text cut at a line's end, whose lines are those of its parts.
-use Rattle.std.specs.Prelude.{◌≡◌, refl, Bool, true, ◌||◌, not, ℕ, eqb, drop}
+use Rattle.std.specs.Prelude.{◌≡◌, refl, Bool, true, ◌||◌, ℕ, eqb, drop}
 use Rattle.std.proofs.Common.{sym, ◌∙◌, eqb-true}
 use Rattle.std.proofs.Math.Path.{ap, ap₂}
 use Rattle.std.proofs.Math.Bool.{false}

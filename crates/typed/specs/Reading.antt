@@ -1,7 +1,7 @@
 -- Reading a text line by line: calls one after the other, each from the place that the one before answered, hand out exactly the lines that are not
 -- empty, each once, in order, with their tiles, up to the first line that is refused (`hands_out`); and a text of which every line can be read is read to
 -- its end (`reads_all`).
-use Rattle.std.specs.Prelude.{◌≡◌, refl, true, false, ℕ, zero, suc, ◌+◌, ◌-◌, ◌≤◌, ◌<◌, ltb, take, drop}
+use Rattle.std.specs.Prelude.{◌≡◌, refl, true, false, ℕ, zero, suc, ◌-◌, ◌≤◌, ◌<◌, ltb, take, drop}
 use Rattle.std.proofs.Common.{sym, ap, ap₂, ◌∙◌, subst, inl, inr, ltb-true, ltb-false, drop-drop}
 use mathlib.Core.List.{List, [], ◌∷◌, ◌++◌, map}
 use Rattle.std.proofs.Math.Option.{none, some}

@@ -1,6 +1,6 @@
 -- Words from a place of a text: "A call reads the next line that isn't empty from a byte place and answers the line, its tiles and the place after
 -- its ending, or, where none is left or the place is past the text, the end" (02, C-13).
-use Rattle.std.specs.Prelude.{Bool, true, false, List, [], ◌∷◌, ℕ, suc, ◌+◌, ◌-◌, ltb, length, drop}
+use Rattle.std.specs.Prelude.{Bool, true, false, List, [], ◌∷◌, ℕ, suc, ◌+◌, ltb, length, drop}
 use Rattle.std.proofs.Math.Option.{Option, none, some}
 use Rattle.answers.specs.Answers.{Answer, gives, nothing, refused}
 use Rattle.text.specs.Lines.{is_ending, lines, first_line, line_width}

@@ -17,7 +17,6 @@ use Rattle.loops.specs.NodeMarksLaws.{cleared-work, marks-zero}
 use Rattle.count.specs.CountWalk.{WalkedIs, ReachesIs}
 use Rattle.count.proofs.Rows.{counts-room, work-room, row-fit}
 use Rattle.count.proofs.Results.{count-start, loop-answer, many-answer, all-answer}
-use borrow.Author.Rules.{rules}
 use Rattle.count.proofs.count_checked.Goals as goal
 use Rattle.count.proofs.count_checked.Goals.{After-clear, After-lowest_loop, After-reaches_limit, After-walk, Else-walk, Start, Then-walk}
 

@@ -11,7 +11,6 @@ use Rattle.graph.specs.Lent.{work-walked}
 use Rattle.graph.specs.declared.GraphCheck.{GraphCheck}
 use Rattle.count.proofs.Rows.{graph_refused, counts-short, work-short, row-clear}
 use Rattle.count.proofs.Results.{unfit-answer}
-use borrow.Author.Rules.{rules}
 use Rattle.count.proofs.count_words.Goals as goal
 use Rattle.count.proofs.count_words.Goals.{After-check_graph, Else-work-n, In-Sound, Start}
 

@@ -10,7 +10,6 @@ use Rattle.node.specs.Nodes.{kbwg, is_end}
 use Rattle.graph.specs.Runs.{Graph, node}
 use Rattle.cursor.specs.RunSteps.{step_in, run_step}
 use Rattle.cursor.proofs.RunStepsLaws.{run-step-out, run-step-done, run-step-last, run-step-next}
-use borrow.Author.Rules.{rules}
 use Rattle.cursor.proofs.run_step.Goals as goal
 use Rattle.cursor.proofs.run_step.Goals.{After-is_end, After-lent_part-lent, Start}
 

@@ -3,7 +3,6 @@ use mathlib.Core.Path.{◌≡◌, sym, ap, ◌∙◌}
 use Rattle.cursor.specs.RunSteps.{Moves, node_reached, moves}
 use Rattle.cursor.specs.Said.{said_step}
 use Rattle.cursor.specs.declared.Stepped.{Stepped}
-use borrow.Author.Rules.{rules}
 use Rattle.cursor.proofs.step_from.Goals as goal
 use Rattle.cursor.proofs.step_from.Goals.{After-run_step-answer, Start}
 

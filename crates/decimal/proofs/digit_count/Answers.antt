@@ -1,10 +1,6 @@
 -- `digit_count` meets its contract: the digits counted and those of what is left are one more than all; a division by ten takes one.
-use borrow.Author.Rules.{rules}
 use native.Mathlib.Omega.{arith}
-use mathlib.Core.Path.{◌≡◌, refl}
-use Prim.Native.Nat.{◌+◌}
-use lib.ListN.{length}
-use Rattle.decimal.specs.Decimal.{decimal}
+use mathlib.Core.Path.{refl}
 use Rattle.decimal.specs.DecimalLaws.{decimal-length, decimal-some, length-one, length_more}
 use Rattle.decimal.proofs.digit_count.Goals as goal
 

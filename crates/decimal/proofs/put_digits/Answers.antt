@@ -1,10 +1,6 @@
 -- `put_digits` meets its contract: the digits that are left to put, put where all begin, give all of them; a division by ten takes the last.
-use borrow.Author.Rules.{rules}
 use native.Mathlib.Omega.{arith}
-use Prim.Native.Nat.{◌-◌}
-use lib.ListN.{length}
-use Rattle.decimal.specs.Decimal.{decimal}
-use Rattle.decimal.proofs.PutLaws.{DigitsLeft, digits-start, digit-there, digit_room, digit-put, digits-put}
+use Rattle.decimal.proofs.PutLaws.{digits-start, digit-there, digit_room, digit-put, digits-put}
 use Rattle.decimal.proofs.put_digits.Goals as goal
 
 pub loop-left-init : goal.loop-left-init

@@ -1,5 +1,4 @@
 -- `put_number` meets its contract: digits that end where there is just room for them begin at the place.
-use borrow.Author.Rules.{rules}
 use mathlib.Core.Path.{ap}
 use Prim.Native.Nat.{◌+◌}
 use Rattle.decimal.proofs.PutLaws.{put-before}

@@ -2,7 +2,6 @@
 use native.Mathlib.Omega.{arith}
 use mathlib.Core.Path.{◌∙◌}
 use Rattle.endian.proofs.BigStores.{stores_halves}
-use borrow.Author.Rules.{rules}
 use Rattle.endian.proofs.write_be_halves.Goals as goal
 
 pub returns : goal.returns

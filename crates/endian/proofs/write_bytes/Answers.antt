@@ -1,11 +1,9 @@
 -- `write_bytes` meets its contract: the bytes that are left, put behind those that are in, give what all give.
-use borrow.Author.Rules.{rules}
 use native.Mathlib.Omega.{arith}
-use mathlib.Core.Path.{◌≡◌, refl, sym, ◌∙◌}
-use Prim.Native.Nat.{◌+◌, ◌≤◌, ◌-◌}
-use lib.ListN.{length, drop, length-set}
+use mathlib.Core.Path.{refl, sym, ◌∙◌}
+use Prim.Native.Nat.{◌+◌}
+use lib.ListN.{length-set}
 use native.Mathlib.Nat.{add-zero}
-use lib.Seq.{sets}
 use Rattle.laws.specs.ListWrites.{sets-next, sets-done}
 use Rattle.endian.proofs.write_bytes.Goals as goal
 

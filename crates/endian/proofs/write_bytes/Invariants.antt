@@ -1,12 +1,8 @@
 -- `write_bytes` meets its contract: the bytes that are left, put behind those that are in, give what all give.
-use borrow.Author.Rules.{rules}
-use native.Mathlib.Omega.{arith}
-use mathlib.Core.Path.{◌≡◌, refl, sym, ◌∙◌}
+use mathlib.Core.Path.{◌≡◌}
 use Prim.Native.Nat.{◌+◌, ◌≤◌, ◌-◌}
-use lib.ListN.{length, drop, length-set}
-use native.Mathlib.Nat.{add-zero}
+use lib.ListN.{length, drop}
 use lib.Seq.{sets}
-use Rattle.laws.specs.ListWrites.{sets-next, sets-done}
 use Rattle.endian.proofs.write_bytes.Given as goal
 
 abbrev pub invariant-loop-i : goal.invariant-loop-i

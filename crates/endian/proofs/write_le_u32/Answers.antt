@@ -2,7 +2,6 @@
 use native.Mathlib.Omega.{arith}
 use native.Mathlib.Numerals.{add-one, add-two, add-three}
 use lib.ListN.{length-set}
-use borrow.Author.Rules.{rules}
 use Rattle.endian.proofs.write_le_u32.Goals as goal
 
 pub bounds-bytes-p-2 : goal.bounds-bytes-p-2

@@ -1,16 +1,13 @@
 -- `lacks_label` meets its contract: what is left of the nodes answers for all of them.
 use native.Mathlib.Omega.{arith}
 use mathlib.Core.Path.{refl}
-use mathlib.Core.Bool.{Bool}
 use mathlib.Core.List.{List}
-use Prim.Native.Nat.{ℕ, ◌-◌}
-use lib.Dec.{leb}
+use Prim.Native.Nat.{ℕ}
 use lib.ListN.{length}
 use borrow.Author.Tests.{le-leb, lt-leb}
-use Rattle.laws.specs.Searching.{Searching, Tested, search-begins, search_finds, search-passes, search-ends}
+use Rattle.laws.specs.Searching.{Tested, search-begins, search_finds, search-passes, search-ends}
 use Rattle.node.specs.Nodes.{kbwg, tile}
 use Rattle.graph.specs.Runs.{node}
-use borrow.Author.Rules.{rules}
 use Rattle.export.proofs.lacks_label.Goals as goal
 use Rattle.export.proofs.lacks_label.Invariants.{lacks}
 use Rattle.export.proofs.lacks_label.Goals.{After-tile, At-loop-i}

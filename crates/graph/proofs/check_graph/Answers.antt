@@ -6,7 +6,6 @@ use Rattle.answers.specs.Answers.{first_of}
 use Rattle.graph.specs.Checks.{nodes_refusal, graph_row}
 use Rattle.graph.proofs.CheckRows.{too_few-nodes, too_many-nodes, right-size}
 use Rattle.graph.specs.declared.NodesCheck.{NodesCheck}
-use borrow.Author.Rules.{rules}
 use Rattle.graph.proofs.check_graph.Goals as goal
 use Rattle.graph.proofs.check_graph.Goals.{After-check_nodes}
 

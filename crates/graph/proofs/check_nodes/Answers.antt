@@ -5,7 +5,6 @@ use mathlib.Core.List.{[], ◌∷◌}
 use mathlib.Core.Option.{some}
 use Rattle.answers.specs.Answers.{refused}
 use Rattle.graph.proofs.CheckRows.{arc-past-end, no_end, nodes-sound}
-use borrow.Author.Rules.{rules}
 use Rattle.graph.proofs.check_nodes.Goals as goal
 
 pub returns-then-nodes-largest : goal.returns-then-nodes-largest

@@ -1,7 +1,6 @@
 -- `largest_arc` meets its contract: the largest so far and the nodes from i on give the largest of all.
-use borrow.Author.Rules.{rules}
 use native.Mathlib.Omega.{arith}
-use Prim.Native.Nat.{◌+◌, ◌-◌, ◌≤◌, max}
+use Prim.Native.Nat.{◌+◌, max}
 use native.Mathlib.Nat.{zero-max}
 use Rattle.graph.specs.Runs.{largest_arc}
 use mathlib.Core.Path.{◌≡◌, sym, ap, ◌∙◌}

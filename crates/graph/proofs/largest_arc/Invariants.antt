@@ -1,13 +1,9 @@
 -- `largest_arc` meets its contract: the largest so far and the nodes from i on give the largest of all.
-use borrow.Author.Rules.{rules}
-use native.Mathlib.Omega.{arith}
-use Prim.Native.Nat.{◌+◌, ◌-◌, ◌≤◌, max}
-use native.Mathlib.Nat.{zero-max}
-use Rattle.graph.specs.Runs.{largest_arc}
-use mathlib.Core.Path.{◌≡◌, sym, ap, ◌∙◌}
+use Prim.Native.Nat.{◌-◌, ◌≤◌}
+use mathlib.Core.Path.{◌≡◌}
 use lib.ListN.{length}
 use Rattle.node.specs.Nodes.{kbwg}
-use Rattle.graph.proofs.CheckRows.{largest_from, largest-next, largest-done}
+use Rattle.graph.proofs.CheckRows.{largest_from}
 use Rattle.graph.proofs.largest_arc.Given as goal
 
 abbrev pub invariant-loop-i : goal.invariant-loop-i

@@ -4,7 +4,6 @@ use mathlib.Core.Path.{◌∙◌}
 use Rattle.node.specs.Nodes.{kbwg}
 use Rattle.graph.specs.ChecksLaws.{last_of}
 use Rattle.graph.proofs.CheckRows.{last_none}
-use borrow.Author.Rules.{rules}
 use Rattle.graph.proofs.last_ends.Goals as goal
 
 pub returns-then-n-eq0 : goal.returns-then-n-eq0

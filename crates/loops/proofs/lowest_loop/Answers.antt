@@ -4,13 +4,12 @@ use mathlib.Core.Path.{◌∙◌}
 use mathlib.Core.List.{List}
 use Prim.Native.Nat.{ℕ, ◌*◌, ◌<◌}
 use lib.ListN.{length}
-use borrow.Author.Rules.{rules}
 use Rattle.graph.specs.ChecksLaws.{Fit}
 use Rattle.graph.specs.Lent.{Kept, kept_then, cleared_of_kept}
 use Rattle.loops.specs.NodeMarksLaws.{cleared-work, marks-zero}
 use Rattle.loops.specs.Search.{SearchState, SearchStepped}
 use Rattle.loops.proofs.SearchLaws.{top_le, size_le, stack-room, meet-step}
-use Rattle.loops.proofs.RootLaws.{SearchRoots, roots_left, search-start, search-goes-on, search-less, search-next-root, search-end}
+use Rattle.loops.proofs.RootLaws.{search-start, search-goes-on, search-less, search-next-root, search-end}
 use Rattle.loops.proofs.lowest_loop.Goals as goal
 use Rattle.loops.proofs.lowest_loop.Goals.{After-clear, After-clear-2, After-meet-s, After-search_step-s, At-loop-root, In-loop-root, Start, Then-work-root-eq0}
 

@@ -1,7 +1,6 @@
 -- `push` meets its contract: both numbers that it writes are inside the work list.
 use native.Mathlib.Omega.{arith}
 use lib.ListN.{length-set}
-use borrow.Author.Rules.{rules}
 use Rattle.loops.proofs.push.Goals as goal
 
 pub bounds-work-n : goal.bounds-work-n

@@ -1,5 +1,4 @@
 -- `pack` meets its contract, by the layout.
-use borrow.Author.Rules.{rules}
 use Rattle.node.proofs.pack.Goals as goal
 
 pub returns-in-Kwg : goal.returns-in-Kwg

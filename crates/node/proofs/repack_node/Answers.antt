@@ -2,7 +2,6 @@
 use mathlib.Core.Path.{refl, ◌∙◌}
 use Rattle.node.specs.Nodes.{kwg, kbwg}
 use Rattle.node.proofs.OwnFields.{repacks}
-use borrow.Author.Rules.{rules}
 use Rattle.node.proofs.repack_node.Goals as goal
 
 pub returns-in-Kwg : goal.returns-in-Kwg

@@ -1,15 +1,8 @@
 -- `load_in_pieces` meets its contract: the feeds that are left, from the state, nodes and answers reached, leave what all feeds leave.
-use borrow.Author.Rules.{rules}
-use native.Mathlib.Omega.{arith}
-use mathlib.Core.Path.{◌≡◌, ap, ◌∙◌}
-use mathlib.Core.List.{List}
-use Prim.Native.Nat.{ℕ, ◌+◌, ◌-◌, ◌≤◌, ◌<◌}
-use lib.ListN.{length, drop, length-drop}
-use lib.Seq.{take_all}
-use Rattle.graph.specs.Runs.{Graph}
-use Rattle.load.specs.Loading.{feed}
-use Rattle.load.specs.declared.loader.Loader.{Loader}
-use Rattle.pieces.proofs.CutLaws.{fed_from, feed-next, feed-rest, load-left}
+use mathlib.Core.Path.{◌≡◌}
+use Prim.Native.Nat.{◌-◌, ◌≤◌}
+use lib.ListN.{length, drop}
+use Rattle.pieces.proofs.CutLaws.{fed_from}
 use Rattle.pieces.proofs.load_in_pieces.Given as goal
 
 abbrev pub invariant-loop-i : goal.invariant-loop-i

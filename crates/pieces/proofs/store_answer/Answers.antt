@@ -2,7 +2,6 @@
 use mathlib.Core.Path.{sym, ap}
 use lib.ListN.{set}
 use lib.Seq.{set_out}
-use borrow.Author.Rules.{rules}
 use Rattle.pieces.proofs.store_answer.Goals as goal
 
 pub returns-then-place-answers : goal.returns-then-place-answers

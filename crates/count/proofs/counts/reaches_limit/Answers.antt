@@ -1,7 +1,6 @@
 -- `reaches_limit` meets its contract: the counts passed are below the limit.
-use borrow.Author.Rules.{rules}
 use native.Mathlib.Omega.{arith}
-use Prim.Native.Nat.{ℕ, ◌-◌, ◌<◌, ◌≤◌}
+use Prim.Native.Nat.{◌<◌}
 use lib.ListN.{get_or}
 use borrow.Author.Count.{below_none, below_more}
 use Rattle.graph.specs.Counting.{count_limit}

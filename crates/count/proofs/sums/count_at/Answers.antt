@@ -1,6 +1,5 @@
 -- `count_at` meets its contract: both nodes that p leads to are inside the graph, so their counts are lent.
 use native.Mathlib.Omega.{arith}
-use borrow.Author.Rules.{rules}
 use mathlib.Core.Path.{ap, ◌∙◌}
 use Rattle.base.specs.Numbers.{flag}
 use Rattle.count.proofs.sums.count_at.Goals as goal

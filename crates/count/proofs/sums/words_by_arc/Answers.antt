@@ -4,7 +4,6 @@ use Prim.Native.Nat.{ℕ}
 use lib.ListN.{get_or}
 use Rattle.node.specs.Nodes.{kbwg}
 use Rattle.graph.specs.CountLaws.{arc-words-none, arc-words}
-use borrow.Author.Rules.{rules}
 use Rattle.count.proofs.sums.words_by_arc.Goals as goal
 
 pub returns-then-arc-eq0 : goal.returns-then-arc-eq0

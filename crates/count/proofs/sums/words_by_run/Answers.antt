@@ -7,7 +7,6 @@ use native.Mathlib.Numerals.{add-one}
 use lib.ListN.{length, get_or}
 use Rattle.node.specs.Nodes.{kbwg, is_end}
 use Rattle.graph.specs.CountLaws.{run-words-none, run-words}
-use borrow.Author.Rules.{rules}
 use Rattle.count.proofs.sums.words_by_run.Goals as goal
 use Rattle.count.proofs.sums.words_by_run.Goals.{Else-is_end, Start}
 

@@ -2,7 +2,7 @@
 use native.Mathlib.Omega.{arith}
 use mathlib.Core.Path.{◌≡◌, sym, ◌∙◌}
 use mathlib.Core.Bool.{false, true≢false}
-use mathlib.Core.Logic.{◌≢◌, ⊎_elim}
+use mathlib.Core.Logic.{◌≢◌}
 use mathlib.Core.List.{List}
 use Prim.Native.Nat.{ℕ, ◌+◌, ◌<◌}
 use lib.ListN.{length}
@@ -12,7 +12,6 @@ use Rattle.count.specs.declared.walk.MaybeNode.TheVariants.{Nothing}
 use Rattle.loops.specs.NodeMarks.{mark, done}
 use Rattle.count.specs.CountWalk.{NextIs}
 use Rattle.count.proofs.Steps.{step-arc, step-next, steps-done}
-use borrow.Author.Rules.{rules}
 use Rattle.count.proofs.walk.next_to_count.Goals as goal
 use Rattle.count.proofs.walk.next_to_count.Goals.{then-arc-ne0+else-work-arc, else-arc-ne0, After-arc_index-arc, Joined-arc-ne0, Start}
 

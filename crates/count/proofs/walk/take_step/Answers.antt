@@ -12,7 +12,6 @@ use Rattle.graph.specs.Lent.{kept-all}
 use Rattle.loops.specs.NodeMarks.{stacked}
 use Rattle.count.specs.CountWalk.{CountWalk, NextIs, StepTaken}
 use Rattle.count.proofs.WalkLaws.{size_lt, top-place, top-node, step-loops, step_pushes, step_counts}
-use borrow.Author.Rules.{rules}
 use Rattle.graph.specs.Counting.{count_limit}
 use Rattle.count.proofs.walk.take_step.Goals as goal
 use Rattle.count.proofs.walk.take_step.Goals.{After-next_to_count, After-slice_known-3-1, After-slice_known-in-At-1, Else-work-q-ne0, In-At, In-Nothing, Start}

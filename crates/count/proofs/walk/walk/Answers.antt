@@ -1,14 +1,13 @@
 -- `walk` meets its contract: the roots passed are done whenever the stack is empty, and every turn meets a node, ends one or passes a root.
-use borrow.Author.Rules.{rules}
 use native.Mathlib.Omega.{arith}
-use mathlib.Core.Path.{◌≡◌, sym, ◌∙◌, subst}
+use mathlib.Core.Path.{◌≡◌, sym, subst}
 use mathlib.Core.List.{List}
 use Prim.Native.Nat.{ℕ}
 use Rattle.graph.specs.ChecksLaws.{Fit}
 use Rattle.graph.specs.Counting.{count_limit}
 use Rattle.count.specs.declared.walk.AfterStep.{AfterStep}
 use Rattle.count.specs.CountWalk.{StepIs, StepTaken}
-use Rattle.count.proofs.Roots.{Roots, turns, Roots-start, Roots-step, step_less, Roots-next, root-less, root-steps, roots_loop, roots_end}
+use Rattle.count.proofs.Roots.{Roots, Roots-start, Roots-step, step_less, Roots-next, root-less, root-steps, roots_loop, roots_end}
 use Rattle.count.proofs.walk.walk.Goals as goal
 use Rattle.count.proofs.walk.walk.Goals.{After-push, After-slice_known-else-size-eq0-2-1, After-take_step, At-loop-roots, In-loop-roots, Start, Then-work-roots-eq0}
 

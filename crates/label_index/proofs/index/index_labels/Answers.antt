@@ -5,7 +5,6 @@ use Prim.Native.Nat.{ℕ, ◌≤◌}
 use lib.ListN.{length}
 use Rattle.label_index.specs.Index.{FirstBytes}
 use Rattle.label_index.proofs.ReadyLaws.{read_firsts, read-ready, read-bad}
-use borrow.Author.Rules.{rules}
 use Rattle.label_index.proofs.index.index_labels.Goals as goal
 use Rattle.label_index.proofs.index.index_labels.Goals.{After-fill_begins, After-fill_ends, After-read_labels-read, In-Lines, Start}
 

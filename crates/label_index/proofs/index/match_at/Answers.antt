@@ -10,7 +10,6 @@ use Rattle.label_index.specs.Index.{FirstByteRange}
 use Rattle.label_index.specs.Matches.{match_in}
 use Rattle.label_index.proofs.EntryLaws.{first_of}
 use Rattle.label_index.proofs.RangeLaws.{range_of}
-use borrow.Author.Rules.{rules}
 use Rattle.label_index.proofs.index.match_at.Goals as goal
 use Rattle.label_index.proofs.index.match_at.Goals.{After-shared_slice_known-7-1, Start}
 

@@ -1,12 +1,8 @@
 -- `ranges::fill_begins` meets its contract: the lines from the place reached on stand at or after their range's beginning.
-use borrow.Author.Rules.{rules}
-use native.Mathlib.Omega.{arith}
-use mathlib.Core.Path.{◌≡◌, refl, sym, subst}
-use mathlib.Core.List.{List}
-use Prim.Native.Nat.{ℕ, ◌-◌, ◌≤◌, ◌<◌}
-use lib.ListN.{length, set, length-set}
-use Rattle.label_index.specs.Index.{first_in}
-use Rattle.label_index.proofs.RangeLaws.{BegunFrom, begun_more}
+use mathlib.Core.Path.{◌≡◌}
+use Prim.Native.Nat.{◌≤◌}
+use lib.ListN.{length}
+use Rattle.label_index.proofs.RangeLaws.{BegunFrom}
 use Rattle.label_index.proofs.ranges.fill_begins.Given as goal
 
 abbrev pub invariant-loop-i : goal.invariant-loop-i

@@ -1,12 +1,8 @@
 -- `ranges::fill_ends` meets its contract: the lines before the place reached stand before their range's end.
-use borrow.Author.Rules.{rules}
-use native.Mathlib.Omega.{arith}
-use mathlib.Core.Path.{◌≡◌, refl, sym, subst}
-use mathlib.Core.List.{List}
-use Prim.Native.Nat.{ℕ, ◌+◌, ◌-◌, ◌≤◌, ◌<◌}
-use lib.ListN.{length, set, length-set}
-use Rattle.label_index.specs.Index.{first_in, RangesEnd, RangesWithin}
-use Rattle.label_index.proofs.RangeLaws.{ended-more, within_more}
+use mathlib.Core.Path.{◌≡◌}
+use Prim.Native.Nat.{◌-◌, ◌≤◌}
+use lib.ListN.{length}
+use Rattle.label_index.specs.Index.{RangesEnd, RangesWithin}
 use Rattle.label_index.proofs.ranges.fill_ends.Given as goal
 
 abbrev pub invariant-loop-i : goal.invariant-loop-i

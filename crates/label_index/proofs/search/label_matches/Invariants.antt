@@ -1,13 +1,8 @@
 -- `search::label_matches` meets its contract: what is left of the text starts with what is left of the label just where all of it does.
-use borrow.Author.Rules.{rules}
-use native.Mathlib.Omega.{arith}
-use mathlib.Core.Path.{◌≡◌, refl, sym, ◌∙◌}
-use mathlib.Core.List.{List}
-use Prim.Native.Nat.{ℕ, ◌-◌, ◌<◌}
+use mathlib.Core.Path.{◌≡◌}
+use Prim.Native.Nat.{◌-◌}
 use lib.ListN.{length, drop}
 use Rattle.label_index.specs.Matches.{starts_with}
-use Rattle.label_index.specs.MatchLaws.{starts-short}
-use Rattle.label_index.proofs.SearchLaws.{starts-next, starts-not, starts-end}
 use Rattle.label_index.proofs.search.label_matches.Given as goal
 
 abbrev pub invariant-loop-i : goal.invariant-loop-i

@@ -8,7 +8,6 @@ use Rattle.letters.specs.Said.{completes_try}
 use Rattle.letters.specs.declared.alpha.Completes.{Completes}
 use Rattle.letters.specs.TallyLaws.{tally-fits}
 use Rattle.letters.proofs.AlphaLaws.{tally-long}
-use borrow.Author.Rules.{rules}
 use Rattle.letters.proofs.alpha.accepts_alpha.Goals as goal
 use Rattle.letters.proofs.alpha.accepts_alpha.Goals.{After-completes_alpha_cross_set-known, Start}
 

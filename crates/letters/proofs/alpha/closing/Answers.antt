@@ -1,9 +1,8 @@
 -- `closing` meets its contract. The loop's invariant: what is left of the run gives the answer of the whole.
 use mathlib.Core.Path.{◌≡◌, refl, sym, ap, ◌∙◌}
 use mathlib.Core.Bool.{Bool}
-use Prim.Native.Nat.{ℕ, ◌-◌}
-use borrow.Author.Rules.{rules}
-use lib.ListN.{length, drop}
+use Prim.Native.Nat.{ℕ}
+use lib.ListN.{drop}
 use Rattle.answers.specs.Answers.{Answer}
 use Rattle.node.specs.Nodes.{kbwg, tile, accepts, is_end}
 use Rattle.graph.specs.Runs.{Graph, node}

@@ -1,15 +1,8 @@
 -- `closing` meets its contract. The loop's invariant: what is left of the run gives the answer of the whole.
-use mathlib.Core.Path.{◌≡◌, refl, sym, ap, ◌∙◌}
-use mathlib.Core.Bool.{Bool}
-use Prim.Native.Nat.{ℕ, ◌-◌}
-use borrow.Author.Rules.{rules}
+use mathlib.Core.Path.{◌≡◌}
+use Prim.Native.Nat.{◌-◌}
 use lib.ListN.{length, drop}
-use Rattle.answers.specs.Answers.{Answer}
-use Rattle.node.specs.Nodes.{kbwg, tile, accepts, is_end}
-use Rattle.graph.specs.Runs.{Graph, node}
-use Rattle.laws.specs.BitSets.{marked}
 use Rattle.letters.specs.AlphaSets.{closing}
-use Rattle.letters.proofs.AlphaLaws.{closing-out, closing_end, closing-next}
 use Rattle.letters.proofs.alpha.closing.Given as goal
 
 abbrev pub invariant-loop-p : goal.invariant-loop-p

@@ -2,10 +2,9 @@
 -- lead where the whole leads.
 use mathlib.Core.Path.{◌≡◌, refl, sym, ap, ◌∙◌}
 use mathlib.Core.List.{List}
-use Prim.Native.Nat.{ℕ, ◌-◌}
+use Prim.Native.Nat.{ℕ}
 use native.Mathlib.Omega.{arith}
-use borrow.Author.Rules.{rules}
-use lib.ListN.{length, drop}
+use lib.ListN.{drop}
 use Rattle.letters.specs.AlphaSets.{spent}
 use Rattle.letters.proofs.AlphaLaws.{spending, spent-end, spent-letter, spent-none, spent-step, spent-stop}
 use Rattle.letters.proofs.AlphaLaws.{completes-no, completes-stop, completes-out, completes-at}

@@ -1,19 +1,10 @@
 -- `completes_alpha_cross_set` meets its contract. The loops' invariants: the letters left, and the copies left before them,
 -- lead where the whole leads.
-use mathlib.Core.Path.{◌≡◌, refl, sym, ap, ◌∙◌}
-use mathlib.Core.List.{List}
-use Prim.Native.Nat.{ℕ, ◌-◌}
-use native.Mathlib.Omega.{arith}
-use borrow.Author.Rules.{rules}
+use mathlib.Core.Path.{◌≡◌}
+use Prim.Native.Nat.{◌-◌}
 use lib.ListN.{length, drop}
 use Rattle.letters.specs.AlphaSets.{spent}
-use Rattle.letters.proofs.AlphaLaws.{spending, spent-end, spent-letter, spent-none, spent-step, spent-stop}
-use Rattle.letters.proofs.AlphaLaws.{completes-no, completes-stop, completes-out, completes-at}
-use Rattle.answers.specs.Answers.{Answer}
-use Rattle.lookup.specs.Steps.{Try, on, stop}
-use Rattle.lookup.specs.Walks.{step_to}
-use Rattle.lookup.specs.Said.{search_try}
-use Rattle.lookup.specs.declared.run.RunSearch.{RunSearch}
+use Rattle.letters.proofs.AlphaLaws.{spending}
 use Rattle.letters.proofs.alpha.completes_alpha_cross_set.Given as goal
 
 abbrev pub invariant-copies : goal.invariant-copies

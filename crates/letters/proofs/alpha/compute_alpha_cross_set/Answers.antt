@@ -1,5 +1,4 @@
 -- `compute_alpha_cross_set` meets its contract: the row, then the walk over what is lent.
-use borrow.Author.Rules.{rules}
 use Rattle.letters.specs.AlphaSets.{cross_set}
 use Rattle.letters.specs.TallyLaws.{tally-fits}
 use Rattle.letters.proofs.AlphaLaws.{tally-long}

@@ -1,21 +1,9 @@
 -- `cross_from` meets its contract. The invariant of each loop: the walk from there gives the answer of the whole.
-use mathlib.Core.Path.{◌≡◌, sym, ap, ◌∙◌}
-use mathlib.Core.Bool.{Bool}
-use mathlib.Core.Logic.{◌≢◌}
-use mathlib.Core.List.{List}
-use Prim.Native.Nat.{ℕ, ◌-◌, ◌≤◌, ◌<◌}
-use native.Mathlib.Omega.{arith}
-use borrow.Author.Rules.{rules}
+use mathlib.Core.Path.{◌≡◌}
+use Prim.Native.Nat.{◌-◌}
 use lib.ListN.{length}
-use Rattle.answers.specs.Answers.{Answer}
-use Rattle.node.specs.Nodes.{kbwg, tile, is_end}
-use Rattle.graph.specs.Runs.{Graph, node}
-use Rattle.letters.specs.AlphaSets.{completes, cross_from}
-use Rattle.letters.specs.Said.{completes_try}
-use Rattle.letters.specs.declared.alpha.Completes.{Completes}
-use Rattle.lookup.specs.Steps.{on}
-use Rattle.letters.proofs.AlphaLaws.{at_letter, at_copy, at_node, letters-end, letters-one, copies-none, copies-one}
-use Rattle.letters.proofs.AlphaLaws.{node-out, node_greater, node-no-arc, node-arc, node-stop, node_end, node-next, cross-out, cross-none, cross-letters}
+use Rattle.letters.specs.AlphaSets.{cross_from}
+use Rattle.letters.proofs.AlphaLaws.{at_letter, at_copy, at_node}
 use Rattle.letters.proofs.alpha.cross_from.Given as goal
 
 abbrev pub invariant-run : goal.invariant-run

@@ -1,6 +1,5 @@
 -- `carry` meets its contract, by its two cases.
 use mathlib.Core.Path.{sym, ◌∙◌}
-use borrow.Author.Rules.{rules}
 use Rattle.letters.specs.LetterBits.{carry}
 use Rattle.letters.proofs.letter_bits.carry.Goals as goal
 

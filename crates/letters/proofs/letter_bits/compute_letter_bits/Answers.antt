@@ -2,16 +2,14 @@
 use mathlib.Core.Path.{◌≡◌, sym, ap, ap₂, ◌∙◌}
 use mathlib.Core.Bool.{true}
 use mathlib.Core.List.{[]}
-use Prim.Native.Nat.{ℕ, ◌-◌, ◌≤◌}
+use Prim.Native.Nat.{ℕ, ◌-◌}
 use native.Mathlib.Omega.{arith}
-use borrow.Author.Rules.{rules}
-use lib.ListN.{length}
 use Rattle.answers.specs.Answers.{gives}
 use Rattle.node.specs.Nodes.{kbwg, tile, accepts}
 use Rattle.graph.specs.Runs.{node}
 use Rattle.laws.specs.BitSets.{marked}
-use Rattle.letters.specs.LetterBits.{every, carry}
-use Rattle.letters.proofs.RunFilling.{RunFilling, filling_start, filling_length, filling_step, filling_done, all_short, accepting-short, long-enough}
+use Rattle.letters.specs.LetterBits.{carry}
+use Rattle.letters.proofs.RunFilling.{filling_start, filling_length, filling_step, filling_done, all_short, accepting-short, long-enough}
 use Rattle.letters.proofs.letter_bits.compute_letter_bits.Goals as goal
 use Rattle.letters.proofs.letter_bits.compute_letter_bits.Goals.{After-carry, After-marked-accepting, At-loop-i, Else-accepting_bits-nodes, Start}
 

@@ -1,17 +1,9 @@
 -- `compute_letter_bits` meets its contract. The loop's invariant: the nodes from i on are done.
-use mathlib.Core.Path.{◌≡◌, sym, ap, ap₂, ◌∙◌}
-use mathlib.Core.Bool.{true}
-use mathlib.Core.List.{[]}
-use Prim.Native.Nat.{ℕ, ◌-◌, ◌≤◌}
-use native.Mathlib.Omega.{arith}
-use borrow.Author.Rules.{rules}
+use Prim.Native.Nat.{◌≤◌}
 use lib.ListN.{length}
-use Rattle.answers.specs.Answers.{gives}
-use Rattle.node.specs.Nodes.{kbwg, tile, accepts}
-use Rattle.graph.specs.Runs.{node}
-use Rattle.laws.specs.BitSets.{marked}
-use Rattle.letters.specs.LetterBits.{every, carry}
-use Rattle.letters.proofs.RunFilling.{RunFilling, filling_start, filling_length, filling_step, filling_done, all_short, accepting-short, long-enough}
+use Rattle.node.specs.Nodes.{kbwg, accepts}
+use Rattle.letters.specs.LetterBits.{every}
+use Rattle.letters.proofs.RunFilling.{RunFilling}
 use Rattle.letters.proofs.letter_bits.compute_letter_bits.Given as goal
 
 abbrev pub invariant-loop-i : goal.invariant-loop-i

@@ -1,8 +1,6 @@
 -- `marked` meets its contract: a shift by a tile is the power of two, since tiles are below 64.
 use mathlib.Core.Path.{sym, ap₂, ◌∙◌}
 use native.Mathlib.Omega.{arith}
-use borrow.Author.Rules.{rules}
-use Rattle.node.specs.Nodes.{tile}
 use Rattle.laws.specs.BitSets.{marked, marked_shift}
 use Rattle.letters.proofs.tiles.marked.Goals as goal
 

@@ -1,11 +1,9 @@
 -- `hold` meets its contract: the bytes of the piece that are left, put behind those that are in, give what all give.
-use borrow.Author.Rules.{rules}
 use native.Mathlib.Omega.{arith}
-use Prim.Native.Nat.{◌+◌, ◌-◌, ◌≤◌}
+use Prim.Native.Nat.{◌+◌}
 use native.Mathlib.Nat.{add-zero}
-use mathlib.Core.Path.{◌≡◌, refl, sym, ◌∙◌}
-use lib.ListN.{length, drop, length-set}
-use lib.Seq.{sets}
+use mathlib.Core.Path.{refl, sym, ◌∙◌}
+use lib.ListN.{length-set}
 use Rattle.laws.specs.ListWrites.{sets-next, sets-done}
 use Rattle.load.proofs.held.hold.Goals as goal
 

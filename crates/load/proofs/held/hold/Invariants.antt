@@ -1,12 +1,8 @@
 -- `hold` meets its contract: the bytes of the piece that are left, put behind those that are in, give what all give.
-use borrow.Author.Rules.{rules}
-use native.Mathlib.Omega.{arith}
 use Prim.Native.Nat.{◌+◌, ◌-◌, ◌≤◌}
-use native.Mathlib.Nat.{add-zero}
-use mathlib.Core.Path.{◌≡◌, refl, sym, ◌∙◌}
-use lib.ListN.{length, drop, length-set}
+use mathlib.Core.Path.{◌≡◌}
+use lib.ListN.{length, drop}
 use lib.Seq.{sets}
-use Rattle.laws.specs.ListWrites.{sets-next, sets-done}
 use Rattle.load.proofs.held.hold.Given as goal
 
 abbrev pub invariant-loop-i : goal.invariant-loop-i

@@ -3,7 +3,6 @@ use native.Mathlib.Omega.{arith}
 use Prim.Native.Nat.{◌+◌, ◌-◌}
 use mathlib.Core.Path.{◌≡◌, sym}
 use Rattle.load.proofs.HeldLaws.{held-then-held, held-then-piece}
-use borrow.Author.Rules.{rules}
 use Rattle.load.proofs.held.joined_byte.Goals as goal
 
 pub returns-then-j-count : goal.returns-then-j-count

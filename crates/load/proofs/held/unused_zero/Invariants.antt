@@ -1,13 +1,7 @@
 -- `unused_zero` meets its contract: the places from i on are 0 where those from the first on are.
-use borrow.Author.Rules.{rules}
-use native.Mathlib.Omega.{arith}
-use Prim.Native.Nat.{◌+◌, ◌-◌}
-use native.Mathlib.Numerals.{add-one}
-use mathlib.Core.Path.{◌≡◌, sym, ◌∙◌}
-use mathlib.Core.Bool.{true, false}
-use borrow.Author.Tests.{ne_eqb, eq-eqb}
-use lib.ListN.{drop, drop_of_length-le}
-use lib.Seq.{drop-cons}
+use Prim.Native.Nat.{◌-◌}
+use mathlib.Core.Path.{◌≡◌}
+use lib.ListN.{drop}
 use Rattle.load.specs.Loading.{zeros}
 use Rattle.load.proofs.held.unused_zero.Given as goal
 

@@ -15,7 +15,6 @@ use Rattle.load.proofs.HeldLaws.{held-then-length, held-then-rest}
 use Rattle.load.proofs.StateLaws.{Sound, sound}
 use Rattle.load.proofs.PieceLaws.{piece-node, piece-stops, piece-short, held-longer}
 use Rattle.load.specs.declared.loader.Loader.{Loader}
-use borrow.Author.Rules.{rules}
 use Rattle.load.proofs.loader.read_piece.Goals as goal
 use Rattle.load.proofs.loader.read_piece.Goals.{After-joined_node-first, After-repack_node, Else-held_count-eq0, Start}
 

@@ -15,7 +15,6 @@ use Rattle.load.specs.Loading.{places, misfit_in}
 use Rattle.load.proofs.StateLaws.{state-stopped}
 use Rattle.load.proofs.PieceLaws.{state-cut}
 use Rattle.load.specs.declared.repack.Repacked.{Repacked}
-use borrow.Author.Rules.{rules}
 use Rattle.load.proofs.loader.read_whole.Goals as goal
 use Rattle.load.proofs.loader.read_whole.Goals.{After-repack_into, Start}
 

@@ -1,7 +1,6 @@
 -- `stopped_at` meets its contract, field by field.
 use mathlib.Core.Path.{refl}
 use Rattle.load.specs.Loading.{stopped}
-use borrow.Author.Rules.{rules}
 use Rattle.load.proofs.loader.stopped_at.Goals as goal
 
 pub returns : goal.returns

@@ -1,15 +1,9 @@
 -- `repack_in_place` meets its contract: the bytes from place i on give the answer and the bytes that all give.
-use borrow.Author.Rules.{rules}
-use native.Mathlib.Omega.{arith}
 use Prim.Native.Nat.{◌-◌, ◌%◌, ◌≤◌}
-use mathlib.Core.Path.{◌≡◌, sym, ap, ◌∙◌}
+use mathlib.Core.Path.{◌≡◌}
 use lib.ListN.{length}
-use lib.Seq.{length-sets}
-use Rattle.node.specs.Nodes.{BitLayout}
-use Rattle.node.specs.Said.{bit_layout, repack_node_answer, said_node}
-use Rattle.node.specs.declared.Packed.{Packed}
-use Rattle.endian.specs.Bytes.{node_at}
-use Rattle.load.proofs.InPlace.{answer_from, bytes_from, node-fits, node-stops, nodes-done}
+use Rattle.node.specs.Said.{bit_layout}
+use Rattle.load.proofs.InPlace.{answer_from, bytes_from}
 use Rattle.load.proofs.repack.repack_in_place.Given as goal
 
 abbrev pub invariant-loop-bytes : goal.invariant-loop-bytes

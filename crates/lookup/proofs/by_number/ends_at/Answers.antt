@@ -1,5 +1,4 @@
 -- `ends_at` meets its contract: where the number is 0 the test is that of the flag.
-use borrow.Author.Rules.{rules}
 use borrow.Author.Tests.{eq-eqb, ne_eqb}
 use Rattle.lookup.proofs.by_number.ends_at.Goals as goal
 

@@ -1,6 +1,5 @@
 -- `get_word_by_index` meets its contract: `word_from` over the lent parts.
 use Rattle.lookup.specs.Walks.{word_by_index}
-use borrow.Author.Rules.{rules}
 use Rattle.lookup.proofs.by_number.get_word_by_index.Goals as goal
 
 pub returns : goal.returns

@@ -3,12 +3,10 @@
 use mathlib.Core.List.{List}
 use mathlib.Core.Path.{◌≡◌, refl, sym, ap, ◌∙◌}
 use mathlib.Core.Bool.{Bool, true, false, ◌&&◌}
-use Prim.Native.Nat.{ℕ, suc, ◌+◌, ◌-◌, ◌*◌, ◌≤◌, ◌<◌}
+use Prim.Native.Nat.{ℕ, ◌+◌, ◌-◌, ◌≤◌, ◌<◌}
 use native.Mathlib.Omega.{arith}
-use borrow.Author.Rules.{rules}
 use lib.Dec.{eqb}
 use lib.ListN.{length, drop, set, length-set}
-use Rattle.laws.specs.Buffers.{Left}
 use Rattle.laws.specs.Tests.{measure_falls}
 use Rattle.answers.specs.Answers.{Answer}
 use Rattle.node.specs.Nodes.{accepts, kbwg}

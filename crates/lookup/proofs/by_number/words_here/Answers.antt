@@ -5,7 +5,6 @@ use native.Mathlib.Omega.{arith}
 use Rattle.lookup.specs.Walks.{words_between, words_here}
 use Rattle.lookup.proofs.WordByIndexLaws.{here_on, here_out, here_end}
 use Rattle.lookup.proofs.PassedLaws.{between_unlent, between-below, between-words}
-use borrow.Author.Rules.{rules}
 use Rattle.lookup.proofs.by_number.words_here.Goals as goal
 use Rattle.lookup.proofs.by_number.words_here.Goals.{Else-is_end, Start}
 

@@ -1,6 +1,5 @@
 -- `pass_after` meets its contract: the arc, then the run.
 use mathlib.Core.Path.{sym, ◌∙◌}
-use borrow.Author.Rules.{rules}
 use Rattle.lookup.proofs.PassedLaws.{passed-after-none, passed-after-on}
 use Rattle.lookup.proofs.by_tile.pass_after.Goals as goal
 

@@ -1,6 +1,5 @@
 -- `pass_from` meets its contract: the node, then its arc.
 use mathlib.Core.Path.{sym, ◌∙◌}
-use borrow.Author.Rules.{rules}
 use Rattle.lookup.proofs.PassedLaws.{passed-from-out, passed-from-on}
 use Rattle.lookup.proofs.by_tile.pass_from.Goals as goal
 

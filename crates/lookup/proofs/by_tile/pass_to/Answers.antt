@@ -2,7 +2,6 @@
 use mathlib.Core.Path.{◌≡◌, sym, ap, ◌∙◌}
 use Prim.Native.Nat.{ℕ}
 use lib.ListN.{drop}
-use borrow.Author.Rules.{rules}
 use Rattle.lookup.specs.Steps.{on}
 use Rattle.lookup.specs.Walks.{find_in, words_between, passed}
 use Rattle.lookup.specs.Said.{search_try, between_try}

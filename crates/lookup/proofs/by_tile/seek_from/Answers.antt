@@ -1,7 +1,6 @@
 -- `seek_from` meets its contract: the step by the arc, then the search of the run.
 use mathlib.Core.Path.{sym, ◌∙◌}
 use Rattle.lookup.proofs.RunSearchLaws.{step-to-out, step-to-none, step-to-find}
-use borrow.Author.Rules.{rules}
 use Rattle.lookup.proofs.by_tile.seek_from.Goals as goal
 
 pub returns-then-nodes-p : goal.returns-then-nodes-p

@@ -1,5 +1,4 @@
 -- `get_word_index` meets its contract: `index_of_word` over the lent parts.
-use borrow.Author.Rules.{rules}
 use Rattle.lookup.specs.Walks.{word_index}
 use Rattle.lookup.proofs.by_word.get_word_index.Goals as goal
 

@@ -1,9 +1,8 @@
 -- `index_from` meets its contract. The loop's invariant: the tiles left, from the node reached, give the answer of all.
 use mathlib.Core.Path.{◌≡◌, refl, sym, ap, ◌∙◌}
 use mathlib.Core.List.{List}
-use Prim.Native.Nat.{ℕ, ◌+◌, ◌≤◌, ◌<◌, ◌-◌}
+use Prim.Native.Nat.{ℕ, ◌+◌, ◌≤◌, ◌<◌}
 use native.Mathlib.Omega.{arith}
-use borrow.Author.Rules.{rules}
 use lib.ListN.{drop, get_or, length}
 use Rattle.answers.specs.Answers.{Answer}
 use Rattle.node.specs.Nodes.{accepts_bit, kbwg}

@@ -1,7 +1,6 @@
 -- `number_ending` meets its contract.
 use mathlib.Core.Path.{sym, ◌∙◌}
 use native.Mathlib.Omega.{arith}
-use borrow.Author.Rules.{rules}
 use Rattle.lookup.proofs.WordIndexLaws.{number-given, number_limit, number-none}
 use Rattle.lookup.proofs.by_word.number_ending.Goals as goal
 

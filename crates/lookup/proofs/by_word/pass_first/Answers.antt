@@ -1,6 +1,5 @@
 -- `pass_first` meets its contract.
 use mathlib.Core.Path.{sym, ◌∙◌}
-use borrow.Author.Rules.{rules}
 use Rattle.lookup.proofs.PassedLaws.{first-zero, first_out, first_on}
 use Rattle.lookup.proofs.by_word.pass_first.Goals as goal
 

@@ -1,10 +1,9 @@
 -- `find_in` meets its contract. The loop's invariant: what is left to search gives the answer of the whole search.
-use Prim.Native.Nat.{ℕ, ◌-◌}
+use Prim.Native.Nat.{ℕ}
 use mathlib.Core.Path.{◌≡◌, sym, ◌∙◌}
 use mathlib.Core.Logic.{◌≢◌}
 use mathlib.Core.List.{List}
-use borrow.Author.Rules.{rules}
-use lib.ListN.{length, drop}
+use lib.ListN.{drop}
 use Rattle.node.specs.Nodes.{kbwg, tile}
 use Rattle.graph.specs.Runs.{node}
 use Rattle.lookup.specs.Steps.{Try}

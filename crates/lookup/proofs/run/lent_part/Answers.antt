@@ -2,7 +2,6 @@
 use native.Mathlib.Omega.{arith}
 use mathlib.Core.Path.{sym}
 use lib.Seq.{take_all, length-take-le}
-use borrow.Author.Rules.{rules}
 use Rattle.lookup.proofs.run.lent_part.Goals as goal
 
 pub slice_bounds-result-end : goal.slice_bounds-result-end

@@ -1,7 +1,6 @@
 -- `words_between` meets its contract: where the later count is lent, so is the first.
 use mathlib.Core.Path.{sym}
 use native.Mathlib.Omega.{arith}
-use borrow.Author.Rules.{rules}
 use Rattle.lookup.proofs.PassedLaws.{between_unlent, between-below, between-words}
 use Rattle.lookup.proofs.run.words_between.Goals as goal
 

@@ -1,6 +1,5 @@
 -- `next::lowest_next` meets its contract: a node leads along its arc and along its run, and to nothing else.
 use native.Mathlib.Omega.{arith}
-use borrow.Author.Rules.{rules}
 use Rattle.loops.proofs.NextLaws.{next_in_run, next-by-arc}
 use Rattle.loops.proofs.next.lowest_next.Goals as goal
 

@@ -3,7 +3,6 @@ use mathlib.Core.Path.{refl, sym, ap, ◌∙◌}
 use mathlib.Core.Logic.{inl, inr}
 use Prim.Native.Nat.{ℕ}
 use lib.ListN.{get_or}
-use borrow.Author.Rules.{rules}
 use Rattle.loops.proofs.next.mark_by_arc.Goals as goal
 
 pub returns-then-arc-eq0 : goal.returns-then-arc-eq0

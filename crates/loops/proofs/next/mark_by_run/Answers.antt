@@ -5,7 +5,6 @@ use mathlib.Core.Bool.{true≢false}
 use mathlib.Core.Logic.{inl, inr}
 use Prim.Native.Nat.{◌+◌, ◌<◌}
 use lib.ListN.{length}
-use borrow.Author.Rules.{rules}
 use Rattle.loops.proofs.next.mark_by_run.Goals as goal
 use Rattle.loops.proofs.next.mark_by_run.Goals.{Else-is_end}
 

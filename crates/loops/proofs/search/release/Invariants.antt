@@ -1,12 +1,6 @@
 -- `search::release` meets its contract: the loop's invariant is the contract up to the place reached.
-use borrow.Author.Rules.{rules}
-use native.Mathlib.Omega.{arith}
-use mathlib.Core.Path.{◌≡◌}
-use Prim.Native.Nat.{ℕ, ◌-◌, ◌*◌, ◌≤◌, ◌<◌}
-use lib.ListN.{length}
-use Rattle.loops.specs.NodeMarks.{stacked}
+use Prim.Native.Nat.{◌-◌, ◌≤◌}
 use Rattle.loops.specs.Search.{Released}
-use Rattle.loops.proofs.ReleaseLaws.{release-none, release-end, still-stacked, release-next}
 use Rattle.loops.proofs.search.release.Given as goal
 
 abbrev pub invariant-loop-k : goal.invariant-loop-k

@@ -5,7 +5,6 @@ use mathlib.Core.Logic.{◌≢◌}
 use mathlib.Core.List.{List}
 use Prim.Native.Nat.{ℕ, ◌-◌, ◌*◌, ◌≤◌, ◌<◌}
 use lib.ListN.{length}
-use borrow.Author.Rules.{rules}
 use Rattle.graph.specs.ChecksLaws.{Fit}
 use Rattle.loops.specs.declared.search.LoopSearch.{LoopSearch}
 use Rattle.loops.specs.NodeMarks.{mark, done, stacked}

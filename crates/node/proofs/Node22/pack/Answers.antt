@@ -5,7 +5,6 @@ use mathlib.Core.List.{[], ◌∷◌}
 use Rattle.answers.specs.Answers.{gives}
 use Rattle.node.specs.Nodes.{kwg}
 use Rattle.node.proofs.PackAnswers.{pack-within, pack-arc_over}
-use borrow.Author.Rules.{rules}
 use Rattle.node.proofs.Node22.pack.Goals as goal
 
 pub returns-then-arc_index-ge4194304 : goal.returns-then-arc_index-ge4194304

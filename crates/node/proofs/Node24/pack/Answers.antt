@@ -5,7 +5,6 @@ use mathlib.Core.List.{[], ◌∷◌}
 use Rattle.answers.specs.Answers.{gives}
 use Rattle.node.specs.Nodes.{kbwg}
 use Rattle.node.proofs.PackAnswers.{pack-within, pack-tile_over, pack-arc_over}
-use borrow.Author.Rules.{rules}
 use Rattle.node.proofs.Node24.pack.Goals as goal
 
 pub returns-then-tile-ge64 : goal.returns-then-tile-ge64

@@ -6,7 +6,6 @@ use Prim.Native.Nat.{ℕ, ◌+◌}
 use lib.ListN.{get_or}
 use Rattle.text.specs.Lines.{is_pair}
 use Rattle.text.specs.LineLaws.{ending_past, ending_last, ending_pair, ending_one}
-use borrow.Author.Rules.{rules}
 use Rattle.text.proofs.line.after_ending.Goals as goal
 use Rattle.text.proofs.line.after_ending.Goals.{After-is_pair, Else-text-next}
 

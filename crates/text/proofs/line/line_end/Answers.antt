@@ -1,11 +1,10 @@
 -- `line::line_end` meets its contract: the line's bytes from the place reached on end where all of it does.
-use borrow.Author.Rules.{rules}
 use native.Mathlib.Omega.{arith}
 use mathlib.Core.Path.{◌≡◌, sym, ap, ◌∙◌}
 use mathlib.Core.List.{List}
-use Prim.Native.Nat.{ℕ, ◌+◌, ◌-◌, ◌<◌}
-use lib.ListN.{length, get_or, drop}
-use Rattle.text.specs.Lines.{is_ending, first_line}
+use Prim.Native.Nat.{ℕ, ◌<◌}
+use lib.ListN.{length, get_or}
+use Rattle.text.specs.Lines.{is_ending}
 use Rattle.text.specs.LineLaws.{line-here, line-next, line-past}
 use Rattle.text.proofs.line.line_end.Goals as goal
 use Rattle.text.proofs.line.line_end.Goals.{After-is_ending, At-loop-i}

@@ -1,12 +1,8 @@
 -- `line::line_end` meets its contract: the line's bytes from the place reached on end where all of it does.
-use borrow.Author.Rules.{rules}
-use native.Mathlib.Omega.{arith}
-use mathlib.Core.Path.{◌≡◌, sym, ap, ◌∙◌}
-use mathlib.Core.List.{List}
-use Prim.Native.Nat.{ℕ, ◌+◌, ◌-◌, ◌<◌}
-use lib.ListN.{length, get_or, drop}
-use Rattle.text.specs.Lines.{is_ending, first_line}
-use Rattle.text.specs.LineLaws.{line-here, line-next, line-past}
+use mathlib.Core.Path.{◌≡◌}
+use Prim.Native.Nat.{◌+◌, ◌-◌}
+use lib.ListN.{length, drop}
+use Rattle.text.specs.Lines.{first_line}
 use Rattle.text.proofs.line.line_end.Given as goal
 
 abbrev pub invariant-loop-i : goal.invariant-loop-i

@@ -6,7 +6,6 @@ use Prim.Native.Nat.{ℕ, ◌+◌}
 use lib.ListN.{drop}
 use Rattle.text.specs.Lines.{line_width}
 use Rattle.text.specs.LineLaws.{line-past, after_line, line-between, end_fits}
-use borrow.Author.Rules.{rules}
 use Rattle.text.proofs.line.next_line.Goals as goal
 use Rattle.text.proofs.line.next_line.Goals.{After-after_ending, After-line_end-end, Start}
 

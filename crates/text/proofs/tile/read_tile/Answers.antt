@@ -7,7 +7,6 @@ use Prim.Native.Nat.{ℕ}
 use lib.ListN.{get_or}
 use Rattle.text.specs.Tiles.{is_digit}
 use Rattle.text.specs.TileLaws.{digit_low, digit-high, tile-end, tile-zero, tile-other, tile-digit}
-use borrow.Author.Rules.{rules}
 use Rattle.text.proofs.tile.read_tile.Goals as goal
 use Rattle.text.proofs.tile.read_tile.Goals.{After-is_digit, Else-text-at, Start, Then-is_digit}
 

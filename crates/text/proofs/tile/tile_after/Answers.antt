@@ -6,7 +6,6 @@ use Prim.Native.Nat.{ℕ, ◌<◌}
 use lib.ListN.{length, get_or}
 use Rattle.text.specs.Tiles.{is_digit}
 use Rattle.text.specs.TileLaws.{within-tile, digit_low, digit-high, after-end, after-digit, after-other}
-use borrow.Author.Rules.{rules}
 use Rattle.text.proofs.tile.tile_after.Goals as goal
 use Rattle.text.proofs.tile.tile_after.Goals.{After-is_digit, Start}
 

@@ -3,7 +3,6 @@ use native.Mathlib.Omega.{arith}
 use mathlib.Core.Path.{sym}
 use Prim.Native.Nat.{ℕ, ◌+◌, ◌*◌}
 use Rattle.text.specs.TileLaws.{within-tile, within_none}
-use borrow.Author.Rules.{rules}
 use Rattle.text.proofs.tile.two_digits.Goals as goal
 use Rattle.text.proofs.tile.two_digits.Goals.{Start}
 

@@ -2,7 +2,7 @@
 -- for the whole.
 use native.Mathlib.Nat.{sub-zero}
 use native.Mathlib.Omega.{arith}
-use mathlib.Core.Path.{◌≡◌, refl, sym, ap₂, ◌∙◌}
+use mathlib.Core.Path.{◌≡◌, refl, sym, ap₂}
 use mathlib.Core.List.{List, [], ◌++◌}
 use Prim.Native.Nat.{ℕ, ◌+◌, ◌-◌, ◌*◌, ◌^◌, ◌<◌}
 use lib.ListN.{length, take, drop}
@@ -11,8 +11,8 @@ use Rattle.text.specs.LineLaws.{line-inside, width-moves}
 use Rattle.label_index.specs.Labels.{Label, labels_in}
 use Rattle.typed.specs.Batches.{Batch, batch_from}
 use Rattle.typed.specs.declared.word.WordRead.{WordRead}
-use Rattle.typed.proofs.BatchLaws.{BatchLeft, batch-begins, batch-is, batch-end, batch-full, batch-done, untouched}
-use Rattle.typed.proofs.BatchLaws.{PartRead, part-read, part-size, batch-puts, batch-stops}
+use Rattle.typed.proofs.BatchLaws.{batch-begins, batch-is, batch-end, batch-full, batch-done, untouched}
+use Rattle.typed.proofs.BatchLaws.{PartRead, part-read, batch-puts, batch-stops}
 use borrow.Author.Rules.{rules}
 use Rattle.typed.proofs.batch.batch_from.Goals as goal
 use Rattle.typed.proofs.batch.batch_from.Goals.{After-read_word-read, After-skip_empty-start, At-loop-at, Start}

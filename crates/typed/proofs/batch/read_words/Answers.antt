@@ -7,7 +7,6 @@ use Rattle.label_index.specs.Labels.{bad_line}
 use Rattle.label_index.specs.Said.{bad_in}
 use Rattle.typed.proofs.NextLaws.{zero-at, zeros-length}
 use Rattle.typed.proofs.BatchLaws.{read-bad, read-good}
-use borrow.Author.Rules.{rules}
 use Rattle.typed.proofs.batch.read_words.Goals as goal
 use Rattle.typed.proofs.batch.read_words.Goals.{In-Lines, Start}
 

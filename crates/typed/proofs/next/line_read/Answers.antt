@@ -1,7 +1,6 @@
 -- `next::line_read` meets its contract: the part between the two ends of the answer's line, or none.
 use mathlib.Core.Path.{sym, ap, ◌∙◌}
 use Rattle.typed.specs.Said.{line_handed}
-use borrow.Author.Rules.{rules}
 use Rattle.typed.proofs.next.line_read.Goals as goal
 
 pub returns-in-Word : goal.returns-in-Word

@@ -8,7 +8,6 @@ use Rattle.label_index.specs.Labels.{bad_line}
 use Rattle.answers.specs.Answers.{refused}
 use Rattle.label_index.specs.Said.{bad_in}
 use Rattle.typed.proofs.NextLaws.{filled_none, call-bad, call-good, zero-at, zeros-length}
-use borrow.Author.Rules.{rules}
 use Rattle.typed.proofs.next.next_word.Goals as goal
 use Rattle.typed.proofs.next.next_word.Goals.{In-Lines, Start}
 

@@ -1,7 +1,6 @@
 -- `next::part` meets its contract: past the text, turned round, up to the text's end, or inside it.
 use mathlib.Core.Path.{sym}
 use Rattle.typed.proofs.NextLaws.{part-past, part-empty, part-rest}
-use borrow.Author.Rules.{rules}
 use Rattle.typed.proofs.next.part.Goals as goal
 
 pub returns-then-text-start : goal.returns-then-text-start

@@ -1,11 +1,8 @@
 -- `next::skip_empty` meets its contract: past each ending stands what is left of the empty lines.
-use borrow.Author.Rules.{rules}
 use native.Mathlib.Omega.{arith}
 use mathlib.Core.List.{List}
-use Prim.Native.Nat.{ℕ, ◌+◌, ◌-◌}
-use mathlib.Core.Path.{◌≡◌, sym, ◌∙◌}
-use lib.ListN.{length, drop}
-use Rattle.typed.specs.Texts.{empty_width}
+use Prim.Native.Nat.{ℕ}
+use mathlib.Core.Path.{sym, ◌∙◌}
 use Rattle.typed.proofs.EmptyLaws.{empty-next, empty-here, empty-past}
 use Rattle.typed.proofs.next.skip_empty.Goals as goal
 use Rattle.typed.proofs.next.skip_empty.Goals.{After-is_ending}

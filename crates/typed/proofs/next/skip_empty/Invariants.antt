@@ -1,12 +1,8 @@
 -- `next::skip_empty` meets its contract: past each ending stands what is left of the empty lines.
-use borrow.Author.Rules.{rules}
-use native.Mathlib.Omega.{arith}
-use mathlib.Core.List.{List}
-use Prim.Native.Nat.{ℕ, ◌+◌, ◌-◌}
-use mathlib.Core.Path.{◌≡◌, sym, ◌∙◌}
+use Prim.Native.Nat.{◌+◌, ◌-◌}
+use mathlib.Core.Path.{◌≡◌}
 use lib.ListN.{length, drop}
 use Rattle.typed.specs.Texts.{empty_width}
-use Rattle.typed.proofs.EmptyLaws.{empty-next, empty-here, empty-past}
 use Rattle.typed.proofs.next.skip_empty.Given as goal
 
 abbrev pub invariant-loop-i : goal.invariant-loop-i

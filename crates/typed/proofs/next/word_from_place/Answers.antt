@@ -3,7 +3,6 @@ use lib.ListN.{length}
 use Rattle.answers.specs.Answers.{nothing}
 use Rattle.label_index.specs.Labels.{labels_in}
 use Rattle.typed.proofs.NextLaws.{filled-by, filled_none, place_end, place-line}
-use borrow.Author.Rules.{rules}
 use Rattle.typed.proofs.next.word_from_place.Goals as goal
 
 pub returns-then-text-place : goal.returns-then-text-place

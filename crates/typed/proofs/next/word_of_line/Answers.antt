@@ -2,7 +2,6 @@
 use native.Mathlib.Omega.{arith}
 use Rattle.text.specs.LineLaws.{line-inside}
 use Rattle.typed.proofs.NextLaws.{word-on-line}
-use borrow.Author.Rules.{rules}
 use Rattle.typed.proofs.next.word_of_line.Goals as goal
 
 pub overflow_add-line_end : goal.overflow_add-line_end

@@ -4,7 +4,6 @@ use borrow.Author.Tests.{eq-eqb, ne_eqb, le-leb, lt-leb}
 use mathlib.Core.Path.{ap}
 use mathlib.Core.List.{[], ◌∷◌}
 use Rattle.answers.specs.Answers.{refused}
-use borrow.Author.Rules.{rules}
 use Rattle.typed.proofs.word.at_no_label.Goals as goal
 
 pub returns-then-i-eq0 : goal.returns-then-i-eq0

@@ -3,14 +3,14 @@ use native.Mathlib.Omega.{arith}
 use mathlib.Core.Path.{◌≡◌, sym, ap, ◌∙◌, subst}
 use mathlib.Core.List.{List}
 use mathlib.Core.Option.{Option, some}
-use Prim.Native.Nat.{ℕ, ◌+◌, ◌-◌, ◌≤◌}
+use Prim.Native.Nat.{ℕ, ◌+◌, ◌≤◌}
 use lib.ListN.{length, drop, length-drop}
-use Rattle.laws.specs.Buffers.{Left, Filled}
+use Rattle.laws.specs.Buffers.{Filled}
 use Rattle.label_index.specs.Labels.{Label, labels_in}
 use Rattle.label_index.specs.Matches.{Match, match_in}
 use Rattle.label_index.specs.Said.{matched}
 use Rattle.label_index.specs.MatchLaws.{Match-takes}
-use Rattle.typed.specs.Words.{tile_there, typed_step, typed_from}
+use Rattle.typed.specs.Words.{tile_there, typed_step}
 use Rattle.typed.specs.WordLaws.{step_past, step_label, step-none}
 use Rattle.typed.proofs.WordBuffer.{left-start, by_end, by-full, by-label}
 use borrow.Author.Rules.{rules}

@@ -3,7 +3,6 @@ use mathlib.Core.Path.{sym, ap, ◌∙◌}
 use Rattle.load.specs.Loading.{begin}
 use Rattle.load.specs.Said.{begin_refusal, said_begin}
 use Rattle.load.proofs.Ready.{begins_refused}
-use borrow.Author.Rules.{rules}
 use Rattle.load.proofs.loader.Loader.begin.Goals as goal
 
 pub returns-in-Ready : goal.returns-in-Ready

@@ -3,7 +3,6 @@ use native.Mathlib.Omega.{arith}
 use mathlib.Core.Path.{◌≡◌, sym, ap, ◌∙◌}
 use mathlib.Core.List.{List}
 use mathlib.Core.Option.{none}
-use borrow.Author.Tests.{not-true, not-false}
 use Prim.Native.Nat.{ℕ, ◌+◌, ◌≤◌}
 use lib.ListN.{length}
 use Rattle.answers.specs.Answers.{first_of}
@@ -14,7 +13,6 @@ use Rattle.load.proofs.FeedLaws.{feed-unsound, feed-kept, feed-long}
 use Rattle.load.proofs.CallLaws.{unsound, is-sound, fed-reads}
 use Rattle.load.specs.declared.loader.KeptRefusal.{KeptRefusal}
 use Rattle.load.specs.declared.loader.Loader.{Loader}
-use borrow.Author.Rules.{rules}
 use Rattle.load.proofs.loader.Loader.feed.Goals as goal
 use Rattle.load.proofs.loader.Loader.feed.Goals.{After-is_sound, After-read_piece-self, Else-announced-taken, Else-not-is_sound, In_default}
 

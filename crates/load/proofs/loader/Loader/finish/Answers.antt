@@ -4,7 +4,7 @@ use mathlib.Core.Path.{◌≡◌, sym, ap, ◌∙◌}
 use mathlib.Core.Bool.{Bool}
 use mathlib.Core.List.{List}
 use mathlib.Core.Option.{none}
-use borrow.Author.Tests.{not-true, not-false, eq-eqb, ne_eqb}
+use borrow.Author.Tests.{eq-eqb, ne_eqb}
 use Prim.Native.Nat.{ℕ}
 use lib.Dec.{eqb}
 use lib.ListN.{length}
@@ -17,7 +17,6 @@ use Rattle.load.proofs.BeginLaws.{Takes}
 use Rattle.load.proofs.StateLaws.{sound}
 use Rattle.load.proofs.CallLaws.{unsound, is-sound, finish-unsound, finish-kept, finish-missing, finish-judged}
 use Rattle.load.specs.declared.loader.Loader.{Loader}
-use borrow.Author.Rules.{rules}
 use Rattle.load.proofs.loader.Loader.finish.Goals as goal
 use Rattle.load.proofs.loader.Loader.finish.Goals.{After-check_nodes, After-is_sound, Else-not-is_sound, Else-taken-announced, In-Sound, In_default}
 

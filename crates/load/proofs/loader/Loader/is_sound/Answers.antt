@@ -11,7 +11,6 @@ use Rattle.load.proofs.StateLaws.{bad-length}
 use Rattle.load.proofs.SoundRow.{bad-taken, bad-count, places_decide}
 use Rattle.load.specs.declared.loader.Loader.{Loader}
 use Rattle.load.proofs.Ready.{refuses}
-use borrow.Author.Rules.{rules}
 use Rattle.load.proofs.loader.Loader.is_sound.Goals as goal
 use Rattle.load.proofs.loader.Loader.is_sound.Goals.{After-check_length, In-Ready}
 
