@@ -3,7 +3,7 @@ use mathlib.Core.Path.{◌≡◌, refl, sym, ap, ap₂, ◌∙◌, subst}
 use mathlib.Core.Logic.{◌≢◌}
 use mathlib.Core.Bool.{true, false, not, true≢false}
 use mathlib.Core.List.{List, [], ◌∷◌, map, Memᴰ}
-use Prim.Native.Nat.{ℕ, ◌+◌, ◌-◌, ◌*◌, ◌≤◌, ◌<◌}
+use Prim.Native.Nat.{ℕ, ◌+◌, ◌*◌, ◌≤◌, ◌<◌}
 use native.Mathlib.Omega.{arith}
 use lib.Dec.{eqb}
 use lib.ListN.{length, get_or, drop, take}
@@ -14,7 +14,7 @@ use Rattle.laws.specs.Lists.{is_empty, join_all, member}
 use Rattle.laws.specs.Members.{map_same, map_in, in_filtered, filtered_in, member_mem, mem_member}
 use Rattle.laws.proofs.SameLaws.{exact-number}
 use Rattle.graph.specs.Lent.{kept-further, cleared-kept}
-use Rattle.export.specs.Blocks.{met, block_at, total}
+use Rattle.export.specs.Blocks.{block_at, total}
 use Rattle.export.specs.BlocksLaws.{every-met, first-met, children_met, blocks-length, block-first, block_within}
 use Rattle.block_record.specs.Record.{child_in, blocks_in, order_in}
 use Rattle.block_record.specs.RecordLaws.{child-none, child-some, holds-most, holds-here, holds-none}

@@ -18,7 +18,6 @@ use Rattle.built.proofs.ListedLaws.{listed-lexicon}
 use Rattle.word_list.specs.Checks.{list_refusal}
 use Rattle.word_list.specs.declared.checking.Checked.{Checked}
 use Rattle.build.proofs.BuildLaws.{checks_refuse, checks-pass, list-refuses, work-short, work-enough}
-use borrow.Author.Rules.{rules}
 use Rattle.build.proofs.build.Goals as goal
 use Rattle.build.proofs.build.Goals.{After-check_list-checked, After-is_short, Else-is_short, Start}
 
@@ -110,4 +109,5 @@ returns-else-is_short c =
     let a = from k in
     let part = c.build_words in
     let l = listed-lexicon (list a) (sound (goal.at.Else-is_short k).After-is_short) in
-    let same = part.auto.1.0 ∙ part_length k in record { built = checks-pass (list a) (length (work a)) (lent a) (passed k) (part.ensures (words_listed (list a)) l.0 l.1); free = work-walked (passed k) (kept-part (size k) (work a) part.new.1.0 (room k) same) }
+    let same = part.auto.work ∙ part_length k in
+    record { built = checks-pass (list a) (length (work a)) (lent a) (passed k) (part.ensures (words_listed (list a)) l.0 l.1); free = work-walked (passed k) (kept-part (size k) (work a) part.new.work (room k) same) }

@@ -8,7 +8,6 @@ use Prim.Native.Nat.{ℕ, ◌+◌, ◌≤◌}
 use lib.Dec.{eqb}
 use lib.ListN.{length}
 use lib.Seq.{sets}
-use borrow.Author.Rules.{rules}
 use Rattle.laws.specs.ListWrites.{sets_append}
 use Rattle.export.specs.Blocks.{met}
 use Rattle.block_record.specs.Record.{blocks_in}

@@ -5,7 +5,6 @@ use mathlib.Core.Bool.{true, false}
 use Prim.Native.Nat.{◌+◌, ◌*◌}
 use lib.ListN.{set}
 use Rattle.built.specs.Built.{node_of}
-use borrow.Author.Rules.{rules}
 use Rattle.build.proofs.write_roots.Goals as goal
 
 pub returns : goal.returns

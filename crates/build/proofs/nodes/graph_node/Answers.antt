@@ -1,7 +1,6 @@
 -- `graph_node` meets its contract: the arc's place is one of 24 bits, and flags and tile are below it.
 use mathlib.Core.Path.{◌≡◌, ap, ◌∙◌}
 use native.Mathlib.Omega.{arith}
-use borrow.Author.Rules.{rules}
 use Rattle.node.specs.Nodes.{kbwg, arc}
 use Rattle.block_record.specs.Record.{child_in}
 use Rattle.build.proofs.nodes.graph_node.Goals as goal

@@ -1,12 +1,9 @@
 -- `run_length` meets its contract: the tails passed and those of the run that are left make the whole run.
-use Prim.Native.Nat.{◌+◌, ◌≤◌, ◌<◌}
-use native.Mathlib.Omega.{arith}
+use Prim.Native.Nat.{◌≤◌}
 use lib.ListN.{length}
-use mathlib.Core.Path.{sym, subst}
 use Rattle.shelf.specs.Shelf.{Shelf}
 use Rattle.tails.specs.Tails.{TailsIn}
-use Rattle.tails.specs.TailsLaws.{tail_at}
-use Rattle.build.proofs.RunLaws.{Passing, passing-starts, passing-goes, passing-done}
+use Rattle.build.proofs.RunLaws.{Passing}
 use Rattle.build.proofs.places.run_length.Given as goal
 
 abbrev pub invariant-loop-at : goal.invariant-loop-at
