@@ -7,8 +7,7 @@ ghost use Rattle.flat.specs.FlatBuilds.{built_of, building_of, flat_built};
 use flat::{FlatBuilt, flat_built};
 
 // Builds the graph of the words of a list.
-#[unsafe(no_mangle)]
-pub extern "C" fn machirsun_build(list: &[u8], work: &mut [u32], nodes: &mut [u32]) -> FlatBuilt
+pub fn machirsun_build(list: &[u8], work: &mut [u32], nodes: &mut [u32]) -> FlatBuilt
     ensures built { building_of result nodes.new ≡ build_as list.now (length work.old) nodes.old }
     ensures free { WorkKept (build_checks list.now (length work.old)) (8 * length list.now + 64)
         work.old work.new }

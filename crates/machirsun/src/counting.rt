@@ -7,12 +7,7 @@ ghost use Rattle.flat.specs.FlatCounts.{counted_of, flat_counted};
 use flat::{FlatCounted, flat_counted};
 
 // Puts the number of words from each node into counts.
-#[unsafe(no_mangle)]
-pub extern "C" fn machirsun_count_words(
-    nodes: &[u32],
-    counts: &mut [u32],
-    work: &mut [u32],
-) -> FlatCounted
+pub fn machirsun_count_words(nodes: &[u32], counts: &mut [u32], work: &mut [u32]) -> FlatCounted
     ensures counted { IsCounted count_limit nodes.now counts.old (length work.old) (counted_of result) counts.new }
     ensures free { WorkKept (count_row nodes.now (length counts.old) (length work.old))
         (2 * length nodes.now) work.old work.new }

@@ -10,8 +10,7 @@ use flat::{FlatFile, flat_lxd, flat_macondo, format_numbered};
 use macondo::Macondo;
 
 // Writes the words of a graph as a Macondo file.
-#[unsafe(no_mangle)]
-pub extern "C" fn machirsun_to_macondo(
+pub fn machirsun_to_macondo(
     nodes: &[u32],
     labels: &[u32],
     name: &[u8],
@@ -31,8 +30,7 @@ pub extern "C" fn machirsun_to_macondo(
 }
 
 // Writes the LXD file of the words from node 0's arc.
-#[unsafe(no_mangle)]
-pub extern "C" fn machirsun_to_lxd(
+pub fn machirsun_to_lxd(
     nodes: &[u32],
     labels: &[u32],
     title: &[u32],

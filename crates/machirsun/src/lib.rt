@@ -1,4 +1,4 @@
-// The engine for programs in C, and in languages that call C. Every answer is flat: the number of the refusal, or 0, and then its values.
+// The engine's calls as `machirsun_c` exports them. Every answer is flat: the number of the refusal, or 0, and then its values.
 #![tactic(auto)]
 
 mod building;
@@ -11,13 +11,15 @@ mod playing;
 mod sets;
 mod typing;
 
-// The calls that the crates `replay` and `evening_cases` make. Every `extern "C"` function is in the static library.
 pub use building::machirsun_build;
 pub use counting::machirsun_count_words;
 pub use files::{machirsun_to_lxd, machirsun_to_macondo};
-pub use loading::{machirsun_begin, machirsun_feed, machirsun_finish, machirsun_repack};
+pub use loading::{
+    machirsun_begin, machirsun_feed, machirsun_finish, machirsun_load_in_pieces, machirsun_repack,
+};
 pub use lookups::{
-    machirsun_cursor_step, machirsun_seek, machirsun_word_by_index, machirsun_word_index,
+    machirsun_cursor_at, machirsun_cursor_step, machirsun_seek, machirsun_word_by_index,
+    machirsun_word_index,
 };
 pub use pages::machirsun_write_page;
 pub use playing::{machirsun_arrive, machirsun_leave};

@@ -15,8 +15,7 @@ use flat::{
 use load::Loader;
 
 // Puts the nodes in bytes into the other layout, where they stand.
-#[unsafe(no_mangle)]
-pub extern "C" fn machirsun_repack(bytes: &mut [u8], from: u32, to: u32) -> FlatRepacked
+pub fn machirsun_repack(bytes: &mut [u8], from: u32, to: u32) -> FlatRepacked
     ensures answer { repacked_of result ≡ repack_answer (bit_layout (layout_of from)) (bit_layout (layout_of to)) bytes.old }
     ensures rewritten { bytes.new ≡ repacked_bytes (bit_layout (layout_of from)) (bit_layout (layout_of to)) bytes.old }
     ensures flat { result ≡ flat_repacked (repacked_of result) }
@@ -27,8 +26,7 @@ pub extern "C" fn machirsun_repack(bytes: &mut [u8], from: u32, to: u32) -> Flat
 }
 
 // Announces a file of so many bytes. Of the nodes only their number counts.
-#[unsafe(no_mangle)]
-pub extern "C" fn machirsun_begin(announced: usize, layout: u32, nodes: &[u32]) -> FlatBegun
+pub fn machirsun_begin(announced: usize, layout: u32, nodes: &[u32]) -> FlatBegun
     ensures answer { begun_of result ≡ begin announced (layout_of layout) (length nodes.now) }
     ensures flat { result ≡ flat_begun (begun_of result) }
 {
@@ -42,8 +40,7 @@ pub extern "C" fn machirsun_begin(announced: usize, layout: u32, nodes: &[u32]) 
 }
 
 // The next piece of the file, of any length.
-#[unsafe(no_mangle)]
-pub extern "C" fn machirsun_feed(loader: FlatLoader, piece: &[u8], nodes: &mut [u32]) -> FlatFed
+pub fn machirsun_feed(loader: FlatLoader, piece: &[u8], nodes: &mut [u32]) -> FlatFed
     ensures answer { fed_of result nodes.new ≡ feed (state_of loader) nodes.old piece.now }
     ensures flat { result ≡ flat_fed (fed_of result nodes.new) }
 {
@@ -61,8 +58,7 @@ pub extern "C" fn machirsun_feed(loader: FlatLoader, piece: &[u8], nodes: &mut [
 }
 
 // The end of the file: the number of its nodes, once they are found sound.
-#[unsafe(no_mangle)]
-pub extern "C" fn machirsun_finish(loader: FlatLoader, nodes: &mut [u32]) -> FlatFinished
+pub fn machirsun_finish(loader: FlatLoader, nodes: &mut [u32]) -> FlatFinished
     ensures answer { finishes_of result nodes.new ≡ finish (state_of loader) nodes.old }
     ensures flat { result ≡ flat_finished (finished_of result) }
 {
@@ -70,8 +66,7 @@ pub extern "C" fn machirsun_finish(loader: FlatLoader, nodes: &mut [u32]) -> Fla
 }
 
 // A whole load: begin, a feed of each piece and of the rest, finish. Each feed's answer goes to answers.
-#[unsafe(no_mangle)]
-pub extern "C" fn machirsun_load_in_pieces(
+pub fn machirsun_load_in_pieces(
     announced: usize,
     layout: u32,
     bytes: &[u8],

@@ -10,8 +10,7 @@ use cursor::Stepped;
 use flat::{FlatCursor, FlatIndex, FlatSought, FlatWord, flat_index, flat_sought, flat_word};
 
 // The node with the tile in the run that the arc of a node leads to, and how many words of the run come before it.
-#[unsafe(no_mangle)]
-pub extern "C" fn machirsun_seek(nodes: &[u32], counts: &[u32], place: u32, tile: u8) -> FlatSought
+pub fn machirsun_seek(nodes: &[u32], counts: &[u32], place: u32, tile: u8) -> FlatSought
     ensures answer { sought_of result ≡ seek nodes.now counts.now place tile }
     ensures names { NamesBefore nodes.now counts.now place tile (sought_of result) }
     ensures flat { result ≡ flat_sought (sought_of result) }
@@ -20,8 +19,7 @@ pub extern "C" fn machirsun_seek(nodes: &[u32], counts: &[u32], place: u32, tile
 }
 
 // A cursor at a node. At one that is not lent it is refused, and so is each step from it.
-#[unsafe(no_mangle)]
-pub extern "C" fn machirsun_cursor_at(nodes: &[u32], at: u32) -> FlatCursor
+pub fn machirsun_cursor_at(nodes: &[u32], at: u32) -> FlatCursor
     ensures answer { cursor_of result ≡ made_at nodes.now at }
     ensures flat { result ≡ flat_cursor (cursor_of result) }
 {
@@ -41,8 +39,7 @@ pub extern "C" fn machirsun_cursor_at(nodes: &[u32], at: u32) -> FlatCursor
 }
 
 // The cursor one node on; at an end it is done and stays.
-#[unsafe(no_mangle)]
-pub extern "C" fn machirsun_cursor_step(nodes: &[u32], at: u32) -> FlatCursor
+pub fn machirsun_cursor_step(nodes: &[u32], at: u32) -> FlatCursor
     ensures answer { cursor_of result ≡ moves nodes.now at }
     ensures flat { result ≡ flat_cursor (cursor_of result) }
 {
@@ -69,13 +66,7 @@ pub extern "C" fn machirsun_cursor_step(nodes: &[u32], at: u32) -> FlatCursor
 }
 
 // The number of a word among those from a node.
-#[unsafe(no_mangle)]
-pub extern "C" fn machirsun_word_index(
-    nodes: &[u32],
-    counts: &[u32],
-    start: u32,
-    word: &[u8],
-) -> FlatIndex
+pub fn machirsun_word_index(nodes: &[u32], counts: &[u32], start: u32, word: &[u8]) -> FlatIndex
     ensures answer { index_of result ≡ word_index count_limit nodes.now counts.now start word.now }
     ensures flat { result ≡ flat_index (index_of result) }
 {
@@ -83,8 +74,7 @@ pub extern "C" fn machirsun_word_index(
 }
 
 // Puts the tiles of the word with the number among those from a node.
-#[unsafe(no_mangle)]
-pub extern "C" fn machirsun_word_by_index(
+pub fn machirsun_word_by_index(
     nodes: &[u32],
     counts: &[u32],
     start: u32,

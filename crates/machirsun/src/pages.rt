@@ -7,8 +7,7 @@ ghost use Rattle.flat.specs.FlatPages.{page_of};
 use flat::page_refusal;
 
 // Writes a page of the words from the start with the numbers from the first one on; answers the number of the refusal, or 0.
-#[unsafe(no_mangle)]
-pub extern "C" fn machirsun_write_page(
+pub fn machirsun_write_page(
     nodes: &[u32],
     counts: &[u32],
     labels: &[u32],

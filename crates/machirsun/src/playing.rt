@@ -8,8 +8,7 @@ ghost use Rattle.flat.specs.FlatPlays.{play_of, played_of, flat_play};
 use flat::{FlatInPlay, flat_in_play};
 
 // A word of the start comes into play.
-#[unsafe(no_mangle)]
-pub extern "C" fn machirsun_arrive(
+pub fn machirsun_arrive(
     nodes: &[u32],
     counts: &[u32],
     start: u32,
@@ -24,8 +23,7 @@ pub extern "C" fn machirsun_arrive(
 }
 
 // A word of the start is withdrawn.
-#[unsafe(no_mangle)]
-pub extern "C" fn machirsun_leave(
+pub fn machirsun_leave(
     nodes: &[u32],
     counts: &[u32],
     start: u32,

@@ -7,8 +7,7 @@ ghost use Rattle.flat.specs.FlatSets.{bits_of, accepts_of, flat_accepts, cross_o
 use flat::{FlatAccepts, FlatCross, bits_refusal, flat_accepts, flat_cross};
 
 // Writes for each node all tiles, and the accepting tiles, from it to its run's end; answers the number of the refusal, or 0.
-#[unsafe(no_mangle)]
-pub extern "C" fn machirsun_letter_bits(
+pub fn machirsun_letter_bits(
     nodes: &[u32],
     letter_bits: &mut [u64],
     accepting_bits: &mut [u64],
@@ -20,8 +19,7 @@ pub extern "C" fn machirsun_letter_bits(
 }
 
 // Whether the letters of the tally, entry 0 left out, spell a word in ascending order.
-#[unsafe(no_mangle)]
-pub extern "C" fn machirsun_accepts_alpha(nodes: &[u32], tally: &[u8]) -> FlatAccepts
+pub fn machirsun_accepts_alpha(nodes: &[u32], tally: &[u8]) -> FlatAccepts
     ensures answer { accepts_of result ≡ accepts_alpha nodes.now tally.now }
     ensures flat { result ≡ flat_accepts (accepts_of result) }
 {
@@ -29,8 +27,7 @@ pub extern "C" fn machirsun_accepts_alpha(nodes: &[u32], tally: &[u8]) -> FlatAc
 }
 
 // The tiles that make a word with the letters of the tally; bit 0 is always set.
-#[unsafe(no_mangle)]
-pub extern "C" fn machirsun_alpha_cross_set(nodes: &[u32], tally: &[u8]) -> FlatCross
+pub fn machirsun_alpha_cross_set(nodes: &[u32], tally: &[u8]) -> FlatCross
     ensures answer { cross_of result ≡ cross_set nodes.now tally.now }
     ensures flat { result ≡ flat_cross (cross_of result) }
 {

@@ -9,13 +9,7 @@ ghost use Rattle.flat.specs.FlatTyped.{typed_of, flat_typed, typed_list_of, flat
 use flat::{FlatTyped, FlatTypedList, flat_typed, flat_typed_list};
 
 // Puts the tiles of the next line that is not empty, from a place of the text on.
-#[unsafe(no_mangle)]
-pub extern "C" fn machirsun_next_word(
-    labels: &[u8],
-    text: &[u8],
-    at: usize,
-    word: &mut [u8],
-) -> FlatTyped
+pub fn machirsun_next_word(labels: &[u8], text: &[u8], at: usize, word: &mut [u8]) -> FlatTyped
     ensures answer { Filled (next_word labels.now text.now (length word.old) at)
         word.old word.new (typed_of result) }
     ensures flat { result ≡ flat_typed (typed_of result) }
@@ -24,8 +18,7 @@ pub extern "C" fn machirsun_next_word(
 }
 
 // Puts the tiles of as many lines that are not empty as there is room for, from a place of the text on, and how many each has.
-#[unsafe(no_mangle)]
-pub extern "C" fn machirsun_read_words(
+pub fn machirsun_read_words(
     labels: &[u8],
     text: &[u8],
     at: usize,

@@ -1,0 +1,66 @@
+// Lookups in a loaded graph: a tile in a run, the steps along a run, words and their numbers.
+ghost use Rattle.std.specs.Prelude.{◌≡◌, length};
+ghost use Rattle.graph.specs.Counting.{count_limit};
+ghost use Rattle.lookup.specs.Walks.{seek, word_index, word_by_index};
+ghost use Rattle.lookup.specs.WordsBefore.{NamesBefore};
+ghost use Rattle.cursor.specs.RunSteps.{moves};
+ghost use Rattle.flat.specs.FlatLookups.{sought_of, flat_sought, made_at, cursor_of, flat_cursor, index_of, flat_index, FlatWordPut};
+
+use flat::{FlatCursor, FlatIndex, FlatSought, FlatWord};
+
+// The node with the tile in the run that the arc of a node leads to, and how many words of the run come before it.
+#[unsafe(no_mangle)]
+pub extern "C" fn machirsun_seek(nodes: &[u32], counts: &[u32], place: u32, tile: u8) -> FlatSought
+    ensures answer { sought_of result ≡ seek nodes.now counts.now place tile }
+    ensures names { NamesBefore nodes.now counts.now place tile (sought_of result) }
+    ensures flat { result ≡ flat_sought (sought_of result) }
+{
+    machirsun::machirsun_seek(nodes, counts, place, tile)
+}
+
+// A cursor at a node. At one that is not lent it is refused, and so is each step from it.
+#[unsafe(no_mangle)]
+pub extern "C" fn machirsun_cursor_at(nodes: &[u32], at: u32) -> FlatCursor
+    ensures answer { cursor_of result ≡ made_at nodes.now at }
+    ensures flat { result ≡ flat_cursor (cursor_of result) }
+{
+    machirsun::machirsun_cursor_at(nodes, at)
+}
+
+// The cursor one node on; at an end it is done and stays.
+#[unsafe(no_mangle)]
+pub extern "C" fn machirsun_cursor_step(nodes: &[u32], at: u32) -> FlatCursor
+    ensures answer { cursor_of result ≡ moves nodes.now at }
+    ensures flat { result ≡ flat_cursor (cursor_of result) }
+{
+    machirsun::machirsun_cursor_step(nodes, at)
+}
+
+// The number of a word among those from a node.
+#[unsafe(no_mangle)]
+pub extern "C" fn machirsun_word_index(
+    nodes: &[u32],
+    counts: &[u32],
+    start: u32,
+    word: &[u8],
+) -> FlatIndex
+    ensures answer { index_of result ≡ word_index count_limit nodes.now counts.now start word.now }
+    ensures flat { result ≡ flat_index (index_of result) }
+{
+    machirsun::machirsun_word_index(nodes, counts, start, word)
+}
+
+// Puts the tiles of the word with the number among those from a node.
+#[unsafe(no_mangle)]
+pub extern "C" fn machirsun_word_by_index(
+    nodes: &[u32],
+    counts: &[u32],
+    start: u32,
+    number: u32,
+    word: &mut [u8],
+) -> FlatWord
+    ensures { FlatWordPut (word_by_index counts.now nodes.now (length word.old) start number)
+        word.old word.new result }
+{
+    machirsun::machirsun_word_by_index(nodes, counts, start, number, word)
+}
