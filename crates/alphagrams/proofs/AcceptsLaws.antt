@@ -12,7 +12,7 @@ use Rattle.laws.specs.Members.{map_in}
 use Rattle.node.specs.Nodes.{kbwg, tile, arc, accepts, is_end}
 use Rattle.graph.specs.Runs.{Graph, node, ascends}
 use Rattle.graph.specs.Words.{Word, words, spelled}
-use Rattle.graph.specs.CountLaws.{words-end, words-on}
+use Rattle.graph.proofs.CountEquationLaws.{words-end, words-on}
 use Rattle.lookup.specs.Steps.{Try, on, stop, ◌>>=◌}
 use Rattle.lookup.specs.Walks.{arc_of, step_to}
 use Rattle.lookup.specs.StepsLaws.{lent-on}

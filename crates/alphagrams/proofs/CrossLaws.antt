@@ -18,8 +18,8 @@ use Rattle.node.specs.Nodes.{kbwg, tile, arc, accepts, is_end}
 use Rattle.graph.specs.Runs.{Graph, node, run, ascends}
 use Rattle.graph.specs.Words.{Word, words, spelled, in_order}
 use Rattle.graph.proofs.WordsAscend.{From, BeginsWith, heads, spelled-begins, ascends-drop, words-nonempty}
-use Rattle.graph.specs.WordsEquation.{words-equation}
-use Rattle.graph.specs.CountLaws.{words-end, words-on}
+use Rattle.graph.proofs.WordsEquationLaws.{words-equation}
+use Rattle.graph.proofs.CountEquationLaws.{words-end, words-on}
 use Rattle.lookup.specs.Steps.{Try, on, stop}
 use Rattle.lookup.specs.StepsLaws.{on_eq}
 use Rattle.numbers.specs.Walkable.{Walkable}

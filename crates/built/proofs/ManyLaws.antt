@@ -18,7 +18,7 @@ use Rattle.graph.specs.Counting.{Counts}
 use Rattle.graph.specs.RunLaws.{run-last}
 use Rattle.graph.specs.Runs.{Graph, run}
 use Rattle.graph.specs.Words.{Word, count, in_order, spelled, words}
-use Rattle.graph.specs.WordsEquation.{words-equation}
+use Rattle.graph.proofs.WordsEquationLaws.{words-equation}
 use Rattle.export.specs.BlocksLaws.{among-blocks, every-met}
 use Rattle.built.specs.BranchLaws.{all-some, branch-rests, branches-words, lexicon-longer, onwards-lexicon, words_of, words_of_all}
 use Rattle.built.specs.Branches.{Branch, branches, first_tiles, onward, onwards}

@@ -8,7 +8,8 @@ use Rattle.node.specs.Nodes.{BitLayout, kbwg, arc}
 use Rattle.graph.specs.Loops.{Clear}
 use Rattle.graph.specs.Runs.{Graph, run}
 use Rattle.graph.specs.Words.{Word, in_order, words, words_within}
-use Rattle.graph.specs.WordsEquation.{Short, clear-short, no_run, words-within_stable}
+use Rattle.graph.specs.WordsEquation.{Short, clear-short, no_run}
+use Rattle.graph.proofs.WordsEquationLaws.{words-within_stable}
 use Rattle.export.specs.Blocks.{met}
 use Rattle.built.specs.BranchLaws.{lexicon-longer}
 use Rattle.built.specs.Branches.{branches, onwards}

@@ -14,7 +14,8 @@ use Rattle.graph.specs.Words.{count}
 use Rattle.graph.specs.Loops.{Step, Reach, once, then, Loops, Clear}
 use Rattle.graph.specs.ChecksLaws.{Fit}
 use Rattle.graph.specs.LoopLaws.{step-inside, clear_above}
-use Rattle.graph.specs.CountLaws.{sum_at, count-equation, sum-capped}
+use Rattle.graph.specs.CountLaws.{sum_at, sum-capped}
+use Rattle.graph.proofs.CountEquationLaws.{count-equation}
 use Rattle.graph.specs.Lent.{kept-all, kept_set}
 use Rattle.loops.specs.NodeMarks.{mark, done, stacked, node_pushed, is_met}
 use Rattle.loops.specs.NodeMarksLaws.{sum-keeps-at, sum-rises-at, mets_le, one-not-met, pushed-mark, pushed-others, pushed-top, pushed-below, pushed-kept}

@@ -49,7 +49,7 @@ pub fn run_step(nodes: &[u32], at: u32) -> Stepped
 
 // The same step with the node reached: the one answered, else the one before.
 fn step_from(nodes: &[u32], at: u32) -> Moved
-    ensures { moved_as result ≡ moves nodes.now at }
+    ensures moved { moved_as result ≡ moves nodes.now at }
 {
     let answer = run_step(nodes, at);
     match answer {

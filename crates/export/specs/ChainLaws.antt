@@ -18,7 +18,8 @@ use Rattle.graph.specs.Runs.{Graph, node}
 use Rattle.graph.specs.Words.{in_order, spelled, words_within, words}
 use Rattle.graph.specs.ChecksLaws.{Closed}
 use Rattle.graph.specs.RunLaws.{in_graph}
-use Rattle.graph.specs.WordsEquation.{in_order_ext, spelled_ext, Short, words-within_stable}
+use Rattle.graph.specs.WordsEquation.{in_order_ext, Short}
+use Rattle.graph.proofs.WordsEquationLaws.{spelled_ext, words-within_stable}
 use Rattle.export.specs.Starts.{run_of, has_arc, arcs_from, deeper}
 use Rattle.export.specs.BlocksLaws.{Low}
 

@@ -2,3 +2,5 @@
 mod CheckRows
 pub mod CountedOnce
 pub mod WordsAscend
+pub mod WordsEquationLaws
+pub mod CountEquationLaws

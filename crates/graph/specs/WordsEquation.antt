@@ -1,13 +1,13 @@
--- Where nothing at or below a node loops, its words satisfy the equation of document 01. The idea: a path that never comes back
--- to a node ends before it has followed as many arcs as there are nodes, so more turns of `words_within` change nothing.
+-- What words are made of where nothing at or below a node loops: a path that never comes back to a node ends before it has followed
+-- as many arcs as there are nodes (`clear-short`).
 use Rattle.std.specs.Prelude.{◌≡◌, ◌≢◌, ◌⊎◌, eqb, ltb}
 use Rattle.std.proofs.Math.Path.{refl, sym, ap, subst}
-use Rattle.std.proofs.Common.{ap₂, ◌∙◌, zero-add, suc-add, eqb-true, ltb-true, ltb-false, length-drop, drop_of_length-le, drop-cons}
+use Rattle.std.proofs.Common.{ap₂, ◌∙◌, eqb-true, ltb-true, ltb-false, length-drop, drop_of_length-le, drop-cons}
 use Rattle.std.proofs.Math.Logic.{inl, inr, ⊎_elim}
 use mathlib.Core.List.{List, [], ◌∷◌, ◌++◌, head-eq_of_cons-eq, tail-eq_of_cons-eq}
 use mathlib.Core.List.Memᴰ
 use mathlib.Core.List.{Memᴰ}
-use Prim.Native.Nat.{ℕ, zero, suc, ◌+◌, ◌-◌, ◌≤◌, ◌<◌}
+use Prim.Native.Nat.{ℕ, zero, suc, ◌-◌, ◌≤◌, ◌<◌}
 use native.Mathlib.Omega.{arith}
 use Rattle.std.proofs.lemmas.Bool.{eqb-false}
 use Rattle.std.proofs.Math.ListN.{length, drop}
@@ -35,14 +35,6 @@ module _ (y : BitLayout) where
       let k : length l ≡ suc (length l) - 1 = omega arith in
       ap (λ n. in_order (spelled y (λ q. words_within y n (v ∷ l) q)) (run y (drop p (v ∷ l)))) k
 
-  -- ---- enough fuel
-  pub spelled_ext : (f h : ℕ → List Word) (v : ℕ) → (arc y v ≢ 0 → f (arc y v) ≡ h (arc y v)) → spelled y f v ≡ spelled y h v
-  unfolding spelled
-  spelled_ext f h v e =
-      split (eqb (arc y v) 0)
-      (λ z. rw (z, spelled))
-      (λ z. rw (z, spelled, e (eqb-false (arc y v) 0 z)))
-
   -- every path from p follows fewer than k arcs, or leaves the graph by the last of k
   abbrev pub Short : Graph → ℕ → ℕ → Type 0
   Short g zero p = length g ≤ p
@@ -55,13 +47,6 @@ module _ (y : BitLayout) where
   short-outside : (g : Graph) (k p : ℕ) → length g ≤ p → Short g k p
   short-outside g zero p h = h
   short-outside g (suc k) p h = λ v m n. absurd (Memᴰ.not-nil (rw (no_run g p h) at m))
-
-  pub words-within_stable : (g : Graph) (k p : ℕ) → Short g k p → words_within y (suc k) g p ≡ words_within y k g p
-  unfolding words_within in_order
-  words-within_stable g zero p s = rw (no_run g p s)
-  words-within_stable g (suc k) p s =
-      in_order_ext (spelled y (λ q. words_within y (suc k) g q)) (spelled y (λ q. words_within y k g q)) (run y (drop p g))
-      (λ v m. spelled_ext (λ q. words_within y (suc k) g q) (λ q. words_within y k g q) v (λ n. words-within_stable g k (arc y v) (s v m n)))
 
   -- ---- no loop: no path is long
   pub Reach_trans : {g : Graph} {p q r : ℕ} → Reach y g p q → Reach y g q r → Reach y g p r
@@ -140,26 +125,3 @@ module _ (y : BitLayout) where
     pub clear-short : (p : ℕ) → Clear y g p → Short g (length g) p
     clear-short p c =
         short (length g) (below (length g)) (let h = length-below (length g) in omega arith) p c (λ x l. inl (in_below (length g) x l))
-
-    -- "Words from p: for each node of the run in order, its tile alone if it accepts; then, where its arc is not 0, its tile before
-    -- each word from the arc."
-    pub words-equation : (p : ℕ) → Clear y g p → words y g p ≡ in_order (spelled y (words y g)) (run y (drop p g))
-    unfolding words words_within
-    words-equation p c = sym (words-within_stable g (length g) p (clear-short p c))
-
-    -- ---- and more turns than nodes give no more words
-    short-more : (k p : ℕ) → Short g k p → Short g (suc k) p
-    short-more zero p s = λ v m n. absurd (Memᴰ.not-nil (rw (no_run g p s) at m))
-    short-more (suc k) p s = λ v m n. short-more k (arc y v) (s v m n)
-
-    short-by : (d k p : ℕ) → Short g k p → Short g (d + k) p
-    short-by zero k p s = rw zero-add s
-    short-by (suc d) k p s = rw suc-add (short-more (d + k) p (short-by d k p s))
-
-    within_by : (d k p : ℕ) → Short g k p → words_within y (d + k) g p ≡ words_within y k g p
-    within_by zero k p s = rw zero-add
-    within_by (suc d) k p s = rw suc-add (words-within_stable g (d + k) p (short-by d k p s) ∙ within_by d k p s)
-
-    pub clear_within : (d p : ℕ) → Clear y g p → words_within y (d + length g) g p ≡ words y g p
-    unfolding words
-    clear_within d p c = within_by d (length g) p (clear-short p c)

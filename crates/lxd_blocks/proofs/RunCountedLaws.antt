@@ -14,7 +14,8 @@ use Rattle.base.specs.Numbers.{flag, most}
 use Rattle.node.specs.Nodes.{kbwg, arc, accepts}
 use Rattle.graph.specs.Runs.{Graph}
 use Rattle.graph.specs.Words.{Word, in_order, spelled, words_within}
-use Rattle.graph.specs.CountLaws.{by_arc, length-spelled}
+use Rattle.graph.specs.CountLaws.{by_arc}
+use Rattle.graph.proofs.CountEquationLaws.{length-spelled}
 use Rattle.export.specs.Starts.{run_of, has_arc}
 use Rattle.survey.specs.ByArc.{counted-by-arc}
 use Rattle.block_record.specs.Depths.{Deepest}

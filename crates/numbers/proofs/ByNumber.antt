@@ -17,7 +17,7 @@ use Rattle.node.specs.Nodes.{tile, arc, accepts, accepts_bit, kbwg, is_end}
 use Rattle.graph.specs.Runs.{Graph, node}
 use Rattle.graph.specs.Words.{Word, spelled, words, count}
 use Rattle.graph.proofs.WordsAscend.{From, words-nonempty}
-use Rattle.graph.specs.CountLaws.{words-end, words-on}
+use Rattle.graph.proofs.CountEquationLaws.{words-end, words-on}
 use Rattle.lookup.specs.StepsLaws.{difference-on}
 use Rattle.lookup.specs.Walks.{Turn, last, down, words_between, words_here, turn_in, word_from}
 use Rattle.numbers.specs.RunWords.{accepts-one, accepts-zero, spelled-alone, spelled_both, spelled_none, spelled-arc, own-word}

@@ -14,7 +14,7 @@ use Rattle.graph.specs.Order.{◌≺◌, Ascending}
 use Rattle.graph.specs.Checks.{graph_row}
 use Rattle.graph.specs.Counting.{counts, count_row, IsCounted, unfit, all, Counts}
 use Rattle.graph.proofs.WordsAscend.{≺-differ, words_ascend}
-use Rattle.graph.specs.WordsEquation.{words-equation}
+use Rattle.graph.proofs.WordsEquationLaws.{words-equation}
 use Rattle.lookup.specs.Steps.{lent_part}
 use Rattle.lookup.specs.Walks.{word_index}
 use Rattle.laws.specs.Tables.{table-length}

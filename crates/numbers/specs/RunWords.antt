@@ -9,7 +9,7 @@ use Rattle.node.specs.Nodes.{tile, arc, accepts, accepts_bit, kbwg, is_end}
 use Rattle.graph.specs.Runs.{Graph, node}
 use Rattle.graph.specs.Words.{Word, spelled, words, count}
 use Rattle.graph.specs.Loops.{Clear}
-use Rattle.graph.specs.CountLaws.{words-end, words-on}
+use Rattle.graph.proofs.CountEquationLaws.{words-end, words-on}
 
 pub accepts-one : (v : ℕ) → accepts kbwg v ≡ true → accepts_bit kbwg v ≡ 1
 accepts-one v e = eqb-true (accepts_bit kbwg v) 1 e

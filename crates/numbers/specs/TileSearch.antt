@@ -12,7 +12,7 @@ use Rattle.graph.specs.Runs.{Graph, node, ascends}
 use Rattle.graph.specs.Words.{Word, spelled, words}
 use Rattle.laws.specs.Lists.{all_mem}
 use Rattle.graph.proofs.WordsAscend.{words-nonempty, From, ascends-next, words-from-tile}
-use Rattle.graph.specs.CountLaws.{words-end, words-on}
+use Rattle.graph.proofs.CountEquationLaws.{words-end, words-on}
 use Rattle.lookup.proofs.FoundLaws.{AllBelow, below-not_in}
 use Rattle.numbers.specs.RunWords.{spelled-alone, spelled_both, spelled_none, spelled-arc}
 use Rattle.numbers.specs.Walkable.{Walkable}

@@ -14,7 +14,7 @@ use Rattle.base.specs.Numbers.{most}
 use Rattle.node.specs.Nodes.{kbwg, arc, is_end}
 use Rattle.graph.specs.Runs.{Graph, node}
 use Rattle.graph.specs.Words.{Word, in_order, spelled, words_within}
-use Rattle.graph.specs.CountLaws.{length-spelled}
+use Rattle.graph.proofs.CountEquationLaws.{length-spelled}
 use Rattle.export.specs.Starts.{run_of, has_arc, deeper}
 use Rattle.export.specs.RunOfLaws.{run_ends, run-goes-on, some-run}
 use Rattle.survey.specs.ByArc.{where_there, counted-by-arc}

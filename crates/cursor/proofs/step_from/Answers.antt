@@ -16,10 +16,10 @@ module _ (c : After-run_step-answer) where
   told e = ap (λ a. record { answer = a; at = node_reached a asked.args.at }) (ap said_step (sym e) ∙ c.run_step-answer.ensures)
 
 pub returns-in-To : goal.returns-in-To
-returns-in-To c = told (goal.at.returns-in-To c).After-run_step-answer c.in-To.is
+returns-in-To c = record { moved = told (goal.at.returns-in-To c).After-run_step-answer c.in-To.is }
 
 pub returns-in-Done : goal.returns-in-Done
-returns-in-Done c = told (goal.at.returns-in-Done c).After-run_step-answer c.in-Done.is
+returns-in-Done c = record { moved = told (goal.at.returns-in-Done c).After-run_step-answer c.in-Done.is }
 
 pub returns-in-NotLent : goal.returns-in-NotLent
-returns-in-NotLent c = told (goal.at.returns-in-NotLent c).After-run_step-answer c.in-NotLent.is
+returns-in-NotLent c = record { moved = told (goal.at.returns-in-NotLent c).After-run_step-answer c.in-NotLent.is }
