@@ -5,7 +5,6 @@ use Prim.Native.Nat.{ℕ}
 use lib.ListN.{get_or}
 use native.Mathlib.Omega.{arith}
 use Rattle.node.specs.Nodes.{arc, kbwg}
-use borrow.Author.Rules.{rules}
 use Rattle.loops.proofs.next.mark_by_arc.Goals as goal
 
 pub returns-then-arc-eq0 : goal.returns-then-arc-eq0
