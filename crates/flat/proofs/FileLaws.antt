@@ -1,13 +1,9 @@
 -- A writer's answer that is neither a file nor an arc past the end: its number is all that it says.
 use mathlib.Core.Path.{◌≡◌, refl}
-use mathlib.Core.List.{[], ◌∷◌}
-use types.Run.{OneOf, miss}
-use denote.Enum.Declared.{tag_of}
-use Rattle.macondo.specs.contracts.Macondo as macondo
+use Prim.Native.Nat.{ℕ}
 use Rattle.macondo.specs.Said.{said_macondo}
 use Rattle.macondo.specs.declared.Macondo.{Macondo}
 use Rattle.macondo.specs.declared.Macondo.TheVariants as M
-use Rattle.lxd.specs.contracts.Lxd as lxd
 use Rattle.lxd.specs.Said.{said_lxd}
 use Rattle.lxd.specs.declared.Lxd.{Lxd}
 use Rattle.lxd.specs.declared.Lxd.TheVariants as L
@@ -23,36 +19,34 @@ number_only a = record { refusal = refusal_in a; arc = 0; written = 0 }
 abbrev pub Says : Answer → Type 0
 Says a = (file_of (number_only a) ≡ a) × (number_only a ≡ flat_file (file_of (number_only a)))
 
-pub macondo-says : (x : Macondo)
-    → OneOf (1 ∷ 3 ∷ 4 ∷ 5 ∷ 6 ∷ 7 ∷ 8 ∷ 9 ∷ 10 ∷ 11 ∷ 12 ∷ []) (tag_of macondo.the_type x) → Says (said_macondo x)
-macondo-says (M.Written n) h = absurd (miss (1 ∷ 3 ∷ 4 ∷ 5 ∷ 6 ∷ 7 ∷ 8 ∷ 9 ∷ 10 ∷ 11 ∷ 12 ∷ []) 0 tt h)
-macondo-says (M.ArcPastEnd r) h = absurd (miss (1 ∷ 3 ∷ 4 ∷ 5 ∷ 6 ∷ 7 ∷ 8 ∷ 9 ∷ 10 ∷ 11 ∷ 12 ∷ []) 2 tt h)
-macondo-says M.WrongSize h = (refl, refl)
-macondo-says M.NoEnd h = (refl, refl)
-macondo-says M.LabelCount h = (refl, refl)
-macondo-says M.NameTooLong h = (refl, refl)
-macondo-says M.NoLabel h = (refl, refl)
-macondo-says M.NotAscending h = (refl, refl)
-macondo-says M.WorkTooShort h = (refl, refl)
-macondo-says M.ChainTooLong h = (refl, refl)
-macondo-says M.NotOneCodePoint h = (refl, refl)
-macondo-says M.TooManyNodes h = (refl, refl)
-macondo-says M.FileTooShort h = (refl, refl)
+pub macondo-says : (x : Macondo) → ((n : ℕ) → x ≡ M.Written n → ⊥) → ((r : ℕ) → x ≡ M.ArcPastEnd r → ⊥) → Says (said_macondo x)
+macondo-says (M.Written n) w a = absurd (w n refl)
+macondo-says (M.ArcPastEnd r) w a = absurd (a r refl)
+macondo-says M.WrongSize w a = (refl, refl)
+macondo-says M.NoEnd w a = (refl, refl)
+macondo-says M.LabelCount w a = (refl, refl)
+macondo-says M.NameTooLong w a = (refl, refl)
+macondo-says M.NoLabel w a = (refl, refl)
+macondo-says M.NotAscending w a = (refl, refl)
+macondo-says M.WorkTooShort w a = (refl, refl)
+macondo-says M.ChainTooLong w a = (refl, refl)
+macondo-says M.NotOneCodePoint w a = (refl, refl)
+macondo-says M.TooManyNodes w a = (refl, refl)
+macondo-says M.FileTooShort w a = (refl, refl)
 
-pub lxd-says : (x : Lxd)
-    → OneOf (1 ∷ 3 ∷ 4 ∷ 5 ∷ 6 ∷ 7 ∷ 8 ∷ 9 ∷ 10 ∷ 11 ∷ 12 ∷ 13 ∷ 14 ∷ []) (tag_of lxd.the_type x) → Says (said_lxd x)
-lxd-says (L.Written n) h = absurd (miss (1 ∷ 3 ∷ 4 ∷ 5 ∷ 6 ∷ 7 ∷ 8 ∷ 9 ∷ 10 ∷ 11 ∷ 12 ∷ 13 ∷ 14 ∷ []) 0 tt h)
-lxd-says (L.ArcPastEnd r) h = absurd (miss (1 ∷ 3 ∷ 4 ∷ 5 ∷ 6 ∷ 7 ∷ 8 ∷ 9 ∷ 10 ∷ 11 ∷ 12 ∷ 13 ∷ 14 ∷ []) 2 tt h)
-lxd-says L.WrongSize h = (refl, refl)
-lxd-says L.NoEnd h = (refl, refl)
-lxd-says L.TitleNotWindows1252 h = (refl, refl)
-lxd-says L.TitleTooLong h = (refl, refl)
-lxd-says L.DateNotWindows1252 h = (refl, refl)
-lxd-says L.DateTooLong h = (refl, refl)
-lxd-says L.NoLabel h = (refl, refl)
-lxd-says L.WorkTooShort h = (refl, refl)
-lxd-says L.ChainTooLong h = (refl, refl)
-lxd-says L.LetterNotWindows1252 h = (refl, refl)
-lxd-says L.TooManyWords h = (refl, refl)
-lxd-says L.TooManyNodes h = (refl, refl)
-lxd-says L.FileTooShort h = (refl, refl)
+pub lxd-says : (x : Lxd) → ((n : ℕ) → x ≡ L.Written n → ⊥) → ((r : ℕ) → x ≡ L.ArcPastEnd r → ⊥) → Says (said_lxd x)
+lxd-says (L.Written n) w a = absurd (w n refl)
+lxd-says (L.ArcPastEnd r) w a = absurd (a r refl)
+lxd-says L.WrongSize w a = (refl, refl)
+lxd-says L.NoEnd w a = (refl, refl)
+lxd-says L.TitleNotWindows1252 w a = (refl, refl)
+lxd-says L.TitleTooLong w a = (refl, refl)
+lxd-says L.DateNotWindows1252 w a = (refl, refl)
+lxd-says L.DateTooLong w a = (refl, refl)
+lxd-says L.NoLabel w a = (refl, refl)
+lxd-says L.WorkTooShort w a = (refl, refl)
+lxd-says L.ChainTooLong w a = (refl, refl)
+lxd-says L.LetterNotWindows1252 w a = (refl, refl)
+lxd-says L.TooManyWords w a = (refl, refl)
+lxd-says L.TooManyNodes w a = (refl, refl)
+lxd-says L.FileTooShort w a = (refl, refl)
