@@ -1,0 +1,6 @@
+-- `machirsun::machirsun_write_page` meets its contract: the answer is made flat.
+use borrow.Author.Rules.{rules}
+use Rattle.machirsun.proofs.pages.machirsun_write_page.Goals as goal
+
+pub returns : goal.returns
+returns c = rw c.page_refusal.ensures c.write_page.ensures

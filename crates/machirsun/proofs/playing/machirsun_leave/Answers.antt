@@ -1,0 +1,6 @@
+-- `machirsun::machirsun_leave` meets its contract: the answer is made flat.
+use borrow.Author.Rules.{rules}
+use Rattle.machirsun.proofs.playing.machirsun_leave.Goals as goal
+
+pub returns : goal.returns
+returns c = record { answer = rw c.flat_in_play.ensures.answer c.leave.ensures; flat = c.flat_in_play.ensures.flat }
