@@ -24,7 +24,7 @@ use Rattle.build.specs.declared.places.Numbering.TheVariants.{Done, TooMany}
 use Rattle.build.proofs.GraphLaws.{graph-length, root-new, none-recorded, none_seen, placed-length, nodes-written, writes}
 use Rattle.build.proofs.BuildLaws.{too_many, too_short, all-written}
 use Rattle.build.proofs.build_run.Goals as goal
-use Rattle.build.proofs.build_run.Goals.{After-clear, After-number_run-numbered, After-struct_known-1, After-write_roots, Start}
+use Rattle.build.proofs.build_run.Goals.{After-clear, After-number_run-numbered, In-Done, After-write_roots, Start}
 
 pub clear-requires : goal.clear-requires
 clear-requires c = let t = c.requires.1.tails in omega (arith, t.room)
@@ -72,12 +72,12 @@ returns-in_default c = λ sh r.
     (let l = graph-length r in omega (arith, answers k sh r TooMany c.in_default.is))
 
 -- where they have their places
-module _ (c : After-struct_known-1) where
+module _ (c : In-Done) where
   abbrev numbering : After-number_run-numbered
-  numbering = (goal.at.After-struct_known-1 c).After-number_run-numbered
+  numbering = (goal.at.In-Done c).After-number_run-numbered
 
   abbrev base : After-clear
-  base = (goal.at.After-struct_known-1 c).After-clear
+  base = (goal.at.In-Done c).After-clear
 
   abbrev tally : BlockTally
   tally = c.in-Done.tally
@@ -106,12 +106,12 @@ module _ (c : After-struct_known-1) where
 
 pub returns-then-nodes-tally : goal.returns-then-nodes-tally
 returns-then-nodes-tally c = λ sh r.
-    let k = (goal.at.returns-then-nodes-tally c).After-struct_known-1 in
+    let k = (goal.at.returns-then-nodes-tally c).In-Done in
     too_short (g k sh r) (lent (base k)) (few k sh r) (let a = size k sh r in omega (arith, c.if-nodes-tally.true))
 
 pub write_roots-requires : goal.write_roots-requires
 write_roots-requires c =
-    let k = (goal.at.write_roots-requires c).After-struct_known-1 in
+    let k = (goal.at.write_roots-requires c).In-Done in
     let own = (s (base k)).requires in
     let a = size k own.0 own.1 in
     let b = two-more k own.0 own.1 in
@@ -119,8 +119,8 @@ write_roots-requires c =
 
 -- where the two roots are written
 module _ (c : After-write_roots) where
-  abbrev placed : After-struct_known-1
-  placed = (goal.at.After-write_roots c).After-struct_known-1
+  abbrev placed : In-Done
+  placed = (goal.at.After-write_roots c).In-Done
 
   same-room : length c.write_roots.new.nodes ≡ length (lent (base placed))
   same-room = c.write_roots.auto.nodes

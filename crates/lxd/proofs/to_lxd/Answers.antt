@@ -14,7 +14,7 @@ use Rattle.lxd.specs.Said.{checked_refusal}
 use Rattle.lxd.specs.declared.checks.LxdChecked.{LxdChecked}
 use Rattle.lxd.proofs.CallLaws.{call-refuses, call-walks, passed-graph, passed-labels, passed-work}
 use Rattle.lxd.proofs.to_lxd.Goals as goal
-use Rattle.lxd.proofs.to_lxd.Goals.{After-check-checked, After-slice_known-1, In-Passed, Start}
+use Rattle.lxd.proofs.to_lxd.Goals.{After-check-checked, In-Passed, Start}
 
 -- the call: its lists, and the row of its checks
 module _ (s : Start) where
@@ -35,9 +35,6 @@ module _ (s : Start) where
 
   abbrev checks : Row
   checks = lxd_checks g labels title date (length work)
-
-abbrev opened : After-slice_known-1 → Start
-opened c = (goal.at.After-slice_known-1 c).Start
 
 -- where the checks are made
 module _ (c : After-check-checked) where

@@ -14,7 +14,7 @@ use Rattle.lxd.specs.Said.{after_checks}
 use Rattle.answers.specs.RowLaws.{StopsAt, answer_at}
 use Rattle.lxd.proofs.WalkLaws.{StartSurveyed, StartFindings, all-have-bytes, byteless-label, walk_of, walk-refuses}
 use Rattle.lxd.proofs.write_checked.Goals as goal
-use Rattle.lxd.proofs.write_checked.Goals.{After-lacks_byte, After-slice_known-1, After-survey_start-surveyed, In-Shallow, Joined-lacks_byte, Start, then-lacks_byte+in-Shallow+else-found, else-lacks_byte}
+use Rattle.lxd.proofs.write_checked.Goals.{After-lacks_byte, After-survey_start-surveyed, In-Shallow, Joined-lacks_byte, Start, then-lacks_byte+in-Shallow+else-found, else-lacks_byte}
 
 -- the call: its lists, what is known of them, and the walk's refusal by its first check that holds
 module _ (s : Start) where
@@ -40,12 +40,9 @@ module _ (s : Start) where
       StopsAt k r → record { answer = answer_at k r; bytes = lent } ≡ after_checks g labels title date lent
   refuses = walk-refuses g labels title date lent
 
-abbrev opened : After-slice_known-1 → Start
-opened c = (goal.at.After-slice_known-1 c).Start
-
 -- where the labels are looked at
 abbrev asked : After-lacks_byte → Start
-asked c = opened (goal.at.After-lacks_byte c).After-slice_known-1
+asked c = (goal.at.After-lacks_byte c).Start
 
 pub survey_start-surveyed-requires : goal.survey_start-surveyed-requires
 survey_start-surveyed-requires c = let s = asked (goal.at.survey_start-surveyed-requires c).After-lacks_byte in record { fit = sound s; labels_value = s.requires.labels_value; nodes_in_bounds = s.requires.nodes_in_bounds }

@@ -26,7 +26,7 @@ use Rattle.answers.specs.RowLaws.{StopsAt, answer_at}
 use Rattle.lxd.proofs.WalkLaws.{many-words, surveys_too, many-nodes, numbered_plan, walk_of, walk-refuses}
 use Rattle.export.specs.Starts.{arcs_from}
 use Rattle.lxd.proofs.write_numbered.Goals as goal
-use Rattle.lxd.proofs.write_numbered.Goals.{After-clear, After-number_run-numbered, After-slice_known-1, In-Done, Start}
+use Rattle.lxd.proofs.write_numbered.Goals.{After-clear, After-number_run-numbered, In-Done, Start}
 
 -- the call: its lists, what is known of them, and the walk's refusal by its first check that holds
 module _ (s : Start) where
@@ -57,9 +57,6 @@ module _ (s : Start) where
   refuses : (k : ℕ) → let r = walk_of g labels title date lent in
       StopsAt k r → record { answer = answer_at k r; bytes = lent } ≡ after_checks g labels title date lent
   refuses = walk-refuses g labels title date lent
-
-abbrev opened : After-slice_known-1 → Start
-opened c = (goal.at.After-slice_known-1 c).Start
 
 -- where the record is cleared
 module _ (c : After-clear) where

@@ -111,7 +111,6 @@ module _ (c : After-tail_after-after) where
   wrote : (sh : Shelf) (h : WritesFrom sh (s k).args.n (s k).args.work.now (s k).args.blocks)
       → set (turn k).loop-j.nodes (turn k).loop-j.at c.graph_node.result
       ≡ sets (turn k).loop-j.nodes (turn k).loop-j.at (written h (turn k).loop-j.i ∷ [])
-  unfolding sets
   wrote sh h =
       ap (set (turn k).loop-j.nodes (turn k).loop-j.at)
       (c.graph_node.ensures

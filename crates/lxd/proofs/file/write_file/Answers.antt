@@ -6,7 +6,7 @@ use Rattle.lxd.specs.Planned.{Planned}
 use Rattle.lxd.proofs.PlannedLaws.{count-nodes}
 use Rattle.lxd.proofs.WalkLaws.{walk-refuses, file-short, file-written}
 use Rattle.lxd.proofs.file.write_file.Goals as goal
-use Rattle.lxd.proofs.file.write_file.Goals.{After-node_count-count, After-shared_slice_known-5-1, After-write_header, Else-file-long, Start}
+use Rattle.lxd.proofs.file.write_file.Goals.{After-node_count-count, After-write_header, Else-file-long, Start}
 
 -- the call: its lists, and the record that it writes from
 module _ (s : Start) where
@@ -31,12 +31,9 @@ module _ (s : Start) where
   planned : Planned g labels work s.args.words s.args.t
   planned = s.requires
 
-abbrev opened : After-shared_slice_known-5-1 → Start
-opened c = (goal.at.After-shared_slice_known-5-1 c).Start
-
 -- where the nodes are counted
 abbrev asked : After-node_count-count → Start
-asked c = opened (goal.at.After-node_count-count c).After-shared_slice_known-5-1
+asked c = (goal.at.After-node_count-count c).Start
 
 pub returns-then-file-long : goal.returns-then-file-long
 returns-then-file-long c =

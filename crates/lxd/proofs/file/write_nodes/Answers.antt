@@ -9,7 +9,7 @@ use Rattle.lxd_file.specs.File.{lxd_nodes}
 use Rattle.lxd.specs.Planned.{Planned}
 use Rattle.lxd.proofs.PlannedLaws.{lxd-ready, order-fits, order-inside, order-room, two-nodes, three-nodes, none_written, some_written}
 use Rattle.lxd.proofs.file.write_nodes.Goals as goal
-use Rattle.lxd.proofs.file.write_nodes.Goals.{After-write_le_u32, After-write_le_u32-2, After-write_le_u32-arg-1, Start}
+use Rattle.lxd.proofs.file.write_nodes.Goals.{After-write_le_u32, After-write_le_u32-2, Start}
 
 -- the call: its lists, the record that it writes from, and the room in the file
 module _ (s : Start) where
@@ -34,15 +34,12 @@ module _ (s : Start) where
   two : 2 ≤ length (lxd_nodes g labels)
   two = two-nodes planned
 
-abbrev opened : After-write_le_u32-arg-1 → Start
-opened c = (goal.at.After-write_le_u32-arg-1 c).Start
-
 pub write_le_u32-requires : goal.write_le_u32-requires
-write_le_u32-requires c = let s = opened c in omega (arith, two s, room s)
+write_le_u32-requires c = let s = (goal.at.write_le_u32-requires c).Start in omega (arith, two s, room s)
 
 -- where the first node is written, and where the second is
 abbrev asked : After-write_le_u32 → Start
-asked c = opened (goal.at.After-write_le_u32 c).After-write_le_u32-arg-1
+asked c = (goal.at.After-write_le_u32 c).Start
 
 pub write_le_u32-requires-2 : goal.write_le_u32-requires-2
 write_le_u32-requires-2 c =
