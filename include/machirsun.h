@@ -1,6 +1,6 @@
 /* Machirsun: word graphs loaded or built from word lists, counted, looked up and exported, words read from text, and a record of words in play.
  *
- * Link with libmachirsun.a, which `rt staticlib machirsun` writes to target/staticlib/ (x86-64 Linux).
+ * Link with libmachirsun.a, which `sh compare/library` writes to target/staticlib/ (x86-64 Linux).
  *
  * Buffers. The caller owns every buffer. A call reads and writes only the buffers that it is handed, keeps no pointer to them
  * after it returns, and allocates nothing; its stack does not grow with its input and stays under 64 KiB. A buffer is a pointer and a

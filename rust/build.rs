@@ -1,4 +1,4 @@
-// Says where libmachirsun.a is: in the folder that MACHIRSUN_LIB names, or where `rt staticlib machirsun` writes it.
+// Says where libmachirsun.a is: in the folder that MACHIRSUN_LIB names, or where `sh compare/library` writes it.
 use std::env;
 use std::path::{Path, PathBuf};
 

@@ -1,12 +1,18 @@
 # Finds local arrays in Rattle source: prints FILE:LINE: and the line, for each line that has one.
 #
-# There is no heap and there are no statics, so a list that a function keeps, and that is not lent to it, comes from one of these:
-#   an array type     [u8; 32]          of a local or a parameter; of a result, a field or an alias, where it is declared
+# A list that a function keeps, and that is not lent to it, comes from one of these:
+#   an array type     [u8; 32]          of a local, a parameter or a static; of a result, a field or an alias, where it is declared
 #   an array value    [0; 32], [a, b]
 #   a byte string     b"..."            which stands in the function's own memory
 #   a table           let t = TABLE;    a constant, copied; TABLE[i], TABLE.len() and f(&TABLE) only read it, unless its entries are arrays
+#   an array by std   n.to_be_bytes()   a number's bytes; std::array, std::simd, try_into, and a slice's chunks, which can be copied whole
+#   a list elsewhere  alloc: Global     an allocator, which a function has to be handed; or what holds one: Vec, String, Box, and what collects into them
 # Constants, `use` items, comments, contracts and the insides of texts are passed over. The layout of the source is that of `rt fmt`: a line that
 # excepts something from it is named too, and so is one from which the search cannot read on.
+
+BEGIN {
+    made_by_std = "(^|[^A-Za-z0-9_])([a-z]*alloc|Alloc[A-Za-z]*|Global|Vec|String|Box|vec!|format!|collect|array|simd|try_into|to_[bln]e_bytes|[a-z_]*_chunks?)[^A-Za-z0-9_]"
+}
 
 FNR == 1 {
     file[++files] = FILENAME
@@ -41,7 +47,7 @@ function print_arrays(    count, line, shown, found, i) {
 function has_array(line) {
     gsub(/#!?\[/, "", line)
     gsub(/(:|->) &('[a-z_]+ )?(mut )?\[([iu](8|16|32|64|size)|f32|f64|bool)\]/, "", line)
-    return line ~ /(^|[^]A-Za-z0-9_)])\[|b""|rattlefmt/
+    return line ~ /(^|[^]A-Za-z0-9_)])\[|b""|rattlefmt/ || line " " ~ made_by_std
 }
 
 function find_tables(found,    name, before, after) {

@@ -4,7 +4,6 @@ use mathlib.Core.List.{List}
 use Prim.Native.Nat.{ℕ}
 use lib.ListN.{length, take}
 use Rattle.stored.specs.Answers.{same, then-rest, not-front}
-use borrow.Author.Rules.{rules}
 use Rattle.stored.proofs.answers.same_sizes_then_bytes.Goals as goal
 use Rattle.stored.proofs.answers.same_sizes_then_bytes.Goals.{After-same_sizes}
 

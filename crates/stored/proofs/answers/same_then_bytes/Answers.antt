@@ -1,5 +1,4 @@
 -- `answers::same_then_bytes` meets its contract: what is stored is compared by its front and the rest.
-use borrow.Author.Rules.{rules}
 use mathlib.Core.List.{List}
 use Prim.Native.Nat.{ℕ}
 use Rattle.stored.specs.Answers.{then-rest, not-front}

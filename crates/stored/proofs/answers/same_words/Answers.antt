@@ -1,10 +1,7 @@
 -- `answers::same_words` meets its contract: lists of one length are compared entry by entry, and what is left compares as the whole.
 use native.Mathlib.Omega.{arith}
-use Prim.Native.Nat.{◌-◌}
 use mathlib.Core.Path.{refl}
-use lib.ListN.{length}
-use borrow.Author.Rules.{rules}
-use Rattle.stored.proofs.SameLaws.{other_length, LeftSame, all_same, differs, agrees}
+use Rattle.stored.proofs.SameLaws.{other_length, all_same, differs, agrees}
 use Rattle.stored.proofs.answers.same_words.Goals as goal
 
 pub returns-then-left-right : goal.returns-then-left-right

@@ -1,5 +1,4 @@
 -- `answers::starts_with` meets its contract: the numbers are compared with as many at the front.
-use borrow.Author.Rules.{rules}
 use Rattle.stored.proofs.answers.starts_with.Goals as goal
 
 pub returns : goal.returns

@@ -1,10 +1,6 @@
 -- `inputs::all_within` looks at number after number; those left are within the limit as all of them are.
 use native.Mathlib.Omega.{arith}
-use Prim.Native.Nat.{◌≤◌, ◌-◌}
-use mathlib.Core.Path.{◌≡◌, refl, ◌∙◌}
-use lib.ListN.{length, drop}
-use borrow.Author.Rules.{rules}
-use Rattle.stored.specs.Inputs.{all_within}
+use mathlib.Core.Path.{refl, ◌∙◌}
 use Rattle.stored.proofs.InputLaws.{over_limit, within_limit, all_looked_at}
 use Rattle.stored.proofs.inputs.all_within.Goals as goal
 

@@ -1,11 +1,8 @@
 -- `inputs::all_within` looks at number after number; those left are within the limit as all of them are.
-use native.Mathlib.Omega.{arith}
 use Prim.Native.Nat.{◌≤◌, ◌-◌}
-use mathlib.Core.Path.{◌≡◌, refl, ◌∙◌}
+use mathlib.Core.Path.{◌≡◌}
 use lib.ListN.{length, drop}
-use borrow.Author.Rules.{rules}
 use Rattle.stored.specs.Inputs.{all_within}
-use Rattle.stored.proofs.InputLaws.{over_limit, within_limit, all_looked_at}
 use Rattle.stored.proofs.inputs.all_within.Given as goal
 
 abbrev pub invariant-loop-i : goal.invariant-loop-i

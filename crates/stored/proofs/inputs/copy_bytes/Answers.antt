@@ -1,10 +1,7 @@
 -- `inputs::copy_bytes` meets its contract: it stores number after number; what is left to store makes the same list as all of them.
 use native.Mathlib.Omega.{arith}
-use Prim.Native.Nat.{◌-◌}
 use mathlib.Core.Path.{refl}
-use lib.ListN.{length}
-use borrow.Author.Rules.{rules}
-use Rattle.stored.proofs.InputLaws.{within-at, LeftToStore, stored_one, all-stored}
+use Rattle.stored.proofs.InputLaws.{within-at, stored_one, all-stored}
 use Rattle.stored.proofs.inputs.copy_bytes.Goals as goal
 
 pub loop-i-init : goal.loop-i-init

@@ -1,5 +1,4 @@
 -- `inputs::count_in` meets its contract: it makes the tests of the list that the case starts with, in their order.
-use borrow.Author.Rules.{rules}
 use Rattle.stored.proofs.InputLaws.{empty-case, missing, no_room, too_high, there}
 use Rattle.stored.proofs.inputs.count_in.Goals as goal
 

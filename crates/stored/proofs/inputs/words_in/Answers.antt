@@ -1,5 +1,4 @@
 -- `inputs::words_in` meets its contract: the list that `count_in` found is all there, has room and is within the limit.
-use borrow.Author.Rules.{rules}
 use Rattle.stored.proofs.InputLaws.{not-copied, can_copy, copied}
 use Rattle.stored.proofs.inputs.words_in.Goals as goal
 

@@ -4,7 +4,6 @@ use mathlib.Core.Path.{◌≡◌, refl}
 use mathlib.Core.Bool.{Bool, true, false}
 use mathlib.Core.List.{List}
 use lib.Dec.{eqb}
-use borrow.Author.Rules.{rules}
 use Rattle.stored.specs.Inputs.{pick}
 use Rattle.stored.proofs.lines.add_byte.Goals as goal
 

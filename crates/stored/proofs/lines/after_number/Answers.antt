@@ -2,7 +2,6 @@
 use mathlib.Core.Path.{sym, ◌∙◌}
 use native.Mathlib.Omega.{arith}
 use borrow.Author.Tests.{ltb-true, eq-eqb, ne_eqb}
-use borrow.Author.Rules.{rules}
 use Rattle.stored.proofs.lines.after_number.Goals as goal
 
 pub returns-then-byte-ne32 : goal.returns-then-byte-ne32

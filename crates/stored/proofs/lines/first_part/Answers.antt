@@ -1,6 +1,5 @@
 -- `lines::first_part` meets its contract: the byte's test says whether it starts a comment.
 use borrow.Author.Tests.{eq-eqb, ne_eqb}
-use borrow.Author.Rules.{rules}
 use Rattle.stored.proofs.lines.first_part.Goals as goal
 
 pub returns-then-byte-eq35 : goal.returns-then-byte-eq35

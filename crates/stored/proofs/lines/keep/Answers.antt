@@ -2,7 +2,6 @@
 use mathlib.Core.Path.{sym, refl}
 use borrow.Author.Tests.{le-ltb, lt-ltb}
 use lib.Seq.{set_out}
-use borrow.Author.Rules.{rules}
 use Rattle.stored.proofs.lines.keep.Goals as goal
 
 pub returns-then-numbers-count : goal.returns-then-numbers-count

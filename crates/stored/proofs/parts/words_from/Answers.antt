@@ -2,7 +2,6 @@
 use native.Mathlib.Omega.{arith}
 use mathlib.Core.Path.{sym}
 use lib.ListN.{drop_of_length-le}
-use borrow.Author.Rules.{rules}
 use Rattle.stored.proofs.PartLaws.{from-there}
 use Rattle.stored.proofs.parts.words_from.Goals as goal
 

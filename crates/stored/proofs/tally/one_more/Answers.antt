@@ -2,7 +2,6 @@
 use Prim.Native.Nat.{◌+◌, ◌^◌, ◌≤◌, ◌<◌}
 use native.Mathlib.Omega.{arith}
 use borrow.Author.Tests.{le-ltb, lt-ltb}
-use borrow.Author.Rules.{rules}
 use Rattle.stored.proofs.tally.one_more.Goals as goal
 
 pub returns-then-count-lt18446744073709551615 : goal.returns-then-count-lt18446744073709551615

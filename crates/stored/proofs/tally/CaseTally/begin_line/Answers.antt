@@ -1,5 +1,4 @@
 -- `CaseTally::begin_line` meets its contract: the line's number is the one that `one_more` gives.
-use borrow.Author.Rules.{rules}
 use Rattle.stored.proofs.tally.CaseTally.begin_line.Goals as goal
 
 pub returns : goal.returns

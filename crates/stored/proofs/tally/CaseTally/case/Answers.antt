@@ -1,5 +1,4 @@
 -- `CaseTally::case` meets its contract: the call's count is the one that `one_more` gives.
-use borrow.Author.Rules.{rules}
 use Rattle.stored.proofs.tally.CaseTally.case.Goals as goal
 
 pub returns : goal.returns

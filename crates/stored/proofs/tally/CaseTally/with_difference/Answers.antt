@@ -1,5 +1,4 @@
 -- `CaseTally::with_difference` meets its contract: the count is the one that `one_more` gives, and a report changes nothing.
-use borrow.Author.Rules.{rules}
 use Rattle.stored.proofs.tally.CaseTally.with_difference.Goals as goal
 
 pub returns-clause-tally : goal.returns-clause-tally

@@ -1,7 +1,6 @@
 -- `CaseTally::with_verdict` meets its contract: its test says whether the call has a place, and then it goes by the verdict.
 use mathlib.Core.Path.{◌∙◌, ap}
 use borrow.Author.Tests.{le-ltb, lt-ltb}
-use borrow.Author.Rules.{rules}
 use Rattle.stored.specs.CaseTally.{with_case}
 use Rattle.stored.proofs.tally.CaseTally.with_verdict.Goals as goal
 
