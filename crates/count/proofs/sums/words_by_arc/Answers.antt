@@ -1,8 +1,9 @@
 -- `words_by_arc` meets its contract, by its two cases.
-use mathlib.Core.Path.{sym, ap, ◌∙◌}
+use mathlib.Core.Path.{◌≡◌, sym, ap, ◌∙◌}
 use Prim.Native.Nat.{ℕ}
 use lib.ListN.{get_or}
-use Rattle.node.specs.Nodes.{kbwg}
+use native.Mathlib.Omega.{arith}
+use Rattle.node.specs.Nodes.{kbwg, arc}
 use Rattle.graph.specs.CountLaws.{arc-words-none, arc-words}
 use Rattle.count.proofs.sums.words_by_arc.Goals as goal
 
@@ -14,4 +15,4 @@ returns c =
     let a = c.args in
     let e = c.arc_index-arc.ensures in
     ap (λ (q : ℕ). get_or a.counts.now q 0) e
-    ∙ sym (arc-words kbwg (λ q. get_or a.counts.now q 0) a.node (λ z. c.if-arc-eq0.false (e ∙ z)))
+    ∙ sym (arc-words kbwg (λ q. get_or a.counts.now q 0) a.node (λ (z : arc kbwg a.node ≡ 0). omega (arith, e, z)))
