@@ -1,0 +1,16 @@
+-- `lookups::tiles_put` meets its contract: up to the first entry that is no tile, the tiles passed and what is left without marks are the whole.
+use mathlib.Core.Path.{◌≡◌, refl, sym, ap, ◌∙◌}
+use mathlib.Core.List.{◌++◌, append-nil}
+use native.Mathlib.Omega.{arith}
+use Prim.Native.Nat.{◌≤◌, ◌-◌}
+use lib.ListN.{length, take, drop}
+use lib.Seq.{length-take-le}
+use Rattle.replay.specs.Lookups.{unmarked}
+use Rattle.replay.proofs.TileLaws.{marked-here, tile-here, no-mark-left}
+use Rattle.replay.proofs.lookups.tiles_put.Given as goal
+
+abbrev pub invariant-loop-i : goal.invariant-loop-i
+invariant-loop-i l = (l.i ≤ length l.word) × (take l.i l.word ++ unmarked (drop l.i l.word) ≡ unmarked l.word)
+
+abbrev pub decreases-loop-i : goal.decreases-loop-i
+decreases-loop-i l = length l.word - l.i
