@@ -6,3 +6,6 @@ mod output;
 
 pub use input::read_full;
 pub use output::Output;
+
+#[cfg(test)]
+mod tests;
