@@ -79,7 +79,7 @@ pub number_arc-returns-then-chain_left-runs : goal.number_arc-returns-then-chain
 number_arc-returns-then-chain_left-runs t c = too-deep (goal.at.number_arc-returns-then-chain_left-runs t c).After-depth_of-runs (λ z. omega (arith, c.if-chain_left-runs.true)) (omega (arith, c.if-chain_left-runs.true))
 
 pub number_arc-returns : goal.number_arc-returns
-number_arc-returns t c = reaches (goal.at.number_arc-returns t c).After-depth_of-runs (λ z. omega (arith, c.if-runs-eq0.false)) (omega (arith, c.if-chain_left-runs.false))
+number_arc-returns t c = reaches (goal.at.number_arc-returns t c).After-depth_of-runs (λ z. omega (arith, z)) (omega (arith, c.if-chain_left-runs.false))
 
 module _ {t : ℕ} (s : number_run-Start t) where
   abbrev g : List ℕ
