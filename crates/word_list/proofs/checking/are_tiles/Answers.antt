@@ -32,13 +32,11 @@ returns-then-tile-eq0 c = ap not (search_finds (tested (goal.at.returns-then-til
 pub returns-then-tile-gt63 : goal.returns-then-tile-gt63
 returns-then-tile-gt63 c =
     let s = (goal.at.returns-then-tile-gt63 c).After-shared_slice_known-1 in
-    let h = c.if-tile-gt63.true in
     ap not (search_finds (tested s) (rw (ne_eqb (tile s) 0 c.if-tile-eq0.false, lt-ltb 63 (tile s) (omega arith))))
 
 pub loop-i-preserved : goal.loop-i-preserved
 loop-i-preserved c =
     let s = (goal.at.loop-i-preserved c).After-shared_slice_known-1 in
-    let h = c.if-tile-gt63.false in
     search-passes (tested s) (rw (ne_eqb (tile s) 0 c.if-tile-eq0.false, le-ltb 63 (tile s) (omega arith)))
 
 pub returns : goal.returns
