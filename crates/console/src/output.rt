@@ -1,5 +1,5 @@
 // Printing.
-ghost use Rattle.std.specs.Prelude.{◌≡◌, ◌↔◌, IsNone, IsOk, IsSome, decimal};
+ghost use Rattle.std.specs.Prelude.{◌≡◌, IsNone, IsSome, MatchResult, Some, decimal};
 ghost use Rattle.console.specs.Printing.{Prints};
 
 use std::io;
@@ -52,7 +52,7 @@ impl<W: Write> Output<W> {
 impl<W: Write + Drop> Output<W> {
     // The first failure, if a write failed.
     pub fn finish(self) -> io::Result<()>
-        ensures { IsOk result ↔ IsNone self.failed }
+        ensures { MatchResult result (λ _. IsNone self.failed) (λ failure. self.failed ≡ Some failure) }
     {
         match self.failed {
             None => Ok(()),
