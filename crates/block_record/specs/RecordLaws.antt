@@ -1,6 +1,6 @@
 -- The record of blocks as it grows, for blocks of any sizes and children in any order: what it holds stays, and a block that is pushed
 -- stands after the others.
-use Rattle.std.specs.Prelude.{◌≡◌, ◌≢◌, ◌⊎◌, Bool, true, false, ◌||◌, length, drop, take, get_or, set}
+use Rattle.std.specs.Prelude.{◌≡◌, ◌≢◌, Bool, true, false, ◌||◌, length, drop, take, get_or, set}
 use Rattle.std.proofs.Math.Path.{refl}
 use Rattle.std.proofs.Common.{ap, sym, ◌∙◌, subst, ⊎_elim, true≢false, add-one, eq-or-lt_of_le, length-drop, get_or-set_same, get_or-set_other, drop-set-lt, take-suc-set, eq-eqb, ne_eqb, eqb-true}
 use mathlib.Core.List.{List, [], ◌∷◌, ◌++◌}

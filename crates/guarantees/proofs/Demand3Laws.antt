@@ -13,7 +13,6 @@ use Rattle.node.specs.declared.Layout.{Layout}
 use Rattle.graph.specs.Runs.{Graph, start_node}
 use Rattle.graph.specs.Counting.{Counts}
 use Rattle.load.proofs.FinishLaws.{finished-within}
-use Rattle.load.proofs.StateLaws.{sound}
 use Rattle.pieces.specs.Pieces.{load_pieces, fed_pieces}
 use Rattle.pieces.proofs.PiecesLaws.{loads_as_whole, loads_however_cut}
 use Rattle.lookup.specs.GraphLent.{GraphLent}

@@ -1,15 +1,13 @@
 -- The starred cases hold: each is computed from the definitions themselves.
-use Rattle.std.specs.Prelude.{◌≡◌, refl, List, [], ◌∷◌, map, ℕ, get_or}
+use Rattle.std.specs.Prelude.{refl}
 use Rattle.laws.specs.BitSets.{bit_set}
 use Rattle.laws.specs.Lists.{All}
 use Rattle.laws.specs.Sorting.{inserted_all}
-use Rattle.node.specs.Nodes.{kwg, kbwg, fits}
-use Rattle.answers.specs.Answers.{Answer, gives, nothing, first_of}
-use Rattle.node.specs.declared.Layout.TheVariants.{Kwg}
-use Rattle.graph.specs.Runs.{Graph, run, largest_arc, last_ends, start_node}
-use Rattle.graph.specs.Words.{Word, in_order, spelled, words_within, words, count}
+use Rattle.node.specs.Nodes.{fits}
+use Rattle.answers.specs.Answers.{first_of}
+use Rattle.graph.specs.Runs.{run, largest_arc, last_ends}
+use Rattle.graph.specs.Words.{in_order, spelled, words_within, words}
 use Rattle.laws.specs.Tables.{table}
-use Rattle.graph.specs.Counting.{counts, count_limit}
 use Rattle.endian.specs.Bytes.{whole_nodes, part_node}
 use Rattle.load.specs.Repacking.{fitting, first_misfit}
 use Rattle.load.specs.Loading.{begin, feed, finish, holding, state_after, nodes_after, zeros}
@@ -18,13 +16,13 @@ use Rattle.lookup.specs.Walks.{find_in, arc_of, step_to, words_between, passed, 
 use Rattle.lookup.specs.Walks.{word_index, words_here, turn_in, word_from, word_by_index}
 use Rattle.letters.specs.LetterBits.{letter_bits_of, bits_written, tiles_of}
 use Rattle.letters.specs.AlphaSets.{copies, spent, accepts_at, completes, closing, along, cross_copies, cross_letters, cross_from, cross_set}
-use Rattle.pieces.specs.Pieces.{LoadOutcome, load_pieces, load_whole, fed_pieces, feed_all}
+use Rattle.pieces.specs.Pieces.{load_pieces, fed_pieces, feed_all}
 use Rattle.export.specs.Blocks.{met, block_at}
 use Rattle.windows1252.specs.Windows1252.{byte_of}
 use Rattle.macondo_file.specs.Alphabet.{letters, letter_of}
-use Rattle.macondo_file.specs.File.{dawg, arcs_of, set_of, blocks, letter_sets, block_of, macondo_nodes}
+use Rattle.macondo_file.specs.File.{arcs_of, set_of, blocks, letter_sets, block_of, macondo_nodes}
 use Rattle.lxd_file.specs.File.{runs, child, lxd_node, lxd_nodes}
-use Rattle.guarantees.specs.Starred.{five_nodes, labels, Case, Holds, cases}
+use Rattle.guarantees.specs.Starred.{Holds, cases}
 
 pub starred : All Holds cases
 unfolding cases fits fitting run in_order spelled words_within words table load_pieces fed_pieces feed_all begin feed finish first_of holding

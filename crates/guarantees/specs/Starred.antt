@@ -1,30 +1,19 @@
 -- The starred cases of document 01, "Five nodes to check by", as the entries of one list; that
 -- they hold is computed from the definitions themselves.
-use Rattle.std.specs.Prelude.{◌≡◌, refl, List, [], ◌∷◌, map, ℕ, get_or}
-use Rattle.laws.specs.BitSets.{bit_set}
-use Rattle.laws.specs.Lists.{All}
-use Rattle.laws.specs.Sorting.{inserted_all}
-use Rattle.node.specs.Nodes.{kwg, kbwg, fits}
-use Rattle.answers.specs.Answers.{Answer, gives, nothing, first_of}
+use Rattle.std.specs.Prelude.{◌≡◌, List, [], ◌∷◌, map, ℕ, get_or}
+use Rattle.node.specs.Nodes.{kwg, kbwg}
+use Rattle.answers.specs.Answers.{Answer, gives, nothing}
 use Rattle.node.specs.declared.Layout.TheVariants.{Kwg}
-use Rattle.graph.specs.Runs.{Graph, run, largest_arc, last_ends, start_node}
-use Rattle.graph.specs.Words.{Word, in_order, spelled, words_within, words, count}
-use Rattle.laws.specs.Tables.{table}
+use Rattle.graph.specs.Runs.{Graph, start_node}
+use Rattle.graph.specs.Words.{Word, count}
 use Rattle.graph.specs.Counting.{counts, count_limit}
-use Rattle.endian.specs.Bytes.{whole_nodes, part_node}
-use Rattle.load.specs.Repacking.{fitting, first_misfit}
-use Rattle.load.specs.Loading.{begin, feed, finish, holding, state_after, nodes_after, zeros}
-use Rattle.lookup.specs.Steps.{lent, difference, sum}
-use Rattle.lookup.specs.Walks.{find_in, arc_of, step_to, words_between, passed, passed_after, passed_first, number_ending, index_from, index_of_word}
-use Rattle.lookup.specs.Walks.{word_index, words_here, turn_in, word_from, word_by_index}
-use Rattle.letters.specs.LetterBits.{letter_bits_of, bits_written, tiles_of}
-use Rattle.letters.specs.AlphaSets.{copies, spent, accepts_at, completes, closing, along, cross_copies, cross_letters, cross_from, cross_set}
-use Rattle.pieces.specs.Pieces.{LoadOutcome, load_pieces, load_whole, fed_pieces, feed_all}
-use Rattle.export.specs.Blocks.{met, block_at}
-use Rattle.windows1252.specs.Windows1252.{byte_of}
-use Rattle.macondo_file.specs.Alphabet.{letters, letter_of}
-use Rattle.macondo_file.specs.File.{dawg, arcs_of, set_of, blocks, letter_sets, block_of, macondo_nodes}
-use Rattle.lxd_file.specs.File.{runs, child, lxd_node, lxd_nodes}
+use Rattle.load.specs.Repacking.{fitting}
+use Rattle.lookup.specs.Walks.{word_index, word_by_index}
+use Rattle.letters.specs.LetterBits.{letter_bits_of}
+use Rattle.letters.specs.AlphaSets.{cross_set}
+use Rattle.pieces.specs.Pieces.{LoadOutcome, load_whole}
+use Rattle.macondo_file.specs.File.{dawg, letter_sets, macondo_nodes}
+use Rattle.lxd_file.specs.File.{lxd_nodes}
 
 -- "G in KBWG words (hexadecimal): 240, 40, 481, 442, C2"
 abbrev pub five_nodes : Graph

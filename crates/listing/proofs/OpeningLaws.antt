@@ -14,7 +14,7 @@ use Rattle.answers.specs.RowLaws.{gives≢refused}
 use Rattle.node.specs.Nodes.{kbwg}
 use Rattle.node.specs.declared.Layout.TheVariants.{Kwg}
 use Rattle.graph.specs.Runs.{Graph, start_node}
-use Rattle.graph.specs.Words.{words, count}
+use Rattle.graph.specs.Words.{count}
 use Rattle.graph.specs.ChecksLaws.{Fit, fit}
 use Rattle.graph.specs.Counting.{counts, IsCounted, Counts, count_limit}
 use Rattle.load.proofs.FinishLaws.{finished-within}

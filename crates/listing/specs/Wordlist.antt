@@ -1,9 +1,9 @@
 -- What the program `wordlist` prints for an input; from document 01, "Five nodes to check by".
 use Rattle.std.specs.Prelude.{◌≡◌, true, false, List, [], ◌∷◌, ◌++◌, ℕ, suc, ◌*◌, ◌≤◌, ◌<◌, eqb, ltb, length, take}
 use Rattle.answers.specs.Answers.{Answer, gives, nothing, refused}
-use Rattle.node.specs.Nodes.{kbwg, arc}
+use Rattle.node.specs.Nodes.{kbwg}
 use Rattle.node.specs.declared.Layout.TheVariants.{Kwg}
-use Rattle.graph.specs.Runs.{Graph, node, start_node}
+use Rattle.graph.specs.Runs.{Graph, start_node}
 use Rattle.graph.specs.Words.{Word, words}
 use Rattle.graph.specs.Counting.{IsCounted, count_row, count_limit}
 use Rattle.graph.specs.Lent.{WorkKept}

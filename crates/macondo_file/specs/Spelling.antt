@@ -2,7 +2,6 @@
 -- those ending in tile 0.
 use Rattle.std.specs.Prelude.{◌≡◌, Bool, false, not, ◌↔◌, ℕ, ◌+◌, ◌-◌, ◌*◌, ◌<◌, eqb, length, get_or}
 use mathlib.Core.List.{List, [], ◌∷◌, map, Memᴰ}
-use Rattle.std.proofs.Math.Option.{none}
 use Rattle.laws.specs.Lists.{filtered}
 use Rattle.laws.specs.NoRepeats.{NoRepeats}
 use Rattle.node.specs.Nodes.{kbwg}

@@ -1,5 +1,7 @@
 // Characters as bytes of Windows-1252, by the Unicode Consortium's CP1252 table. Most code points that have a byte are their own: for these
 // the table is not read.
+#![tactic(auto)]
+
 ghost use Rattle.std.specs.Prelude.{◌≡◌, false};
 ghost use Rattle.windows1252.specs.Windows1252.{is_itself, byte_of, no_byte, byte_written};
 ghost use Rattle.windows1252.specs.Encoded.{OnlyPlace, encoded};

@@ -1,7 +1,6 @@
 -- `child_place` meets its contract: by arc 0, and by what the record says of the arc.
 use mathlib.Core.Path.{sym, ◌∙◌}
 use Rattle.block_record.specs.RecordLaws.{child-none, child-numbered, child_unnumbered}
-use borrow.Author.Rules.{rules}
 use Rattle.block_record.proofs.child_place.Goals as goal
 use Rattle.block_record.proofs.child_place.Goals.{After-place_of-place, Start}
 

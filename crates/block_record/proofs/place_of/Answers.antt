@@ -1,7 +1,6 @@
 -- `place_of` meets its contract, by the two cases of its test.
 use borrow.Author.Tests.{eq-eqb, ne_eqb}
 use Rattle.block_record.specs.Record.{place_at}
-use borrow.Author.Rules.{rules}
 use Rattle.block_record.proofs.place_of.Goals as goal
 
 pub returns-then-v-eq0 : goal.returns-then-v-eq0

@@ -1,6 +1,5 @@
 -- `add_key` meets its contract: its places are there, since a key that has room has room for its links.
 use native.Mathlib.Omega.{arith}
-use borrow.Author.Rules.{rules}
 use lib.ListN.{length-set}
 use Rattle.dictionary.proofs.add_key.Goals as goal
 

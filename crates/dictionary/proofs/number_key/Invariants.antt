@@ -1,16 +1,8 @@
 -- `number_key` meets its contract. The loop's invariant: the list is as it was, and the key that is looked for, if it is there, is ahead.
-use mathlib.Core.Path.{◌≡◌, refl, sym, ap, ◌∙◌, subst}
-use mathlib.Core.List.{List}
-use Prim.Native.Nat.{ℕ, ◌+◌, ◌-◌, ◌*◌, ◌<◌}
-use native.Mathlib.Omega.{arith}
-use borrow.Author.Rules.{rules}
-use lib.ListN.{length, get_or}
-use Rattle.dictionary.specs.KeyNumbered.{KeyNumbered}
-use Rattle.dictionary.specs.Keys.{key_at}
+use mathlib.Core.Path.{◌≡◌}
+use Prim.Native.Nat.{◌-◌, ◌*◌}
 use Rattle.dictionary.specs.Tree.{Tree}
-use Rattle.dictionary.specs.declared.KeyNumber.{KeyNumber}
-use Rattle.dictionary.proofs.GrowthLaws.{numbered-found, numbered-new}
-use Rattle.dictionary.proofs.SearchLaws.{Seeking, seek-start, seek-below, seek-later, seek-next}
+use Rattle.dictionary.proofs.SearchLaws.{Seeking}
 use Rattle.dictionary.proofs.number_key.Given as goal
 
 abbrev pub invariant-loop-dict : goal.invariant-loop-dict

@@ -8,7 +8,6 @@ use Rattle.in_play.proofs.PlayLaws.{not-allowed, is-allowed}
 use Rattle.in_play.specs.Said.{allowed_as}
 use Rattle.in_play.specs.declared.Allowed.{Allowed}
 use Rattle.in_play.specs.declared.Allowed.TheVariants as A
-use borrow.Author.Rules.{rules}
 use Rattle.in_play.proofs.move_word.Goals as goal
 use Rattle.in_play.proofs.move_word.Goals.{After-allowed_by-verdict}
 

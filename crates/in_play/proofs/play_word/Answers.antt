@@ -12,7 +12,6 @@ use Rattle.in_play.specs.Said.{found_as}
 use Rattle.in_play.specs.declared.Move.{Move}
 use Rattle.in_play.specs.declared.lexicon.InLexicon.{InLexicon}
 use Rattle.in_play.specs.declared.lexicon.InLexicon.TheVariants as L
-use borrow.Author.Rules.{rules}
 use Rattle.in_play.proofs.play_word.Goals as goal
 use Rattle.in_play.proofs.play_word.Goals.{After-in_lexicon-found}
 

@@ -4,7 +4,6 @@ use mathlib.Core.List.{[], ◌∷◌}
 use Rattle.answers.specs.Answers.{gives}
 use Rattle.in_play.specs.InPlay.{not_in_play}
 use Rattle.in_play.proofs.ScanLaws.{remaining-none, remaining-some}
-use borrow.Author.Rules.{rules}
 use Rattle.in_play.proofs.remaining_of.Goals as goal
 
 pub returns-then-count-eq0 : goal.returns-then-count-eq0

@@ -1,13 +1,12 @@
 -- `number_sets` meets its contract. The loop's invariant: the first j blocks have the numbers of their sets.
 use mathlib.Core.Path.{◌≡◌, subst, ap, ◌∙◌}
 use mathlib.Core.List.{List}
-use Prim.Native.Nat.{ℕ, ◌+◌, ◌-◌, ◌*◌, ◌≤◌, ◌<◌}
+use Prim.Native.Nat.{ℕ, ◌+◌, ◌*◌, ◌≤◌, ◌<◌}
 use native.Mathlib.Omega.{arith}
-use borrow.Author.Rules.{rules}
 use lib.ListN.{length, get_or}
 use Rattle.letter_sets.specs.Letters.{set_by}
 use Rattle.letter_sets.specs.SetNumbers.{SetsNumbered}
-use Rattle.letter_sets.proofs.NumberLaws.{SetsSoFar, numbering_start, tree_of_part, numbering-next, numbering-done, run_at}
+use Rattle.letter_sets.proofs.NumberLaws.{numbering_start, tree_of_part, numbering-next, numbering-done, run_at}
 use Rattle.letter_sets.proofs.RootLaws.{rooted, rooted-length, roots_none, numbered-before}
 use Rattle.letter_sets.proofs.RunLaws.{set-by}
 use Rattle.letter_sets.proofs.number_sets.Goals as goal

@@ -21,7 +21,6 @@ use Rattle.macondo.specs.declared.Macondo.{Macondo}
 use Rattle.macondo.specs.declared.Macondo.TheVariants as M
 use Rattle.macondo.specs.Said.{format_of, said_macondo, macondo_written_as}
 use Rattle.macondo.proofs.Rows.{refused_before, passed-before, with_part}
-use borrow.Author.Rules.{rules}
 use Rattle.macondo.proofs.to_macondo.Goals as goal
 use Rattle.macondo.proofs.to_macondo.Goals.{After-check_graph, After-write_checked, Else-descends, Else-labels-gt50, Else-lacks_label, Else-name-gt255, Else-work-m, In-Sound, Start}
 

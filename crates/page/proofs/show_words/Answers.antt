@@ -12,7 +12,6 @@ use Rattle.page.proofs.HeldLaws.{held-tiles}
 use Rattle.page.proofs.LabelLaws.{all-labelled}
 use Rattle.page.proofs.PageLaws.{Judging, some_unlabelled, title_outside, label_outside}
 use Rattle.page.proofs.PageLaws.{no_label, title-outside, label-outside, all_shown}
-use borrow.Author.Rules.{rules}
 use Rattle.page.proofs.show_words.Goals as goal
 use Rattle.page.proofs.show_words.Goals.{After-some_unlabelled, Else-label_outside, Else-some_unlabelled, Else-text_outside, Start}
 

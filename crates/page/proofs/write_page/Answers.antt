@@ -15,7 +15,6 @@ use Rattle.page.specs.Held.{walked_try}
 use Rattle.page.specs.declared.walking.RowsWalked.{RowsWalked}
 use Rattle.page.specs.declared.walking.RowsWalked.TheVariants as W
 use Rattle.page.proofs.PageLaws.{Asked, answer, title-long, page-short, walks_refuse, walks-pass}
-use borrow.Author.Rules.{rules}
 use Rattle.page.proofs.write_page.Goals as goal
 use Rattle.page.proofs.write_page.Goals.{After-slice_known-1, After-walk_rows, Else-page-lt-PAGE, In-Words, Start}
 

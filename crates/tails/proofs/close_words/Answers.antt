@@ -1,6 +1,5 @@
 -- `close_words` meets its contract. The loop's invariant: whatever lexicon the list is that of, the pass has come to one of its words, and the
 -- dictionary has the tails of the words after it.
-use borrow.Author.Rules.{rules}
 use native.Mathlib.Omega.{arith}
 use mathlib.Core.Path.{◌≡◌, refl, ◌∙◌}
 use mathlib.Core.List.{List}
@@ -12,7 +11,7 @@ use Rattle.built.specs.Lexicon.{Lexicon}
 use Rattle.built.specs.Listed.{list_bytes}
 use Rattle.tails.specs.Tails.{WordsClose}
 use Rattle.tails.proofs.WorkLaws.{with_dict, dict-length, with-dict-length, roots_clear}
-use Rattle.tails.proofs.TurnLaws.{AtWord, at_last, word-within, step-within, step-more, can_close, Turned, turned, Passes}
+use Rattle.tails.proofs.TurnLaws.{AtWord, at_last, word-within, step-within, step-more, can_close, Turned, turned}
 use Rattle.tails.proofs.close_words.Goals as goal
 use Rattle.tails.proofs.close_words.Goals.{After-clear, After-close_word-closed, After-mark_words-at, At-loop-more, Else-before-at, Start}
 

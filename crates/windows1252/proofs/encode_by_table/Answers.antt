@@ -1,7 +1,6 @@
 -- `encode_by_table` meets its contract: a code point that stands in the table stands in its one place.
 use mathlib.Core.Path.{sym}
 use native.Mathlib.Omega.{arith}
-use borrow.Author.Rules.{rules}
 use Rattle.windows1252.specs.Windows1252.{entries}
 use Rattle.windows1252.proofs.Windows1252Laws.{from_80, entry-byte}
 use Rattle.windows1252.proofs.PlaceLaws.{not_there}

@@ -1,6 +1,5 @@
 -- `no_byte` meets its contract: a code point is its own byte, or the table answers.
 use mathlib.Core.Path.{sym, ◌∙◌}
-use borrow.Author.Rules.{rules}
 use Rattle.windows1252.proofs.EncodedLaws.{own-byte, encoded-none, encoded-byte}
 use Rattle.windows1252.proofs.no_byte.Goals as goal
 

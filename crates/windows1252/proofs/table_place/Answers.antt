@@ -1,5 +1,4 @@
 -- `table_place` meets its contract: its list has for each remainder the place of the code point that leaves it.
-use borrow.Author.Rules.{rules}
 use Rattle.laws.specs.Tables.{table}
 use Rattle.windows1252.specs.Windows1252.{entries}
 use Rattle.windows1252.proofs.PlaceLaws.{places_by_remainder, only-place}

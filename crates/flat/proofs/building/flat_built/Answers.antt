@@ -1,6 +1,5 @@
 -- `flat::flat_built` meets its contract, case by case.
 use mathlib.Core.Path.{refl}
-use borrow.Author.Rules.{rules}
 use Rattle.flat.proofs.building.flat_built.Goals as goal
 
 pub returns-in-Nodes : goal.returns-in-Nodes

@@ -1,6 +1,5 @@
 -- `flat::flat_counted` meets its contract, case by case.
 use mathlib.Core.Path.{refl}
-use borrow.Author.Rules.{rules}
 use Rattle.flat.proofs.counting.flat_counted.Goals as goal
 
 pub returns-in-Done : goal.returns-in-Done

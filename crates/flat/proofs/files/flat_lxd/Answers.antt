@@ -1,7 +1,6 @@
 -- `flat::flat_lxd` meets its contract: the two answers that carry a value, then the others.
 use mathlib.Core.Path.{refl}
 use Rattle.flat.proofs.FileLaws.{lxd-says}
-use borrow.Author.Rules.{rules}
 use Rattle.flat.proofs.files.flat_lxd.Goals as goal
 
 pub returns-in-Written : goal.returns-in-Written

@@ -1,7 +1,6 @@
 -- `flat::flat_macondo` meets its contract: the two answers that carry a value, then the others.
 use mathlib.Core.Path.{refl}
 use Rattle.flat.proofs.FileLaws.{macondo-says}
-use borrow.Author.Rules.{rules}
 use Rattle.flat.proofs.files.flat_macondo.Goals as goal
 
 pub returns-in-Written : goal.returns-in-Written

@@ -1,6 +1,5 @@
 -- `flat::flat_feed` meets its contract, case by case.
 use mathlib.Core.Path.{refl}
-use borrow.Author.Rules.{rules}
 use Rattle.flat.proofs.loading.flat_feed.Goals as goal
 
 pub returns-in-Taken : goal.returns-in-Taken

@@ -1,6 +1,5 @@
 -- `flat::flat_finished` meets its contract, case by case.
 use mathlib.Core.Path.{refl}
-use borrow.Author.Rules.{rules}
 use Rattle.flat.proofs.loading.flat_finished.Goals as goal
 
 pub returns-in-Nodes : goal.returns-in-Nodes

@@ -1,5 +1,4 @@
 -- `flat::flat_loader` meets its contract, by what the state keeps.
-use borrow.Author.Rules.{rules}
 use Rattle.flat.proofs.loading.flat_loader.Goals as goal
 
 pub returns-in-Nothing : goal.returns-in-Nothing

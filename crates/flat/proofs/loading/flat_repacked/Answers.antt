@@ -1,6 +1,5 @@
 -- `flat::flat_repacked` meets its contract, case by case.
 use mathlib.Core.Path.{refl}
-use borrow.Author.Rules.{rules}
 use Rattle.flat.proofs.loading.flat_repacked.Goals as goal
 
 pub returns-in-Whole : goal.returns-in-Whole

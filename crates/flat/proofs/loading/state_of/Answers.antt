@@ -1,5 +1,4 @@
 -- `flat::state_of` meets its contract, field by field.
-use borrow.Author.Rules.{rules}
 use Rattle.flat.proofs.loading.state_of.Goals as goal
 
 pub returns : goal.returns

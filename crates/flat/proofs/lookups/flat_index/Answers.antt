@@ -1,6 +1,5 @@
 -- `flat::flat_index` meets its contract, case by case.
 use mathlib.Core.Path.{refl}
-use borrow.Author.Rules.{rules}
 use Rattle.flat.proofs.lookups.flat_index.Goals as goal
 
 pub returns-in-Number : goal.returns-in-Number

@@ -1,6 +1,5 @@
 -- `flat::flat_sought` meets its contract, case by case.
 use mathlib.Core.Path.{refl}
-use borrow.Author.Rules.{rules}
 use Rattle.flat.proofs.lookups.flat_sought.Goals as goal
 
 pub returns-in-At : goal.returns-in-At

@@ -1,6 +1,5 @@
 -- `flat::flat_word` meets its contract, case by case.
 use mathlib.Core.Path.{refl}
-use borrow.Author.Rules.{rules}
 use Rattle.flat.proofs.lookups.flat_word.Goals as goal
 
 pub returns-in-Tiles : goal.returns-in-Tiles

@@ -1,6 +1,5 @@
 -- `flat::flat_in_play` meets its contract, case by case.
 use mathlib.Core.Path.{refl}
-use borrow.Author.Rules.{rules}
 use Rattle.flat.proofs.playing.flat_in_play.Goals as goal
 
 pub returns-in-Remaining : goal.returns-in-Remaining

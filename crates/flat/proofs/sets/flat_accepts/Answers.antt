@@ -1,6 +1,5 @@
 -- `flat::flat_accepts` meets its contract, case by case; a flag read back is the flag.
 use mathlib.Core.Path.{refl, sym}
-use borrow.Author.Rules.{rules}
 use Rattle.base.specs.Numbers.{flag-read}
 use Rattle.flat.proofs.sets.flat_accepts.Goals as goal
 

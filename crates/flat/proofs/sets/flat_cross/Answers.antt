@@ -1,6 +1,5 @@
 -- `flat::flat_cross` meets its contract, case by case.
 use mathlib.Core.Path.{refl}
-use borrow.Author.Rules.{rules}
 use Rattle.flat.proofs.sets.flat_cross.Goals as goal
 
 pub returns-in-Tiles : goal.returns-in-Tiles

@@ -1,6 +1,5 @@
 -- `flat::flat_typed` meets its contract, case by case.
 use mathlib.Core.Path.{refl}
-use borrow.Author.Rules.{rules}
 use Rattle.flat.proofs.typing.flat_typed.Goals as goal
 
 pub returns-in-Word : goal.returns-in-Word

@@ -1,6 +1,5 @@
 -- `flat::flat_typed_list` meets its contract, case by case.
 use mathlib.Core.Path.{refl}
-use borrow.Author.Rules.{rules}
 use Rattle.flat.proofs.typing.flat_typed_list.Goals as goal
 
 pub returns-in-Words : goal.returns-in-Words

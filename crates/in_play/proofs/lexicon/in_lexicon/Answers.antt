@@ -15,7 +15,6 @@ use Rattle.in_play.specs.Said.{start_says}
 use Rattle.in_play.specs.declared.lexicon.StartCount.{StartCount}
 use Rattle.in_play.specs.declared.lexicon.StartCount.TheVariants as S
 use Rattle.in_play.proofs.PlayLaws.{no_start, few_bits, no_number, number_past, number-within}
-use borrow.Author.Rules.{rules}
 use Rattle.in_play.proofs.lexicon.in_lexicon.Goals as goal
 use Rattle.in_play.proofs.lexicon.in_lexicon.Goals.{After-get_word_index-index, After-start_count-words}
 

@@ -3,7 +3,6 @@ use mathlib.Core.Path.{sym, ◌∙◌}
 use native.Mathlib.Omega.{arith}
 use Rattle.lookup.specs.StepsLaws.{lent-on, lent_out}
 use Rattle.in_play.proofs.PlayLaws.{start-out, start_none, start-count}
-use borrow.Author.Rules.{rules}
 use Rattle.in_play.proofs.lexicon.start_count.Goals as goal
 
 pub returns-then-nodes-p : goal.returns-then-nodes-p

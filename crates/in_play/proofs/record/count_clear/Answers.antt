@@ -1,9 +1,8 @@
 -- `in_play::count_clear` meets its contract. The loop's invariant: those counted and those left from group g on are all.
-use borrow.Author.Rules.{rules}
 use native.Mathlib.Omega.{arith}
 use mathlib.Core.Path.{◌≡◌, refl, sym, ap, ◌∙◌}
 use mathlib.Core.List.{List}
-use Prim.Native.Nat.{ℕ, ◌+◌, ◌-◌, ◌/◌, ◌≤◌}
+use Prim.Native.Nat.{ℕ, ◌+◌, ◌/◌}
 use lib.Count.{ones}
 use lib.ListN.{length}
 use Rattle.in_play.specs.InPlay.{not_in_play}

@@ -1,14 +1,9 @@
 -- `in_play::count_clear` meets its contract. The loop's invariant: those counted and those left from group g on are all.
-use borrow.Author.Rules.{rules}
-use native.Mathlib.Omega.{arith}
-use mathlib.Core.Path.{◌≡◌, refl, sym, ap, ◌∙◌}
-use mathlib.Core.List.{List}
-use Prim.Native.Nat.{ℕ, ◌+◌, ◌-◌, ◌/◌, ◌≤◌}
-use lib.Count.{ones}
+use mathlib.Core.Path.{◌≡◌}
+use Prim.Native.Nat.{◌+◌, ◌-◌, ◌/◌, ◌≤◌}
 use lib.ListN.{length}
 use Rattle.in_play.specs.InPlay.{not_in_play}
-use Rattle.in_play.specs.Groups.{clear_bits}
-use Rattle.in_play.proofs.ScanLaws.{left_from, all_left, left-most, count_next, count-last}
+use Rattle.in_play.proofs.ScanLaws.{left_from}
 use Rattle.in_play.proofs.record.count_clear.Given as goal
 
 abbrev pub invariant-loop-g : goal.invariant-loop-g

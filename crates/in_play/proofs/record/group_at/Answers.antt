@@ -3,7 +3,6 @@ use mathlib.Core.Path.{sym, ap₂, ◌∙◌}
 use Prim.Native.Nat.{◌+◌, ◌*◌}
 use native.Mathlib.Omega.{arith}
 use Rattle.in_play.proofs.GroupLaws.{joined_eight}
-use borrow.Author.Rules.{rules}
 use Rattle.in_play.proofs.record.group_at.Goals as goal
 
 pub returns : goal.returns

@@ -3,8 +3,6 @@ use mathlib.Core.Path.{ap}
 use Prim.Native.Nat.{◌/◌, ◌%◌}
 use lib.Dec.{eqb}
 use lib.ListN.{get_or}
-use lib.Pow.{pow_pos}
-use borrow.Author.Rules.{rules}
 use Rattle.in_play.proofs.record.is_in_play.Goals as goal
 
 -- GONE div-result : tie.Need-nonzero-div-result

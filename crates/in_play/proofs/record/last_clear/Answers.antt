@@ -4,9 +4,8 @@ use Prim.Native.Nat.{◌%◌, ◌*◌, ◌^◌}
 use native.Mathlib.Omega.{arith}
 use native.Mathlib.Nat.{one-mul}
 use lib.Dec.{lit<}
-use lib.Pow.{pow_pos, shl_exact}
+use lib.Pow.{shl_exact}
 use Rattle.in_play.specs.Groups.{clear_bits}
-use borrow.Author.Rules.{rules}
 use Rattle.in_play.proofs.record.last_clear.Goals as goal
 use Rattle.in_play.proofs.record.last_clear.Goals.{After-clear_bits}
 

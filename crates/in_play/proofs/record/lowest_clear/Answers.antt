@@ -1,10 +1,9 @@
 -- `in_play::lowest_clear` meets its contract. The loop's invariant: the groups passed have no clear bit, so those left from group g on are all.
-use borrow.Author.Rules.{rules}
 use native.Mathlib.Omega.{arith}
 use mathlib.Core.Path.{◌≡◌, refl, sym, ap, ◌∙◌}
 use mathlib.Core.Logic.{◌≢◌}
 use mathlib.Core.List.{List}
-use Prim.Native.Nat.{ℕ, ◌+◌, ◌-◌, ◌*◌, ◌/◌, ◌≤◌}
+use Prim.Native.Nat.{ℕ, ◌+◌, ◌*◌, ◌/◌}
 use lib.Count.{count_trailing_zeros, trailing_le}
 use lib.Seq.{slice}
 use Rattle.in_play.specs.InPlay.{not_in_play}

@@ -1,16 +1,8 @@
 -- `in_play::lowest_clear` meets its contract. The loop's invariant: the groups passed have no clear bit, so those left from group g on are all.
-use borrow.Author.Rules.{rules}
-use native.Mathlib.Omega.{arith}
-use mathlib.Core.Path.{◌≡◌, refl, sym, ap, ◌∙◌}
-use mathlib.Core.Logic.{◌≢◌}
-use mathlib.Core.List.{List}
-use Prim.Native.Nat.{ℕ, ◌+◌, ◌-◌, ◌*◌, ◌/◌, ◌≤◌}
-use lib.Count.{count_trailing_zeros, trailing_le}
-use lib.Seq.{slice}
+use mathlib.Core.Path.{◌≡◌}
+use Prim.Native.Nat.{◌-◌, ◌/◌, ◌≤◌}
 use Rattle.in_play.specs.InPlay.{not_in_play}
-use Rattle.in_play.specs.Groups.{joined, clear_bits, last_clear, first_or}
-use Rattle.in_play.proofs.GroupLaws.{Bytes}
-use Rattle.in_play.proofs.ScanLaws.{left_from, all_left, lowest-here, none_here, lowest-last, last_some, last-below}
+use Rattle.in_play.proofs.ScanLaws.{left_from}
 use Rattle.in_play.proofs.record.lowest_clear.Given as goal
 
 abbrev pub invariant-loop-g : goal.invariant-loop-g

@@ -1,8 +1,7 @@
 -- `in_play::short_group` meets its contract. The loop's invariant: the bytes from k on are joined.
-use borrow.Author.Rules.{rules}
 use native.Mathlib.Omega.{arith}
 use mathlib.Core.Path.{◌≡◌, sym, ap, ◌∙◌}
-use Prim.Native.Nat.{◌+◌, ◌-◌, ◌*◌, ◌^◌, ◌≤◌, ◌<◌}
+use Prim.Native.Nat.{◌+◌, ◌-◌, ◌*◌, ◌^◌, ◌<◌}
 use lib.ListN.{get_or}
 use lib.Seq.{slice}
 use Rattle.in_play.specs.Groups.{joined}

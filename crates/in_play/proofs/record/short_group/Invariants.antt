@@ -1,12 +1,8 @@
 -- `in_play::short_group` meets its contract. The loop's invariant: the bytes from k on are joined.
-use borrow.Author.Rules.{rules}
-use native.Mathlib.Omega.{arith}
-use mathlib.Core.Path.{◌≡◌, sym, ap, ◌∙◌}
-use Prim.Native.Nat.{◌+◌, ◌-◌, ◌*◌, ◌^◌, ◌≤◌, ◌<◌}
-use lib.ListN.{get_or}
+use mathlib.Core.Path.{◌≡◌}
+use Prim.Native.Nat.{◌-◌, ◌≤◌}
 use lib.Seq.{slice}
 use Rattle.in_play.specs.Groups.{joined}
-use Rattle.in_play.proofs.GroupLaws.{part-below, joined-from, joined-none}
 use Rattle.in_play.proofs.record.short_group.Given as goal
 
 abbrev pub invariant-loop-k : goal.invariant-loop-k

@@ -4,7 +4,6 @@ use Prim.Native.Nat.{◌/◌}
 use lib.Bits.{bit_xor}
 use lib.ListN.{get_or, set}
 use Rattle.in_play.specs.InPlay.{turned}
-use borrow.Author.Rules.{rules}
 use Rattle.in_play.proofs.record.turn.Goals as goal
 
 pub returns : goal.returns

@@ -1,9 +1,8 @@
 -- `letter_set` meets its contract. The loop's invariant: the set, joined with that of the nodes left, is the run's.
-use mathlib.Core.Path.{◌≡◌, sym, ap, ◌∙◌}
+use mathlib.Core.Path.{sym, ap, ◌∙◌}
 use mathlib.Core.List.{List}
-use Prim.Native.Nat.{ℕ, ◌+◌, ◌-◌, ◌<◌}
+use Prim.Native.Nat.{ℕ, ◌+◌, ◌<◌}
 use native.Mathlib.Omega.{arith}
-use borrow.Author.Rules.{rules}
 use lib.Bits.{bit_or, or_zero_l}
 use lib.ListN.{length}
 use Rattle.letter_sets.specs.Letters.{set_by}

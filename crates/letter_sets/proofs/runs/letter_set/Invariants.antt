@@ -1,13 +1,9 @@
 -- `letter_set` meets its contract. The loop's invariant: the set, joined with that of the nodes left, is the run's.
-use mathlib.Core.Path.{◌≡◌, sym, ap, ◌∙◌}
-use mathlib.Core.List.{List}
-use Prim.Native.Nat.{ℕ, ◌+◌, ◌-◌, ◌<◌}
-use native.Mathlib.Omega.{arith}
-use borrow.Author.Rules.{rules}
-use lib.Bits.{bit_or, or_zero_l}
+use mathlib.Core.Path.{◌≡◌}
+use Prim.Native.Nat.{◌-◌}
+use lib.Bits.{bit_or}
 use lib.ListN.{length}
 use Rattle.letter_sets.specs.Letters.{set_by}
-use Rattle.letter_sets.proofs.RunLaws.{set_past, set-end, set_next}
 use Rattle.letter_sets.proofs.runs.letter_set.Given as goal
 
 abbrev pub invariant-loop-i : goal.invariant-loop-i

@@ -1,9 +1,8 @@
 -- `blocks::fill` meets its contract: the lines that are left, put where they go, give the block.
-use borrow.Author.Rules.{rules}
 use native.Mathlib.Omega.{arith}
-use Prim.Native.Nat.{ℕ, ◌-◌}
+use Prim.Native.Nat.{ℕ}
 use borrow.Author.Tests.{not-true, not-false}
-use Rattle.listing.proofs.BlocksLaws.{BlockFilling, block_filling_start, fill-next, fill-room, fill-last, fill_done}
+use Rattle.listing.proofs.BlocksLaws.{block_filling_start, fill-next, fill-room, fill-last, fill_done}
 use Rattle.listing.specs.Blocks.{NumberWalk}
 use Rattle.listing.specs.Printing.{walk_from}
 use Rattle.listing.proofs.blocks.fill.Goals as goal

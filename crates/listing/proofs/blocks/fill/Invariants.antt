@@ -1,10 +1,6 @@
 -- `blocks::fill` meets its contract: the lines that are left, put where they go, give the block.
-use borrow.Author.Rules.{rules}
-use native.Mathlib.Omega.{arith}
-use Prim.Native.Nat.{ℕ, ◌-◌}
-use borrow.Author.Tests.{not-true, not-false}
-use Rattle.listing.proofs.BlocksLaws.{BlockFilling, block_filling_start, fill-next, fill-room, fill-last, fill_done}
-use Rattle.listing.specs.Blocks.{NumberWalk}
+use Prim.Native.Nat.{◌-◌}
+use Rattle.listing.proofs.BlocksLaws.{BlockFilling}
 use Rattle.listing.specs.Printing.{walk_from}
 use Rattle.listing.proofs.blocks.fill.Given as goal
 

@@ -4,7 +4,6 @@ use native.Mathlib.Omega.{arith}
 use mathlib.Core.Path.{refl}
 use Rattle.listing.proofs.LinesLaws.{refusal-length}
 use Rattle.listing.proofs.BlocksLaws.{made-refusal, made-words, made-done}
-use borrow.Author.Rules.{rules}
 use Rattle.listing.proofs.blocks.next_block.Goals as goal
 
 pub put_refusal-requires : goal.put_refusal-requires

@@ -12,7 +12,6 @@ use Rattle.listing.specs.Wordlist.{most_tiles}
 use Rattle.listing.specs.Printing.{walk_from}
 use Rattle.listing.proofs.LinesLaws.{refusal-length}
 use Rattle.listing.proofs.WordLaws.{Tiled, tiled, WordIn, word_in, line-room, word_line, word_refused, word_none}
-use borrow.Author.Rules.{rules}
 use Rattle.listing.proofs.blocks.put_word.Goals as goal
 use Rattle.listing.proofs.blocks.put_word.Goals.{After-get_word_by_index, In-Tiles, Start}
 

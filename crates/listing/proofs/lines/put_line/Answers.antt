@@ -3,7 +3,6 @@ use native.Mathlib.Omega.{arith}
 use Rattle.endian.specs.Puts.{put-size}
 use Rattle.listing.proofs.LinesLaws.{line-parts}
 use Rattle.listing.proofs.PutLaws.{put-parts}
-use borrow.Author.Rules.{rules}
 use Rattle.listing.proofs.lines.put_line.Goals as goal
 use Rattle.listing.proofs.lines.put_line.Goals.{After-put_byte-tiles, After-put_number-tab, After-put_tiles-end, Start}
 

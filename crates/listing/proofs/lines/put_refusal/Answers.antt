@@ -7,7 +7,6 @@ use lib.Seq.{length-sets}
 use Rattle.endian.specs.Puts.{Puts, put-size, put_both}
 use Rattle.listing.specs.Lines.{refused_tab, refusal_line}
 use Rattle.listing.proofs.LinesLaws.{refusal-parts}
-use borrow.Author.Rules.{rules}
 use Rattle.listing.proofs.lines.put_refusal.Goals as goal
 use Rattle.listing.proofs.lines.put_refusal.Goals.{After-put_number-end, After-write_bytes, Start}
 

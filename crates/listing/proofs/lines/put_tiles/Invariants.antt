@@ -1,15 +1,9 @@
 -- `lines::put_tiles` meets its contract: the first tile, and then each other after a space; what is left to put, put where it goes, gives
 -- the whole.
-use borrow.Author.Rules.{rules}
-use native.Mathlib.Omega.{arith}
-use mathlib.Core.Path.{refl}
 use Prim.Native.Nat.{◌+◌, ◌-◌, ◌≤◌, ◌<◌}
-use lib.ListN.{length, get_or, drop}
-use Rattle.endian.specs.Putting.{Putting, put-start}
-use Rattle.endian.specs.Puts.{put-none, put-size, next-put, all-put}
+use lib.ListN.{length, drop}
+use Rattle.endian.specs.Putting.{Putting}
 use Rattle.listing.specs.Lines.{spaced}
-use Rattle.listing.proofs.LinesLaws.{parted-none, first-parts, next-parts, spaced-next, spaced-done}
-use Rattle.listing.proofs.PutLaws.{put-parted, put-spaced}
 use Rattle.listing.proofs.lines.put_tiles.Given as goal
 
 abbrev pub invariant-loop-i : goal.invariant-loop-i

@@ -3,7 +3,6 @@ use native.Mathlib.Omega.{arith}
 use mathlib.Core.Path.{ap}
 use Rattle.load.specs.Said.{said_finish}
 use Rattle.listing.proofs.OpeningLaws.{refuses-by}
-use borrow.Author.Rules.{rules}
 use Rattle.listing.proofs.opening.after_begin.Goals as goal
 
 pub returns-in-BadState : goal.returns-in-BadState

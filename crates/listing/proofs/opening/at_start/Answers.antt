@@ -1,7 +1,6 @@
 -- `opening::at_start` meets its contract: the start is node 0's arc; where that is 0 there are no words.
 use Rattle.listing.proofs.OpeningLaws.{start_none, start-some}
 use native.Mathlib.Omega.{arith}
-use borrow.Author.Rules.{rules}
 use Rattle.listing.proofs.opening.at_start.Goals as goal
 
 pub returns-then-start-eq0 : goal.returns-then-start-eq0

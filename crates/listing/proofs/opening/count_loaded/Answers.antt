@@ -7,7 +7,6 @@ use Rattle.answers.specs.Answers.{Answer, gives}
 use Rattle.graph.specs.Counting.{IsCounted, count_limit}
 use Rattle.count.specs.Said.{said_counting}
 use Rattle.listing.proofs.OpeningLaws.{start-stands, counts-done, counts_refused}
-use borrow.Author.Rules.{rules}
 use Rattle.listing.proofs.opening.count_loaded.Goals as goal
 use Rattle.listing.proofs.opening.count_loaded.Goals.{After-count_words, After-slice_known-4-1, Start}
 

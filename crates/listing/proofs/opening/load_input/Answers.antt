@@ -3,7 +3,6 @@ use mathlib.Core.Path.{ap}
 use Rattle.load.specs.Said.{said_begin}
 use Rattle.listing.specs.Wordlist.{load_input}
 use Rattle.listing.proofs.OpeningLaws.{Answered, whole-load, load_refused_by-begin, load-past-begin}
-use borrow.Author.Rules.{rules}
 use Rattle.listing.proofs.opening.load_input.Goals as goal
 use Rattle.listing.proofs.opening.load_input.Goals.{After-begin-begun, After-feed-fed, After-finish-finished, Start}
 

@@ -7,7 +7,6 @@ use lib.ListN.{length, take, length-take}
 use lib.Seq.{length-take-le}
 use Rattle.listing.specs.Wordlist.{most_bytes}
 use Rattle.listing.proofs.OpeningLaws.{loads_as, nodes-within, read-longer, opens-read, open-longer, open-unloaded, open-loaded}
-use borrow.Author.Rules.{rules}
 use Rattle.listing.proofs.opening.open_read.Goals as goal
 use Rattle.listing.proofs.opening.open_read.Goals.{After-load_input-arg-1, Start}
 

@@ -1,5 +1,4 @@
 -- `machirsun::machirsun_build` meets its contract: the answer is made flat.
-use borrow.Author.Rules.{rules}
 use Rattle.machirsun.proofs.building.machirsun_build.Goals as goal
 
 pub returns : goal.returns

@@ -1,5 +1,4 @@
 -- `machirsun::machirsun_count_words` meets its contract: the answer is made flat.
-use borrow.Author.Rules.{rules}
 use Rattle.machirsun.proofs.counting.machirsun_count_words.Goals as goal
 
 pub returns : goal.returns

@@ -1,5 +1,4 @@
 -- `machirsun::machirsun_to_lxd` meets its contract: the answer is made flat.
-use borrow.Author.Rules.{rules}
 use Rattle.machirsun.proofs.files.machirsun_to_lxd.Goals as goal
 
 pub returns : goal.returns

@@ -3,7 +3,6 @@ use mathlib.Core.Path.{ap, ◌∙◌}
 use lib.ListN.{length}
 use Rattle.macondo_file.specs.Row.{to_macondo}
 use Rattle.macondo.specs.Said.{format_of}
-use borrow.Author.Rules.{rules}
 use Rattle.machirsun.proofs.files.machirsun_to_macondo.Goals as goal
 use Rattle.machirsun.proofs.files.machirsun_to_macondo.Goals.{After-format_numbered-kind, Start}
 

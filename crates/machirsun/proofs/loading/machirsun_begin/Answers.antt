@@ -4,7 +4,6 @@ use lib.ListN.{length}
 use Rattle.load.specs.Loading.{begin}
 use Rattle.flat.specs.PlainLaws.{plain_refusal}
 use Rattle.flat.specs.StateLaws.{reads-state, flat-state}
-use borrow.Author.Rules.{rules}
 use Rattle.machirsun.proofs.loading.machirsun_begin.Goals as goal
 
 pub returns : goal.returns

@@ -2,7 +2,6 @@
 use mathlib.Core.Path.{ap, ◌∙◌}
 use Rattle.load.specs.Loading.{feed}
 use Rattle.flat.specs.StateLaws.{reads-state, flat-state}
-use borrow.Author.Rules.{rules}
 use Rattle.machirsun.proofs.loading.machirsun_feed.Goals as goal
 
 pub returns : goal.returns

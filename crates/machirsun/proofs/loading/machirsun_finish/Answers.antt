@@ -1,7 +1,6 @@
 -- `machirsun::machirsun_finish` meets its contract: the state is read, and the answer is made flat.
 use mathlib.Core.Path.{ap, ◌∙◌}
 use Rattle.load.specs.Loading.{finish}
-use borrow.Author.Rules.{rules}
 use Rattle.machirsun.proofs.loading.machirsun_finish.Goals as goal
 
 pub returns : goal.returns

@@ -4,7 +4,6 @@ use Rattle.pieces.specs.Pieces.{cut_at, load_pieces}
 use Rattle.pieces.specs.Said.{load_leaves}
 use Rattle.flat.specs.PlainLaws.{plain_refusal}
 use Rattle.flat.specs.StateLaws.{reads-state, flat-state}
-use borrow.Author.Rules.{rules}
 use Rattle.machirsun.proofs.loading.machirsun_load_in_pieces.Goals as goal
 use Rattle.machirsun.proofs.loading.machirsun_load_in_pieces.Goals.{After-begin_refusal, After-layout_of-read, After-load_in_pieces-loaded, Start}
 

@@ -2,7 +2,6 @@
 use mathlib.Core.Path.{ap₂, ◌∙◌}
 use Rattle.node.specs.Said.{bit_layout}
 use Rattle.load.specs.Repacking.{repack_answer, repacked_bytes}
-use borrow.Author.Rules.{rules}
 use Rattle.machirsun.proofs.loading.machirsun_repack.Goals as goal
 
 pub returns : goal.returns

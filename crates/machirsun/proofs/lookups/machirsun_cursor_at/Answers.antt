@@ -2,7 +2,6 @@
 use mathlib.Core.Path.{◌≡◌, refl, ap, ◌∙◌}
 use Rattle.flat.specs.FlatLookups.{made_in, made_at}
 use Rattle.machirsun.proofs.CursorLaws.{made-lent, made-out}
-use borrow.Author.Rules.{rules}
 use Rattle.machirsun.proofs.lookups.machirsun_cursor_at.Goals as goal
 use Rattle.machirsun.proofs.lookups.machirsun_cursor_at.Goals.{After-lent_part-lent, Start}
 

@@ -7,7 +7,6 @@ use Rattle.cursor.specs.Said.{said_step}
 use Rattle.cursor.specs.declared.Stepped.{Stepped}
 use Rattle.cursor.specs.declared.Stepped.TheVariants.{To, Done, NotLent}
 use Rattle.machirsun.proofs.CursorLaws.{step-reached}
-use borrow.Author.Rules.{rules}
 use Rattle.machirsun.proofs.lookups.machirsun_cursor_step.Goals as goal
 use Rattle.machirsun.proofs.lookups.machirsun_cursor_step.Goals.{After-step_once-moved, Start}
 

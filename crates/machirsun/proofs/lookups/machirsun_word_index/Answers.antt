@@ -1,6 +1,5 @@
 -- `machirsun::machirsun_word_index` meets its contract: the answer is made flat.
 use mathlib.Core.Path.{◌∙◌}
-use borrow.Author.Rules.{rules}
 use Rattle.machirsun.proofs.lookups.machirsun_word_index.Goals as goal
 
 pub returns : goal.returns

@@ -1,5 +1,4 @@
 -- `machirsun::machirsun_write_page` meets its contract: the answer is made flat.
-use borrow.Author.Rules.{rules}
 use Rattle.machirsun.proofs.pages.machirsun_write_page.Goals as goal
 
 pub returns : goal.returns

@@ -1,5 +1,4 @@
 -- `machirsun::machirsun_arrive` meets its contract: the answer is made flat.
-use borrow.Author.Rules.{rules}
 use Rattle.machirsun.proofs.playing.machirsun_arrive.Goals as goal
 
 pub returns : goal.returns

@@ -1,5 +1,4 @@
 -- `machirsun::machirsun_leave` meets its contract: the answer is made flat.
-use borrow.Author.Rules.{rules}
 use Rattle.machirsun.proofs.playing.machirsun_leave.Goals as goal
 
 pub returns : goal.returns

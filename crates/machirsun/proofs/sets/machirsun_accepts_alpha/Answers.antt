@@ -1,6 +1,5 @@
 -- `machirsun::machirsun_accepts_alpha` meets its contract: the answer is made flat.
 use mathlib.Core.Path.{◌∙◌}
-use borrow.Author.Rules.{rules}
 use Rattle.machirsun.proofs.sets.machirsun_accepts_alpha.Goals as goal
 
 pub returns : goal.returns

@@ -1,6 +1,5 @@
 -- `machirsun::machirsun_alpha_cross_set` meets its contract: the answer is made flat.
 use mathlib.Core.Path.{◌∙◌}
-use borrow.Author.Rules.{rules}
 use Rattle.machirsun.proofs.sets.machirsun_alpha_cross_set.Goals as goal
 
 pub returns : goal.returns

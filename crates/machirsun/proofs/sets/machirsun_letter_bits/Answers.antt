@@ -1,5 +1,4 @@
 -- `machirsun::machirsun_letter_bits` meets its contract: the answer is made flat.
-use borrow.Author.Rules.{rules}
 use Rattle.machirsun.proofs.sets.machirsun_letter_bits.Goals as goal
 
 pub returns : goal.returns

@@ -1,5 +1,4 @@
 -- `machirsun::machirsun_next_word` meets its contract: the answer is made flat.
-use borrow.Author.Rules.{rules}
 use Rattle.machirsun.proofs.typing.machirsun_next_word.Goals as goal
 
 pub returns : goal.returns

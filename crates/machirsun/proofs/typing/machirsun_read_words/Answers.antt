@@ -1,5 +1,4 @@
 -- `machirsun::machirsun_read_words` meets its contract: the answer is made flat.
-use borrow.Author.Rules.{rules}
 use Rattle.machirsun.proofs.typing.machirsun_read_words.Goals as goal
 
 pub returns : goal.returns

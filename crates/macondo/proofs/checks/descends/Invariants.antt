@@ -1,14 +1,10 @@
 -- `descends` meets its contract. The loop's invariant: the nodes left ascend from the lowest tile that may come next just where all do.
-use borrow.Author.Rules.{rules}
-use native.Mathlib.Omega.{arith}
-use mathlib.Core.Path.{◌≡◌, sym, ap, ◌∙◌}
-use mathlib.Core.Bool.{not}
-use mathlib.Core.List.{List}
-use Prim.Native.Nat.{ℕ, ◌-◌, ◌<◌}
+use mathlib.Core.Path.{◌≡◌}
+use Prim.Native.Nat.{◌-◌}
 use lib.ListN.{length, drop}
 use Rattle.node.specs.Nodes.{kbwg}
 use Rattle.graph.specs.Runs.{ascends}
-use Rattle.macondo.proofs.Tests.{ascends_from, from_any, first_falls, first_passes, ascends-past}
+use Rattle.macondo.proofs.Tests.{ascends_from}
 use Rattle.macondo.proofs.checks.descends.Given as goal
 
 abbrev pub invariant-loop-i : goal.invariant-loop-i

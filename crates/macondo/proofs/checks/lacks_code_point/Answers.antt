@@ -1,8 +1,5 @@
 -- `lacks_code_point` meets its contract: what is left of the labels decides.
-use borrow.Author.Rules.{rules}
-use Prim.Native.Nat.{◌-◌}
-use lib.ListN.{length}
-use Rattle.laws.specs.Searching.{Searching, Tested, search-begins, search_finds, search-passes, search-ends}
+use Rattle.laws.specs.Searching.{Tested, search-begins, search_finds, search-passes, search-ends}
 use Rattle.macondo_file.specs.Row.{no_code_point}
 use Rattle.macondo.proofs.checks.lacks_code_point.Goals as goal
 use Rattle.macondo.proofs.checks.lacks_code_point.Goals.{After-no_code_point, In-loop-i}

@@ -1,8 +1,7 @@
 -- `lacks_code_point` meets its contract: what is left of the labels decides.
-use borrow.Author.Rules.{rules}
 use Prim.Native.Nat.{◌-◌}
 use lib.ListN.{length}
-use Rattle.laws.specs.Searching.{Searching, Tested, search-begins, search_finds, search-passes, search-ends}
+use Rattle.laws.specs.Searching.{Searching}
 use Rattle.macondo_file.specs.Row.{no_code_point}
 use Rattle.macondo.proofs.checks.lacks_code_point.Given as goal
 

@@ -1,7 +1,6 @@
 -- `lowest_after` meets its contract: after an end any tile may come, else the tiles above the node's own.
 use mathlib.Core.Path.{sym, ◌∙◌}
 use Rattle.macondo.proofs.Tests.{any_after-end, higher-after}
-use borrow.Author.Rules.{rules}
 use Rattle.macondo.proofs.checks.lowest_after.Goals as goal
 
 pub returns-then-is_end : goal.returns-then-is_end

@@ -6,7 +6,6 @@ use Rattle.graph.specs.Runs.{start_node}
 use Rattle.macondo_file.specs.File.{marks}
 use Rattle.macondo.specs.declared.MacondoFormat.{MacondoFormat}
 use Rattle.macondo.specs.Said.{format_of}
-use borrow.Author.Rules.{rules}
 use Rattle.macondo.proofs.walk.start_of.Goals as goal
 
 abbrev first : List ℕ → MacondoFormat → ℕ

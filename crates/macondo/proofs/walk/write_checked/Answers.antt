@@ -20,7 +20,6 @@ use Rattle.macondo.specs.declared.Macondo.{Macondo}
 use Rattle.macondo.specs.declared.Macondo.TheVariants as M
 use Rattle.macondo.specs.Said.{format_of, said_macondo, macondo_written_as}
 use Rattle.macondo.specs.BlocksHeld.{BlocksHeld}
-use borrow.Author.Rules.{rules}
 use Rattle.macondo.proofs.walk.write_checked.Goals as goal
 use Rattle.macondo.proofs.walk.write_checked.Goals.{After-lacks_code_point, After-number_blocks-found, After-start_of-s, After-write_numbered, Else-lacks_code_point, In-Done, Start}
 

@@ -13,7 +13,6 @@ use Rattle.macondo.specs.Said.{format_of}
 use Rattle.macondo.proofs.RankLaws.{letters-tiles, letter-entries-below, ranks-are, ranks-small}
 use Rattle.macondo.proofs.TablesLaws.{TablesRecorded, tables-filled}
 use Rattle.macondo.proofs.SizeLaws.{too_many, too_short, all-written}
-use borrow.Author.Rules.{rules}
 use Rattle.macondo.proofs.walk.write_numbered.Goals as goal
 use Rattle.macondo.proofs.walk.write_numbered.Goals.{After-file_size-size, After-letters-letters, After-magic, After-number_sets, After-ranks-ranks, After-struct_known-1, After-write_file-arg-1, Else-file-size, Start}
 

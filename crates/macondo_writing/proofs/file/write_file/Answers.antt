@@ -1,6 +1,5 @@
 -- `write_file` meets its contract: the sections stand one after the other, each where the one before it ends.
 use Rattle.macondo_writing.proofs.SectionLaws.{file-stored}
-use borrow.Author.Rules.{rules}
 use Rattle.macondo_writing.proofs.file.write_file.Goals as goal
 use Rattle.macondo_writing.proofs.file.write_file.Goals.{After-write_code_points, After-write_nodes, After-write_opening, After-write_sets, Start}
 

@@ -7,7 +7,6 @@ use lib.ListN.{get_or}
 use Rattle.block_record.specs.declared.Place.TheVariants.{Numbered, Unnumbered}
 use Rattle.macondo_writing.specs.FileTables.{arc_in}
 use Rattle.macondo_writing.proofs.BlockNodes.{arc_unnumbered, arc-numbered, number-low}
-use borrow.Author.Rules.{rules}
 use Rattle.macondo_writing.proofs.nodes.arc_node.Goals as goal
 use Rattle.macondo_writing.proofs.nodes.arc_node.Goals.{After-place_of-child, After-tile, Start}
 

@@ -1,12 +1,11 @@
 -- `write_block` meets its contract: after the head, the arcs left, written where they go, give the block.
-use borrow.Author.Rules.{rules}
 use native.Mathlib.Omega.{arith}
 use mathlib.Core.Path.{◌≡◌, sym, ◌∙◌}
 use mathlib.Core.List.{List, map}
-use Prim.Native.Nat.{ℕ, ◌-◌, ◌+◌, ◌≤◌, ◌<◌}
+use Prim.Native.Nat.{ℕ, ◌+◌, ◌≤◌, ◌<◌}
 use lib.ListN.{length, get_or, take}
 use Rattle.macondo_writing.specs.FileTables.{arc_in}
-use Rattle.macondo_writing.proofs.SectionLaws.{SectionWriting, writing_start, writing-room, writing-next, writing-done, made-length, made_at}
+use Rattle.macondo_writing.proofs.SectionLaws.{writing_start, writing-room, writing-next, writing-done, made-length, made_at}
 use Rattle.macondo_writing.proofs.BlockNodes.{block-stored}
 use Rattle.macondo_writing.proofs.nodes.write_block.Goals as goal
 use Rattle.macondo_writing.proofs.nodes.write_block.Goals.{After-arc_node, After-slice_known-2-1, At-loop-i, In-loop-i, Start}

@@ -1,9 +1,8 @@
 -- `write_nodes` meets its contract: after the count, the blocks left, written where they go, give the section.
-use borrow.Author.Rules.{rules}
 use native.Mathlib.Omega.{arith}
 use mathlib.Core.Path.{◌≡◌, refl}
 use mathlib.Core.List.{List}
-use Prim.Native.Nat.{ℕ, ◌+◌, ◌-◌, ◌*◌, ◌≤◌, ◌<◌}
+use Prim.Native.Nat.{ℕ, ◌+◌, ◌*◌, ◌≤◌, ◌<◌}
 use lib.ListN.{length, get_or, take}
 use lib.Seq.{sets}
 use Rattle.node.specs.Nodes.{kbwg, arc}

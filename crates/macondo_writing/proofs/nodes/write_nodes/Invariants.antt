@@ -1,17 +1,8 @@
 -- `write_nodes` meets its contract: after the count, the blocks left, written where they go, give the section.
-use borrow.Author.Rules.{rules}
-use native.Mathlib.Omega.{arith}
-use mathlib.Core.Path.{◌≡◌, refl}
-use mathlib.Core.List.{List}
-use Prim.Native.Nat.{ℕ, ◌+◌, ◌-◌, ◌*◌, ◌≤◌, ◌<◌}
-use lib.ListN.{length, get_or, take}
-use lib.Seq.{sets}
-use Rattle.node.specs.Nodes.{kbwg, arc}
-use Rattle.endian.specs.Bytes.{big_endians}
-use Rattle.macondo_blocks.specs.ArcsLaws.{child-inside}
-use Rattle.macondo_writing.specs.FileTables.{block_in, block_nodes_from, TablesFilled}
-use Rattle.macondo_writing.proofs.SectionLaws.{section-stored}
-use Rattle.macondo_writing.proofs.BlockNodes.{BlocksFrom, blocks_start, block-fits, blocks-next, blocks-done}
+use mathlib.Core.Path.{◌≡◌}
+use Prim.Native.Nat.{◌+◌, ◌-◌}
+use lib.ListN.{length}
+use Rattle.macondo_writing.proofs.BlockNodes.{BlocksFrom}
 use Rattle.macondo_writing.proofs.nodes.write_nodes.Given as goal
 
 abbrev pub invariant-loop-j : goal.invariant-loop-j

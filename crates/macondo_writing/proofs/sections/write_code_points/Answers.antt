@@ -1,11 +1,10 @@
 -- `write_code_points` meets its contract: after the count, the code points left, written where they go, give the section.
-use borrow.Author.Rules.{rules}
 use native.Mathlib.Omega.{arith}
 use mathlib.Core.Path.{◌≡◌, sym}
 use mathlib.Core.List.{List, map}
-use Prim.Native.Nat.{ℕ, ◌+◌, ◌-◌, ◌≤◌, ◌<◌}
+use Prim.Native.Nat.{ℕ, ◌+◌, ◌≤◌, ◌<◌}
 use lib.ListN.{length, get_or, take}
-use Rattle.macondo_writing.proofs.SectionLaws.{SectionWriting, writing_start, writing-room, writing-next, writing-done}
+use Rattle.macondo_writing.proofs.SectionLaws.{writing_start, writing-room, writing-next, writing-done}
 use Rattle.macondo_writing.proofs.SectionLaws.{section-stored, made-length, made_at}
 use Rattle.macondo_writing.proofs.sections.write_code_points.Goals as goal
 use Rattle.macondo_writing.proofs.sections.write_code_points.Goals.{After-slice_known-2-1, After-write_be_u32-in-loop-i, At-loop-i, In-loop-i, Start}

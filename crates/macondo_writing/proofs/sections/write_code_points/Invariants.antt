@@ -1,12 +1,8 @@
 -- `write_code_points` meets its contract: after the count, the code points left, written where they go, give the section.
-use borrow.Author.Rules.{rules}
-use native.Mathlib.Omega.{arith}
-use mathlib.Core.Path.{◌≡◌, sym}
-use mathlib.Core.List.{List, map}
-use Prim.Native.Nat.{ℕ, ◌+◌, ◌-◌, ◌≤◌, ◌<◌}
-use lib.ListN.{length, get_or, take}
-use Rattle.macondo_writing.proofs.SectionLaws.{SectionWriting, writing_start, writing-room, writing-next, writing-done}
-use Rattle.macondo_writing.proofs.SectionLaws.{section-stored, made-length, made_at}
+use mathlib.Core.List.{map}
+use Prim.Native.Nat.{◌+◌, ◌-◌}
+use lib.ListN.{get_or, take}
+use Rattle.macondo_writing.proofs.SectionLaws.{SectionWriting}
 use Rattle.macondo_writing.proofs.sections.write_code_points.Given as goal
 
 abbrev pub invariant-loop-i : goal.invariant-loop-i

@@ -1,9 +1,7 @@
 -- `write_opening` meets its contract: its three stores are one, of the magic and then the name after its length.
 use native.Mathlib.Omega.{arith}
-use mathlib.Core.Path.{◌∙◌}
 use lib.ListN.{length-set}
 use Rattle.macondo_writing.proofs.SectionLaws.{opening-stored}
-use borrow.Author.Rules.{rules}
 use Rattle.macondo_writing.proofs.sections.write_opening.Goals as goal
 use Rattle.macondo_writing.proofs.sections.write_opening.Goals.{After-write_be_u32, After-write_bytes, Start}
 

@@ -1,14 +1,13 @@
 -- `write_sets` meets its contract: after the count, the sets left, written where they go, give the section.
-use borrow.Author.Rules.{rules}
 use native.Mathlib.Omega.{arith}
 use mathlib.Core.Path.{◌≡◌, sym, ◌∙◌}
 use mathlib.Core.List.{List}
-use Prim.Native.Nat.{ℕ, ◌+◌, ◌-◌, ◌*◌, ◌≤◌, ◌<◌}
+use Prim.Native.Nat.{ℕ, ◌+◌, ◌*◌, ◌≤◌, ◌<◌}
 use lib.ListN.{length, get_or}
 use Rattle.letter_sets.specs.HalvesLaws.{set_halves}
 use Rattle.letter_sets.specs.SetNumbers.{set_at, sets_in}
 use Rattle.laws.specs.Tables.{table-length, table_at}
-use Rattle.macondo_writing.proofs.SectionLaws.{SectionWriting, writing_start, writing-room, writing-next, writing-done, section-stored}
+use Rattle.macondo_writing.proofs.SectionLaws.{writing_start, writing-room, writing-next, writing-done, section-stored}
 use Rattle.macondo_writing.proofs.sections.write_sets.Goals as goal
 use Rattle.macondo_writing.proofs.sections.write_sets.Goals.{After-slice_known-2-1, After-write_be_halves, At-loop-i, In-loop-i, Start}
 

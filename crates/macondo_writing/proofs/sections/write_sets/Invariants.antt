@@ -1,14 +1,7 @@
 -- `write_sets` meets its contract: after the count, the sets left, written where they go, give the section.
-use borrow.Author.Rules.{rules}
-use native.Mathlib.Omega.{arith}
-use mathlib.Core.Path.{◌≡◌, sym, ◌∙◌}
-use mathlib.Core.List.{List}
-use Prim.Native.Nat.{ℕ, ◌+◌, ◌-◌, ◌*◌, ◌≤◌, ◌<◌}
-use lib.ListN.{length, get_or}
-use Rattle.letter_sets.specs.HalvesLaws.{set_halves}
-use Rattle.letter_sets.specs.SetNumbers.{set_at, sets_in}
-use Rattle.laws.specs.Tables.{table-length, table_at}
-use Rattle.macondo_writing.proofs.SectionLaws.{SectionWriting, writing_start, writing-room, writing-next, writing-done, section-stored}
+use Prim.Native.Nat.{◌+◌, ◌-◌}
+use Rattle.letter_sets.specs.SetNumbers.{sets_in}
+use Rattle.macondo_writing.proofs.SectionLaws.{SectionWriting}
 use Rattle.macondo_writing.proofs.sections.write_sets.Given as goal
 
 abbrev pub invariant-loop-i : goal.invariant-loop-i

@@ -1,12 +1,8 @@
 -- `checks::label_outside` meets its contract: what is left of the tiles answers for all of them.
-use borrow.Author.Rules.{rules}
-use mathlib.Core.Path.{ap, ◌∙◌}
-use mathlib.Core.List.{List}
-use Prim.Native.Nat.{ℕ, ◌-◌}
+use Prim.Native.Nat.{◌-◌}
 use lib.ListN.{length}
-use Rattle.page.specs.Page.{outside}
-use Rattle.page.proofs.LabelLaws.{unshown, label-there}
-use Rattle.laws.specs.Searching.{Searching, Tested, search-begins, search_finds, search-passes, search-ends}
+use Rattle.page.proofs.LabelLaws.{unshown}
+use Rattle.laws.specs.Searching.{Searching}
 use Rattle.page.proofs.checks.label_outside.Given as goal
 
 abbrev pub invariant-loop-i : goal.invariant-loop-i

@@ -1,9 +1,8 @@
 -- `checks::some_unlabelled` meets its contract: what is left of the tiles answers for all of them.
-use borrow.Author.Rules.{rules}
 use Prim.Native.Nat.{◌-◌}
 use lib.ListN.{length}
 use Rattle.page.proofs.LabelLaws.{lacks_label}
-use Rattle.laws.specs.Searching.{Searching, Tested, search-begins, search_finds, search-passes, search-ends}
+use Rattle.laws.specs.Searching.{Searching}
 use Rattle.page.proofs.checks.some_unlabelled.Given as goal
 
 abbrev pub invariant-loop-i : goal.invariant-loop-i

@@ -1,10 +1,8 @@
 -- `checks::text_outside` meets its contract: what is left of the text answers for all of it.
-use borrow.Author.Rules.{rules}
-use mathlib.Core.Path.{ap, ◌∙◌}
 use Prim.Native.Nat.{◌-◌}
 use lib.ListN.{length}
 use Rattle.page.specs.Page.{outside}
-use Rattle.laws.specs.Searching.{Searching, Tested, search-begins, search_finds, search-passes, search-ends}
+use Rattle.laws.specs.Searching.{Searching}
 use Rattle.page.proofs.checks.text_outside.Given as goal
 
 abbrev pub invariant-loop-i : goal.invariant-loop-i

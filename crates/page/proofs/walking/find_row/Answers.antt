@@ -9,7 +9,6 @@ use Rattle.lookup.specs.Walks.{word_by_index}
 use Rattle.lookup.specs.WalkedLaws.{by-index-walked}
 use Rattle.page.specs.Rows.{page_widths}
 use Rattle.page.proofs.WalkingLaws.{Walked, row-found, row-full, row-blank, row-not-lent, row-out_of_range}
-use borrow.Author.Rules.{rules}
 use Rattle.page.proofs.walking.find_row.Goals as goal
 use Rattle.page.proofs.walking.find_row.Goals.{After-get_word_by_index, Start}
 

@@ -1,5 +1,4 @@
 -- `walking::walk_rows` meets its contract: what the walks that are left find, after what is held, is what all walks find.
-use borrow.Author.Rules.{rules}
 use native.Mathlib.Omega.{arith}
 use mathlib.Core.Path.{◌≡◌, sym, ap, ◌∙◌}
 use mathlib.Core.List.{List}

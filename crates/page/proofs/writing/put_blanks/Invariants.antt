@@ -1,13 +1,7 @@
 -- `writing::put_blanks` meets its contract: what is left to put, put where it goes, gives all of it.
-use borrow.Author.Rules.{rules}
-use native.Mathlib.Omega.{arith}
-use mathlib.Core.Path.{◌≡◌, refl}
-use mathlib.Core.List.{[], ◌∷◌}
 use Prim.Native.Nat.{◌+◌, ◌-◌, ◌≤◌}
-use Rattle.endian.specs.Putting.{Putting, put-start, put_next}
-use Rattle.endian.specs.Puts.{all-put}
-use Rattle.page.specs.Rows.{blank, blanks}
-use Rattle.page.proofs.PutLaws.{blanks-next, blanks-done}
+use Rattle.endian.specs.Putting.{Putting}
+use Rattle.page.specs.Rows.{blanks}
 use Rattle.page.proofs.writing.put_blanks.Given as goal
 
 abbrev pub invariant-loop-i : goal.invariant-loop-i

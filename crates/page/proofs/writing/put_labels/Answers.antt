@@ -1,11 +1,10 @@
 -- `writing::put_labels` meets its contract: what is left to put, put where it goes, gives all of it.
-use borrow.Author.Rules.{rules}
 use native.Mathlib.Omega.{arith}
 use mathlib.Core.Path.{◌≡◌}
 use mathlib.Core.List.{List, [], ◌∷◌, ◌++◌, map}
-use Prim.Native.Nat.{ℕ, ◌+◌, ◌-◌, ◌≤◌, ◌<◌}
+use Prim.Native.Nat.{ℕ, ◌+◌, ◌<◌}
 use lib.ListN.{length, get_or, drop}
-use Rattle.endian.specs.Putting.{Putting, put-start, put_next}
+use Rattle.endian.specs.Putting.{put-start, put_next}
 use Rattle.endian.specs.Puts.{all-put}
 use Rattle.page.specs.Rows.{label_of}
 use Rattle.page.proofs.LabelLaws.{label_at}

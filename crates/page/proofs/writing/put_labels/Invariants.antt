@@ -1,15 +1,9 @@
 -- `writing::put_labels` meets its contract: what is left to put, put where it goes, gives all of it.
-use borrow.Author.Rules.{rules}
-use native.Mathlib.Omega.{arith}
-use mathlib.Core.Path.{◌≡◌}
-use mathlib.Core.List.{List, [], ◌∷◌, ◌++◌, map}
-use Prim.Native.Nat.{ℕ, ◌+◌, ◌-◌, ◌≤◌, ◌<◌}
-use lib.ListN.{length, get_or, drop}
-use Rattle.endian.specs.Putting.{Putting, put-start, put_next}
-use Rattle.endian.specs.Puts.{all-put}
+use mathlib.Core.List.{map}
+use Prim.Native.Nat.{◌+◌, ◌-◌, ◌≤◌}
+use lib.ListN.{length, drop}
+use Rattle.endian.specs.Putting.{Putting}
 use Rattle.page.specs.Rows.{label_of}
-use Rattle.page.proofs.LabelLaws.{label_at}
-use Rattle.page.proofs.PutLaws.{labels_next, labels-done}
 use Rattle.page.proofs.writing.put_labels.Given as goal
 
 abbrev pub invariant-loop-i : goal.invariant-loop-i

@@ -1,5 +1,4 @@
 -- `writing::put_row` meets its contract: a row is blanks, and over them the number, the labels and the last column.
-use borrow.Author.Rules.{rules}
 use native.Mathlib.Omega.{arith}
 use Prim.Native.Nat.{◌≤◌}
 use lib.ListN.{length}

@@ -1,12 +1,11 @@
 -- `writing::put_rows` meets its contract: what is left to put, put where it goes, gives all of it; the next row is that of the next word.
-use borrow.Author.Rules.{rules}
 use native.Mathlib.Omega.{arith}
 use mathlib.Core.Path.{◌≡◌, ap, ◌∙◌}
 use mathlib.Core.List.{List, ◌++◌}
 use Prim.Native.Nat.{ℕ, ◌+◌, ◌-◌, ◌≤◌, ◌<◌, min}
 use lib.Dec.{ltb}
 use lib.ListN.{length, get_or, take, drop, length-take}
-use Rattle.endian.specs.Putting.{Putting, put-start, put-room}
+use Rattle.endian.specs.Putting.{put-start, put-room}
 use Rattle.endian.specs.Puts.{next-put, all-put}
 use Rattle.page.specs.Rows.{page_widths, ShownWord, row_length, row_of}
 use Rattle.page.specs.Held.{held_word, held_tiles, held_rows}

@@ -13,7 +13,6 @@ use Rattle.page.proofs.ColumnsLaws.{page_wide}
 use Rattle.page.specs.Held.{held, held_rows}
 use Rattle.page.proofs.HeldLaws.{held-length, held-room}
 use Rattle.page.proofs.PutLaws.{after_title, after_rows, page-parts}
-use borrow.Author.Rules.{rules}
 use Rattle.page.proofs.writing.write_words.Goals as goal
 use Rattle.page.proofs.writing.write_words.Goals.{After-put_blanks-rows, After-put_rows-end, Start}
 

@@ -6,7 +6,6 @@ use lib.ListN.{get_or}
 use Rattle.stored.specs.Answers.{same}
 use Rattle.replay.proofs.RoomLaws.{lent-size}
 use Rattle.replay.proofs.BuildLaws.{build-reply}
-use borrow.Author.Rules.{rules}
 use Rattle.replay.proofs.building.build.Goals as goal
 use Rattle.replay.proofs.building.build.Goals.{After-room_of-node_room, Start}
 

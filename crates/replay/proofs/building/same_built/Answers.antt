@@ -4,7 +4,6 @@ use mathlib.Core.List.{List, ◌++◌}
 use Prim.Native.Nat.{ℕ}
 use Rattle.stored.specs.Answers.{same}
 use Rattle.replay.specs.Builds.{built_fields}
-use borrow.Author.Rules.{rules}
 use Rattle.replay.proofs.building.same_built.Goals as goal
 
 pub returns : goal.returns

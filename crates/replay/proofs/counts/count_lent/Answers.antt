@@ -1,6 +1,5 @@
 -- `counts::count_lent` meets its contract: the number of the refusal, its arc, its node and the counts of the nodes are compared.
 use Rattle.replay.proofs.CountLaws.{count-replies}
-use borrow.Author.Rules.{rules}
 use Rattle.replay.proofs.counts.count_lent.Goals as goal
 
 pub returns : goal.returns

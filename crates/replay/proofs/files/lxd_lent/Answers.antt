@@ -3,7 +3,6 @@ use mathlib.Core.Path.{ap, ◌∙◌}
 use lib.ListN.{length}
 use Rattle.stored.specs.Answers.{same}
 use Rattle.replay.proofs.FileLaws.{lxd-replies}
-use borrow.Author.Rules.{rules}
 use Rattle.replay.proofs.files.lxd_lent.Goals as goal
 
 pub returns : goal.returns

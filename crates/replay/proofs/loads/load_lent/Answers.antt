@@ -5,7 +5,6 @@ use mathlib.Core.Path.{refl}
 use Rattle.stored.specs.Answers.{same}
 use Rattle.flat.specs.Flat.{layout_of}
 use Rattle.replay.proofs.LoadLaws.{refused_load, finished-load, load_is}
-use borrow.Author.Rules.{rules}
 use Rattle.replay.proofs.loads.load_lent.Goals as goal
 
 pub returns-then-begun-ne0 : goal.returns-then-begun-ne0

@@ -6,7 +6,6 @@ use native.Mathlib.Omega.{arith}
 use lib.Seq.{take_all, length-take-le}
 use Rattle.stored.specs.Answers.{same}
 use Rattle.replay.specs.Loads.{repack_reply}
-use borrow.Author.Rules.{rules}
 use Rattle.replay.proofs.loads.repack_first.Goals as goal
 
 pub slice_bounds-repack-end-then-count-bytes : goal.slice_bounds-repack-end-then-count-bytes

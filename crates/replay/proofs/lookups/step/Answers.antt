@@ -2,7 +2,6 @@
 use mathlib.Core.Path.{ap, ◌∙◌}
 use Rattle.stored.specs.Answers.{same}
 use Rattle.replay.proofs.LookupLaws.{step-fields}
-use borrow.Author.Rules.{rules}
 use Rattle.replay.proofs.lookups.step.Goals as goal
 
 pub returns : goal.returns

@@ -1,12 +1,9 @@
 -- `lookups::tiles_put` meets its contract: up to the first entry that is no tile, the tiles passed and what is left without marks are the whole.
-use mathlib.Core.Path.{◌≡◌, refl, sym, ap, ◌∙◌}
-use mathlib.Core.List.{◌++◌, append-nil}
-use native.Mathlib.Omega.{arith}
+use mathlib.Core.Path.{◌≡◌}
+use mathlib.Core.List.{◌++◌}
 use Prim.Native.Nat.{◌≤◌, ◌-◌}
 use lib.ListN.{length, take, drop}
-use lib.Seq.{length-take-le}
 use Rattle.replay.specs.Lookups.{unmarked}
-use Rattle.replay.proofs.TileLaws.{marked-here, tile-here, no-mark-left}
 use Rattle.replay.proofs.lookups.tiles_put.Given as goal
 
 abbrev pub invariant-loop-i : goal.invariant-loop-i

@@ -2,7 +2,6 @@
 use mathlib.Core.Path.{ap, ◌∙◌}
 use Rattle.stored.specs.Answers.{same}
 use Rattle.replay.proofs.LookupLaws.{index-fields}
-use borrow.Author.Rules.{rules}
 use Rattle.replay.proofs.lookups.word_index.Goals as goal
 
 pub returns : goal.returns

@@ -2,7 +2,6 @@
 use mathlib.Core.Path.{ap, ◌∙◌}
 use Rattle.stored.specs.Answers.{same}
 use Rattle.replay.proofs.LookupLaws.{word_fields_lem}
-use borrow.Author.Rules.{rules}
 use Rattle.replay.proofs.lookups.word_lent.Goals as goal
 
 pub returns : goal.returns

@@ -2,7 +2,6 @@
 use mathlib.Core.Path.{ap, ◌∙◌}
 use Rattle.stored.specs.Answers.{same}
 use Rattle.replay.proofs.NodeLaws.{fields-reply}
-use borrow.Author.Rules.{rules}
 use Rattle.replay.proofs.nodes.node_fields.Goals as goal
 
 pub returns : goal.returns

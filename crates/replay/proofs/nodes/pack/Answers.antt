@@ -2,7 +2,6 @@
 use mathlib.Core.Path.{ap, ◌∙◌}
 use Rattle.stored.specs.Answers.{same}
 use Rattle.replay.proofs.NodeLaws.{pack-reply}
-use borrow.Author.Rules.{rules}
 use Rattle.replay.proofs.nodes.pack.Goals as goal
 
 pub returns : goal.returns

@@ -2,7 +2,6 @@
 use mathlib.Core.Path.{ap, ◌∙◌}
 use Rattle.stored.specs.Answers.{same}
 use Rattle.replay.proofs.NodeLaws.{repack_reply}
-use borrow.Author.Rules.{rules}
 use Rattle.replay.proofs.nodes.repack_node.Goals as goal
 
 pub returns : goal.returns

@@ -2,7 +2,6 @@
 use mathlib.Core.Path.{ap, ◌∙◌}
 use Rattle.stored.specs.Answers.{same}
 use Rattle.replay.proofs.NodeLaws.{fields-are}
-use borrow.Author.Rules.{rules}
 use Rattle.replay.proofs.nodes.same_fields.Goals as goal
 
 pub returns-in-Kwg : goal.returns-in-Kwg

@@ -1,5 +1,4 @@
 -- `nodes::same_node` meets its contract: the flags are compared as numbers.
-use borrow.Author.Rules.{rules}
 use Rattle.replay.proofs.nodes.same_node.Goals as goal
 
 pub returns : goal.returns

@@ -4,7 +4,6 @@ use Rattle.stored.specs.Answers.{same}
 use Rattle.node.specs.Said.{said_node}
 use Rattle.node.specs.declared.Packed.{Packed}
 use Rattle.replay.specs.Nodes.{answer_numbers}
-use borrow.Author.Rules.{rules}
 use Rattle.replay.proofs.nodes.same_packed.Goals as goal
 
 pub returns-in-Node : goal.returns-in-Node

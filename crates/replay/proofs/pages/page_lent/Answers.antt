@@ -2,7 +2,6 @@
 use mathlib.Core.Path.{ap, ◌∙◌}
 use Rattle.stored.specs.Answers.{same}
 use Rattle.replay.proofs.PageLaws.{page-replies}
-use borrow.Author.Rules.{rules}
 use Rattle.replay.proofs.pages.page_lent.Goals as goal
 
 pub returns : goal.returns

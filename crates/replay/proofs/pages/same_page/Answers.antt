@@ -2,7 +2,6 @@
 use mathlib.Core.Path.{ap, ◌∙◌}
 use Rattle.stored.specs.Answers.{same}
 use Rattle.replay.proofs.PageLaws.{refused_page, written-page}
-use borrow.Author.Rules.{rules}
 use Rattle.replay.proofs.pages.same_page.Goals as goal
 
 pub returns-then-refusal-ne0 : goal.returns-then-refusal-ne0

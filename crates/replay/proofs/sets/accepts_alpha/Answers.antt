@@ -2,7 +2,6 @@
 use mathlib.Core.Path.{ap, ◌∙◌}
 use Rattle.stored.specs.Answers.{same}
 use Rattle.replay.proofs.SetLaws.{accepts-replies}
-use borrow.Author.Rules.{rules}
 use Rattle.replay.proofs.sets.accepts_alpha.Goals as goal
 
 pub returns : goal.returns

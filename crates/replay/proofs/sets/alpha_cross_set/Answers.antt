@@ -2,7 +2,6 @@
 use mathlib.Core.Path.{ap, ◌∙◌}
 use Rattle.stored.specs.Answers.{same}
 use Rattle.replay.proofs.SetLaws.{cross-replies}
-use borrow.Author.Rules.{rules}
 use Rattle.replay.proofs.sets.alpha_cross_set.Goals as goal
 
 pub returns : goal.returns

@@ -2,7 +2,6 @@
 use mathlib.Core.Path.{ap, ◌∙◌}
 use Rattle.stored.specs.Answers.{same}
 use Rattle.replay.proofs.SetLaws.{bits-replies}
-use borrow.Author.Rules.{rules}
 use Rattle.replay.proofs.sets.letter_bits_lent.Goals as goal
 
 pub returns : goal.returns

@@ -1,7 +1,6 @@
 -- `sets::same_then_both` meets its contract: the first number stored is the refusal's, and the lists are the rest.
 use mathlib.Core.List.{[], ◌∷◌, ◌++◌}
 use Rattle.stored.specs.Answers.{then-rest, not-front}
-use borrow.Author.Rules.{rules}
 use Rattle.replay.proofs.sets.same_then_both.Goals as goal
 use Rattle.replay.proofs.sets.same_then_both.Goals.{After-starts_with, Start}
 

@@ -6,7 +6,6 @@ use lib.ListN.{get_or}
 use Rattle.stored.specs.Answers.{same}
 use Rattle.replay.proofs.RoomLaws.{lent-size}
 use Rattle.replay.proofs.TypedLaws.{typed-reply}
-use borrow.Author.Rules.{rules}
 use Rattle.replay.proofs.typing.next_word.Goals as goal
 use Rattle.replay.proofs.typing.next_word.Goals.{After-room_of-room}
 

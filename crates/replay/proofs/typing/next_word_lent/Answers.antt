@@ -2,7 +2,6 @@
 use mathlib.Core.Path.{ap, ◌∙◌}
 use Rattle.stored.specs.Answers.{same}
 use Rattle.replay.proofs.TypedLaws.{typed-fields}
-use borrow.Author.Rules.{rules}
 use Rattle.replay.proofs.typing.next_word_lent.Goals as goal
 
 pub returns : goal.returns

@@ -6,7 +6,6 @@ use lib.ListN.{get_or}
 use Rattle.stored.specs.Answers.{same}
 use Rattle.replay.proofs.RoomLaws.{lent-size}
 use Rattle.replay.proofs.TypedLaws.{list_reply}
-use borrow.Author.Rules.{rules}
 use Rattle.replay.proofs.typing.read_words.Goals as goal
 use Rattle.replay.proofs.typing.read_words.Goals.{After-room_of-slots, Start}
 

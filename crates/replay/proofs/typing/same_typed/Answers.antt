@@ -3,7 +3,6 @@ use mathlib.Core.Path.{ap, ◌∙◌}
 use mathlib.Core.List.{[], ◌∷◌, ◌++◌}
 use Prim.Native.Nat.{ℕ}
 use Rattle.stored.specs.Answers.{same}
-use borrow.Author.Rules.{rules}
 use Rattle.replay.proofs.typing.same_typed.Goals as goal
 
 pub returns : goal.returns

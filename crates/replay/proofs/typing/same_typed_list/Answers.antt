@@ -5,7 +5,6 @@ use Prim.Native.Nat.{ℕ}
 use lib.ListN.{length, take}
 use Rattle.stored.specs.Answers.{same, then-rest, not-front}
 use Rattle.replay.specs.Typed.{typed_list_fields}
-use borrow.Author.Rules.{rules}
 use Rattle.replay.proofs.typing.same_typed_list.Goals as goal
 use Rattle.replay.proofs.typing.same_typed_list.Goals.{After-starts_with, Start}
 

@@ -3,7 +3,6 @@ use mathlib.Core.Path.{refl, sym, subst, ◌∙◌}
 use lib.ListN.{length}
 use Rattle.replay.specs.Judged.{Judged}
 use Rattle.replay.proofs.VerdictLaws.{low-call, high-call, words-unread, bytes-unread, case-judged}
-use borrow.Author.Rules.{rules}
 use Rattle.replay.proofs.verdicts.judge_lent.Goals as goal
 use Rattle.replay.proofs.verdicts.judge_lent.Goals.{After-after_list-rest, After-after_list-stored, After-bytes_in, After-words_in, Start}
 

@@ -4,7 +4,6 @@ use mathlib.Core.List.{List}
 use Prim.Native.Nat.{ℕ}
 use Rattle.replay.specs.Judged.{Replied, repack_in_place}
 use Rattle.replay.proofs.VerdictLaws.{replies_as}
-use borrow.Author.Rules.{rules}
 use Rattle.replay.proofs.verdicts.replies.Goals as goal
 use Rattle.replay.proofs.verdicts.replies.Goals.{Else-call-eq4, Start}
 

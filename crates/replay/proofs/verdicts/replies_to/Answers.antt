@@ -2,8 +2,7 @@
 use native.Mathlib.Omega.{arith}
 use mathlib.Core.Path.{◌≡◌}
 use Rattle.replay.specs.Judged as R
-use Rattle.replay.proofs.VerdictLaws.{replies_as, counts_as, last-call}
-use borrow.Author.Rules.{rules}
+use Rattle.replay.proofs.VerdictLaws.{replies_as, counts_as}
 use Rattle.replay.proofs.verdicts.replies_to.Goals as goal
 
 pub returns-in-1 : goal.returns-in-1

@@ -1,13 +1,12 @@
 -- `checking::are_tiles` meets its contract: what is left of the word answers for all of it.
-use borrow.Author.Rules.{rules}
 use native.Mathlib.Omega.{arith}
 use mathlib.Core.Path.{refl, ap}
 use mathlib.Core.Bool.{not}
 use mathlib.Core.List.{List}
-use Prim.Native.Nat.{ℕ, ◌-◌}
-use lib.ListN.{length, get_or}
+use Prim.Native.Nat.{ℕ}
+use lib.ListN.{get_or}
 use borrow.Author.Tests.{ne_eqb, lt-ltb, le-ltb}
-use Rattle.laws.specs.Searching.{Searching, Tested, search-begins, search_finds, search-passes, search-ends}
+use Rattle.laws.specs.Searching.{Tested, search-begins, search_finds, search-passes, search-ends}
 use Rattle.built.specs.Listed.{no_tile}
 use Rattle.word_list.proofs.checking.are_tiles.Goals as goal
 use Rattle.word_list.proofs.checking.are_tiles.Goals.{After-shared_slice_known-1}

@@ -3,11 +3,10 @@ use borrow.Author.Rules.{rules}
 use native.Mathlib.Omega.{arith}
 use mathlib.Core.Path.{sym, ◌∙◌, subst}
 use mathlib.Core.List.{List}
-use Prim.Native.Nat.{ℕ, ◌+◌, ◌-◌, ◌≤◌, ◌<◌}
-use borrow.Author.Tests.{not-true, not-false}
+use Prim.Native.Nat.{ℕ, ◌+◌, ◌≤◌, ◌<◌}
 use lib.ListN.{length}
 use Rattle.word_list.specs.Checks.{Found, IsWord}
-use Rattle.word_list.proofs.CheckLaws.{Checking, checking-begins, checking-ends, no_word, found_inside, not-above, checking-next}
+use Rattle.word_list.proofs.CheckLaws.{checking-begins, checking-ends, no_word, found_inside, not-above, checking-next}
 use Rattle.word_list.proofs.checking.check_list.Goals as goal
 use Rattle.word_list.proofs.checking.check_list.Goals.{At-loop-at, In-Tiles}
 

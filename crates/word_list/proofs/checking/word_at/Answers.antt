@@ -10,7 +10,6 @@ use lib.ListN.{length, get_or, take, drop, length-drop}
 use Rattle.laws.specs.Lists.{some_of}
 use Rattle.built.specs.Listed.{no_tile}
 use Rattle.word_list.proofs.CheckLaws.{tiles-part, good_length, no-tiles, too_long, bad-end, bad-tile}
-use borrow.Author.Rules.{rules}
 use Rattle.word_list.proofs.checking.word_at.Goals as goal
 use Rattle.word_list.proofs.checking.word_at.Goals.{After-are_tiles, Else-list-from, Else-tiles-gt64}
 

@@ -2,7 +2,6 @@
 use native.Mathlib.Omega.{arith}
 use mathlib.Core.Path.{sym}
 use Rattle.word_list.specs.WordsLaws.{ends-not-above, ends_above, parts-above}
-use borrow.Author.Rules.{rules}
 use Rattle.word_list.proofs.words.is_above.Goals as goal
 
 pub returns-then-w-c : goal.returns-then-w-c

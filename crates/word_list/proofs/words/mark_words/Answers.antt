@@ -1,14 +1,10 @@
 -- `words::mark_words` meets its contract: the words passed are marked, and they and those left are the lexicon's.
-use borrow.Author.Rules.{rules}
 use native.Mathlib.Omega.{arith}
-use mathlib.Core.Path.{◌≡◌, refl, ◌∙◌}
+use mathlib.Core.Path.{refl, ◌∙◌}
 use mathlib.Core.List.{List}
-use Prim.Native.Nat.{ℕ, suc, ◌+◌, ◌-◌, ◌≤◌}
+use Prim.Native.Nat.{ℕ, suc, ◌+◌, ◌≤◌}
 use lib.ListN.{length, get_or, length-set}
-use Rattle.graph.specs.Words.{Word}
-use Rattle.built.specs.Listed.{list_bytes}
-use Rattle.built.specs.Lexicon.{Lexicon}
-use Rattle.word_list.proofs.MarkLaws.{Marking, marking_begins, word-inside, Marking-next, marking_ends}
+use Rattle.word_list.proofs.MarkLaws.{marking_begins, word-inside, Marking-next, marking_ends}
 use Rattle.word_list.proofs.words.mark_words.Goals as goal
 use Rattle.word_list.proofs.words.mark_words.Goals.{In-loop-at, Start}
 

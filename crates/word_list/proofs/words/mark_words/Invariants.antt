@@ -1,14 +1,12 @@
 -- `words::mark_words` meets its contract: the words passed are marked, and they and those left are the lexicon's.
-use borrow.Author.Rules.{rules}
-use native.Mathlib.Omega.{arith}
-use mathlib.Core.Path.{◌≡◌, refl, ◌∙◌}
+use mathlib.Core.Path.{◌≡◌}
 use mathlib.Core.List.{List}
-use Prim.Native.Nat.{ℕ, suc, ◌+◌, ◌-◌, ◌≤◌}
-use lib.ListN.{length, get_or, length-set}
+use Prim.Native.Nat.{◌-◌}
+use lib.ListN.{length}
 use Rattle.graph.specs.Words.{Word}
 use Rattle.built.specs.Listed.{list_bytes}
 use Rattle.built.specs.Lexicon.{Lexicon}
-use Rattle.word_list.proofs.MarkLaws.{Marking, marking_begins, word-inside, Marking-next, marking_ends}
+use Rattle.word_list.proofs.MarkLaws.{Marking}
 use Rattle.word_list.proofs.words.mark_words.Given as goal
 
 abbrev pub invariant-loop-at : goal.invariant-loop-at

@@ -1,11 +1,6 @@
 -- `words::shared` meets its contract: the tiles passed and what the words share from there on are what they share.
-use borrow.Author.Rules.{rules}
 use native.Mathlib.Omega.{arith}
-use mathlib.Core.Path.{◌≡◌}
-use Prim.Native.Nat.{◌+◌, ◌-◌}
-use lib.ListN.{length}
-use Rattle.graph.specs.Order.{shared}
-use Rattle.word_list.proofs.PartingLaws.{shared_from, first_ended, second_ended, parted, one_more}
+use Rattle.word_list.proofs.PartingLaws.{first_ended, second_ended, parted, one_more}
 use Rattle.word_list.proofs.words.shared.Goals as goal
 
 pub returns-then-w-c : goal.returns-then-w-c
