@@ -5,8 +5,5 @@ use lib.Dec.{eqb}
 use lib.ListN.{get_or}
 use Rattle.in_play.proofs.record.is_in_play.Goals as goal
 
--- GONE div-result : tie.Need-nonzero-div-result
--- GONE div-result c = rw c.before.only-bit.ensures (pow_pos _)
-
 pub returns : goal.returns
 returns c = ap (λ one. eqb (get_or c.args.bits.now (c.args.n / 8) 0 / one % 2) 1) c.only_bit-one.ensures

@@ -12,8 +12,5 @@ use Rattle.in_play.proofs.record.last_clear.Goals.{After-clear_bits}
 past_is : (c : After-clear_bits) → let total = c.args.total in 1 * 2 ^ (total % 64) % 2 ^ 64 ≡ 2 ^ (total % 64)
 past_is c = let total = c.args.total in shl_exact 1 (total % 64) 64 (lit< tt) (omega arith) ∙ one-mul (2 ^ (total % 64))
 
--- GONE rem-result : tie.Need-nonzero-rem-result
--- GONE rem-result c = rw (past_is c) (pow_pos _)
-
 pub returns : goal.returns
 returns c = ap₂ ◌%◌ (c.clear_bits.ensures ∙ ap clear_bits c.short_group.ensures) (past_is c)
