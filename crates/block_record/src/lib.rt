@@ -7,7 +7,7 @@ ghost use Rattle.block_record.specs.Record.{place_at, child_in, Pushed};
 ghost use Rattle.block_record.specs.Depths.{depth_at};
 
 // What the record says of a node: where its block stands.
-#[derive(Drop)]
+#[derive(Clone, Copy)]
 pub enum Place {
     Numbered(u32),
     Unnumbered,

@@ -29,7 +29,7 @@ use tails::{Closed, close_words};
 use word_list::{Checked, check_list};
 
 // The number of nodes, or why there is no graph.
-#[derive(Drop)]
+#[derive(Clone, Copy)]
 pub enum Built {
     Nodes(u32),
     BadWord,

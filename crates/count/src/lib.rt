@@ -18,7 +18,7 @@ use graph::GraphCheck;
 use loops::lowest_loop;
 use walk::walk;
 
-#[derive(Drop)]
+#[derive(Clone, Copy)]
 pub enum Counted {
     Done,
     WrongSize,

@@ -8,7 +8,7 @@ ghost use Rattle.cursor.specs.Said.{said_step, moved_as, Advances};
 use lookup::lent_part;
 use node::Node24;
 
-#[derive(Drop)]
+#[derive(Clone, Copy)]
 pub enum Stepped {
     To(u32),
     Done,
@@ -16,14 +16,14 @@ pub enum Stepped {
 }
 
 // What a step answers, and the node reached after it.
-#[derive(Drop)]
+#[derive(Clone, Copy)]
 pub struct Moved {
     pub at: u32,
     pub answer: Stepped,
 }
 
 // The lent nodes and the node reached.
-#[derive(Drop)]
+#[derive(Clone, Copy)]
 pub struct RunCursor<'a> {
     pub nodes: &'a [u32],
     pub at: u32,

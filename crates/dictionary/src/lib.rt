@@ -20,7 +20,7 @@ ghost use Rattle.dictionary.specs.KeyNumbered.{KeyNumbered};
 use base::whole;
 
 // A key's number, and how many keys there are then.
-#[derive(Drop)]
+#[derive(Clone, Copy)]
 pub struct KeyNumber {
     pub number: u32,
     pub count: u32,

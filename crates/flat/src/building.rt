@@ -6,7 +6,7 @@ ghost use Rattle.flat.specs.FlatBuilds.{built_of, flat_built};
 use build::Built;
 
 #[repr(C)]
-#[derive(Drop)]
+#[derive(Clone, Copy)]
 pub struct FlatBuilt {
     pub refusal: u32,
     pub nodes: u32,

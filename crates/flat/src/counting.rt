@@ -6,7 +6,7 @@ ghost use Rattle.flat.specs.FlatCounts.{counted_of, flat_counted};
 use count::Counted;
 
 #[repr(C)]
-#[derive(Drop)]
+#[derive(Clone, Copy)]
 pub struct FlatCounted {
     pub refusal: u32,
     pub arc: u32,

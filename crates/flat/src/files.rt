@@ -10,7 +10,7 @@ use macondo::{Macondo, MacondoFormat};
 
 // What a writer answers: the file's length in bytes.
 #[repr(C)]
-#[derive(Drop)]
+#[derive(Clone, Copy)]
 pub struct FlatFile {
     pub refusal: u32,
     pub arc: u32,

@@ -10,7 +10,7 @@ use load::{BeginAnswer, FeedAnswer, Finished, KeptRefusal, Loader, Misfit, Repac
 use node::Layout;
 
 #[repr(C)]
-#[derive(Drop)]
+#[derive(Clone, Copy)]
 pub struct FlatRepacked {
     pub refusal: u32,
     pub arc: u32,
@@ -20,7 +20,7 @@ pub struct FlatRepacked {
 
 // The state of a load. Where refusal is not 0 it keeps refusal 6 with node, tile and arc.
 #[repr(C)]
-#[derive(Drop)]
+#[derive(Clone, Copy)]
 pub struct FlatLoader {
     pub announced: usize,
     pub taken: usize,
@@ -34,14 +34,14 @@ pub struct FlatLoader {
 }
 
 #[repr(C)]
-#[derive(Drop)]
+#[derive(Clone, Copy)]
 pub struct FlatBegun {
     pub refusal: u32,
     pub loader: FlatLoader,
 }
 
 #[repr(C)]
-#[derive(Drop)]
+#[derive(Clone, Copy)]
 pub struct FlatFed {
     pub refusal: u32,
     pub arc: u32,
@@ -51,7 +51,7 @@ pub struct FlatFed {
 }
 
 #[repr(C)]
-#[derive(Drop)]
+#[derive(Clone, Copy)]
 pub struct FlatFinished {
     pub refusal: u32,
     pub arc: u32,
@@ -62,7 +62,7 @@ pub struct FlatFinished {
 
 // A whole load: begun is the number of begin's refusal, or 0; the state is that after the last feed.
 #[repr(C)]
-#[derive(Drop)]
+#[derive(Clone, Copy)]
 pub struct FlatLoaded {
     pub begun: u32,
     pub loader: FlatLoader,

@@ -6,7 +6,7 @@ ghost use Rattle.flat.specs.FlatLookups.{sought_of, flat_sought, index_of, flat_
 use lookup::{Sought, WordByIndex, WordIndex};
 
 #[repr(C)]
-#[derive(Drop)]
+#[derive(Clone, Copy)]
 pub struct FlatSought {
     pub refusal: u32,
     pub found: bool,
@@ -16,7 +16,7 @@ pub struct FlatSought {
 
 // A cursor at a node, and what the step to it said.
 #[repr(C)]
-#[derive(Drop)]
+#[derive(Clone, Copy)]
 pub struct FlatCursor {
     pub refusal: u32,
     pub done: bool,
@@ -24,7 +24,7 @@ pub struct FlatCursor {
 }
 
 #[repr(C)]
-#[derive(Drop)]
+#[derive(Clone, Copy)]
 pub struct FlatIndex {
     pub refusal: u32,
     pub found: bool,
@@ -32,7 +32,7 @@ pub struct FlatIndex {
 }
 
 #[repr(C)]
-#[derive(Drop)]
+#[derive(Clone, Copy)]
 pub struct FlatWord {
     pub refusal: u32,
     pub found: bool,

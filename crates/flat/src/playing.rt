@@ -6,7 +6,7 @@ ghost use Rattle.flat.specs.FlatPlays.{play_of, flat_play};
 use in_play::InPlay;
 
 #[repr(C)]
-#[derive(Drop)]
+#[derive(Clone, Copy)]
 pub struct FlatInPlay {
     pub refusal: u32,
     pub found: bool,

@@ -8,14 +8,14 @@ ghost use Rattle.flat.specs.FlatSets.{accepts_of, flat_accepts, cross_of, flat_c
 use letters::{Alpha, CrossSet, LetterBits};
 
 #[repr(C)]
-#[derive(Drop)]
+#[derive(Clone, Copy)]
 pub struct FlatAccepts {
     pub refusal: u32,
     pub accepts: bool,
 }
 
 #[repr(C)]
-#[derive(Drop)]
+#[derive(Clone, Copy)]
 pub struct FlatCross {
     pub refusal: u32,
     pub tiles: u64,

@@ -6,7 +6,7 @@ ghost use Rattle.flat.specs.FlatTyped.{typed_of, flat_typed, typed_list_of, flat
 use typed::{NextWord, WordsRead};
 
 #[repr(C)]
-#[derive(Drop)]
+#[derive(Clone, Copy)]
 pub struct FlatTyped {
     pub refusal: u32,
     pub found: bool,
@@ -18,7 +18,7 @@ pub struct FlatTyped {
 }
 
 #[repr(C)]
-#[derive(Drop)]
+#[derive(Clone, Copy)]
 pub struct FlatTypedList {
     pub refusal: u32,
     pub found: bool,

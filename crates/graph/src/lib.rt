@@ -13,14 +13,14 @@ use node::Node24;
 // The lowest count that is too many, and the largest sum of counts.
 pub const COUNT_LIMIT: u32 = 4294967295;
 
-#[derive(Drop)]
+#[derive(Clone, Copy)]
 pub enum NodesCheck {
     Sound,
     ArcPastEnd(u32),
     NoEnd,
 }
 
-#[derive(Drop)]
+#[derive(Clone, Copy)]
 pub enum GraphCheck {
     Sound,
     WrongSize,

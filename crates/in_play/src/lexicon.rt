@@ -6,14 +6,14 @@ ghost use Rattle.in_play.specs.Said.{start_says, found_as};
 
 use lookup::WordIndex;
 
-#[derive(Drop)]
+#[derive(Clone, Copy)]
 pub enum StartCount {
     Words(u32),
     NotLent,
 }
 
 // A word's number, and how many words there are.
-#[derive(Drop)]
+#[derive(Clone, Copy)]
 pub enum InLexicon {
     Number { number: u32, total: u32 },
     NotLent,

@@ -12,14 +12,14 @@ ghost use Rattle.in_play.specs.Said.{said_play, played_as, allowed_as};
 use lexicon::{InLexicon, in_lexicon};
 use record::{count_clear, is_in_play, lowest_clear, turn};
 
-#[derive(Drop)]
+#[derive(Clone, Copy)]
 pub enum Move {
     Arrives,
     Leaves,
 }
 
 // How many words are not in play, and the lowest number among them; or why the call is refused.
-#[derive(Drop)]
+#[derive(Clone, Copy)]
 pub enum InPlay {
     Remaining { count: u32, lowest: u32 },
     AllInPlay,
@@ -32,7 +32,7 @@ pub enum InPlay {
 }
 
 // What the word's bit makes of its move.
-#[derive(Drop)]
+#[derive(Clone, Copy)]
 pub enum Allowed {
     Yes,
     AlreadyInPlay,

@@ -5,7 +5,7 @@ ghost use Rattle.label_index.specs.Matches.{starts_with, match_in};
 ghost use Rattle.label_index.specs.Index.{LabelsIndexed, FirstByteRange};
 ghost use Rattle.label_index.specs.Said.{matched};
 
-#[derive(Drop)]
+#[derive(Clone, Copy)]
 pub enum LabelMatch {
     // the tile, and how many bytes its label has
     Label(u8, usize),

@@ -7,21 +7,21 @@ use crate::tiles::marked;
 use lookup::{RunSearch, lent_part, seek_from};
 use node::Node24;
 
-#[derive(Drop)]
+#[derive(Clone, Copy)]
 pub enum Alpha {
     Accepts(bool),
     NotLent,
     TallyTooLong,
 }
 
-#[derive(Drop)]
+#[derive(Clone, Copy)]
 pub enum CrossSet {
     Tiles(u64),
     NotLent,
     TallyTooLong,
 }
 
-#[derive(Drop)]
+#[derive(Clone, Copy)]
 pub enum Completes {
     Known(bool),
     NotLent,

@@ -6,7 +6,7 @@ ghost use Rattle.letters.specs.Said.{lettered_as};
 use crate::tiles::marked;
 use node::Node24;
 
-#[derive(Drop)]
+#[derive(Clone, Copy)]
 pub enum LetterBits {
     Written,
     ListTooShort,

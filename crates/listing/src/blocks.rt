@@ -18,7 +18,7 @@ const LONGEST: usize = 779;
 pub const BLOCK: usize = 65536;
 
 // A block of the output, of so many bytes, and what is left to print after it; or nothing was left.
-#[derive(Drop)]
+#[derive(Clone, Copy)]
 pub enum BlockMade {
     Bytes {
         written: usize,
@@ -28,14 +28,14 @@ pub enum BlockMade {
 }
 
 // How many bytes a block has, and the number to go on from; none is left where that is the count.
-#[derive(Drop)]
+#[derive(Clone, Copy)]
 pub struct BlockFilled {
     pub next: u32,
     pub written: usize,
 }
 
 // The place after what was put, and whether the list goes on.
-#[derive(Drop)]
+#[derive(Clone, Copy)]
 pub struct LinePut {
     pub end: usize,
     pub more: bool,

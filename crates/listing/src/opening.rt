@@ -21,13 +21,13 @@ pub const INPUT: usize = 16385;
 pub const WORK: usize = 8192;
 
 // What is left to print: a refusal's line, or the lines of words `next` to `count - 1` of those from the start.
-#[derive(Drop)]
+#[derive(Clone, Copy)]
 pub enum Unprinted {
     Refusal(u32),
     Words { start: u32, count: u32, next: u32 },
 }
 
-#[derive(Drop)]
+#[derive(Clone, Copy)]
 pub enum FileLoaded {
     Nodes(usize),
     Refused(u32),

@@ -10,7 +10,7 @@ use crate::repack::{Misfit, Repacked};
 use graph::NodesCheck;
 use node::{Layout, Packed};
 
-#[derive(Drop)]
+#[derive(Clone, Copy)]
 pub enum BeginAnswer {
     Ready,
     NotWholeNodes,
@@ -18,7 +18,7 @@ pub enum BeginAnswer {
     NodesTooShort,
 }
 
-#[derive(Drop)]
+#[derive(Clone, Copy)]
 pub enum FeedAnswer {
     Taken,
     BadState,
@@ -26,7 +26,7 @@ pub enum FeedAnswer {
     DoesNotFit(Misfit),
 }
 
-#[derive(Drop)]
+#[derive(Clone, Copy)]
 pub enum Finished {
     Nodes(usize),
     BadState,
@@ -54,13 +54,13 @@ pub struct Loader {
     pub kept: KeptRefusal,
 }
 
-#[derive(Drop)]
+#[derive(Clone, Copy)]
 pub struct Begun {
     pub answer: BeginAnswer,
     pub loader: Loader,
 }
 
-#[derive(Drop)]
+#[derive(Clone, Copy)]
 pub struct Fed {
     pub answer: FeedAnswer,
     pub loader: Loader,

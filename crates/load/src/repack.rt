@@ -14,7 +14,7 @@ pub struct Misfit {
     pub arc_index: u32,
 }
 
-#[derive(Drop)]
+#[derive(Clone, Copy)]
 pub enum Repacked {
     Whole,
     DoesNotFit(Misfit),

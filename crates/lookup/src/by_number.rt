@@ -7,7 +7,7 @@ ghost use Rattle.lookup.specs.Said.{between_try, WordPut};
 use crate::run::{Between, lent_part};
 use node::Node24;
 
-#[derive(Drop)]
+#[derive(Clone, Copy)]
 pub enum WordByIndex {
     Tiles(usize),
     Absent,

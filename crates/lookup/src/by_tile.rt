@@ -7,7 +7,7 @@ ghost use Rattle.lookup.specs.Said.{search_try, passed_try, said_seek};
 use crate::run::{Between, RunSearch, find_in, lent_part, words_between};
 use node::Node24;
 
-#[derive(Drop)]
+#[derive(Clone, Copy)]
 pub enum Sought {
     At { node: u32, before: u32 },
     Absent,
@@ -16,7 +16,7 @@ pub enum Sought {
 }
 
 // One tile on: the node with the tile, and the words of its run before it.
-#[derive(Drop)]
+#[derive(Clone, Copy)]
 pub enum Passed {
     To { node: usize, before: u32 },
     Absent,

@@ -9,7 +9,7 @@ use crate::run::lent_part;
 use graph::COUNT_LIMIT;
 use node::Node24;
 
-#[derive(Drop)]
+#[derive(Clone, Copy)]
 pub enum WordIndex {
     Number(u32),
     Absent,

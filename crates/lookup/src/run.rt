@@ -6,14 +6,14 @@ ghost use Rattle.lookup.specs.Said.{search_try, between_try};
 
 use node::Node24;
 
-#[derive(Drop)]
+#[derive(Clone, Copy)]
 pub enum RunSearch {
     At(usize),
     Absent,
     NotLent,
 }
 
-#[derive(Drop)]
+#[derive(Clone, Copy)]
 pub enum Between {
     Words(u32),
     NotLent,

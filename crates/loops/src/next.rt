@@ -8,7 +8,7 @@ use crate::DONE;
 use node::Node24;
 
 // A node and its mark; with DONE as the mark, any node.
-#[derive(Drop)]
+#[derive(Clone, Copy)]
 pub struct NextMark {
     pub node: usize,
     pub mark: u32,

@@ -8,7 +8,7 @@ use crate::next::lowest_next;
 use crate::{DONE, push};
 
 // How many nodes are on the stack, the place of the last open one, and the lowest node found to loop, or N.
-#[derive(Drop)]
+#[derive(Clone, Copy)]
 pub struct LoopSearch {
     pub size: usize,
     pub top: usize,

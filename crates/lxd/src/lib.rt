@@ -24,7 +24,7 @@ use lxd_blocks::{RunNumbering, number_run};
 use node::Node24;
 use survey::{Surveyed, survey};
 
-#[derive(Drop)]
+#[derive(Clone, Copy)]
 pub enum Lxd {
     Written(usize),
     WrongSize,

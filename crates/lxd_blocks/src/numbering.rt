@@ -21,7 +21,7 @@ const MOST_NODES: u32 = 4194304;
 
 // What the walk knows: the runs numbered so far, and of the run at hand the runs in the longest chain from it, itself included, and its
 // words (at most 4,294,967,295); of no run, none.
-#[derive(Drop)]
+#[derive(Clone, Copy)]
 pub struct Walked {
     pub tally: BlockTally,
     pub runs: u32,
@@ -29,7 +29,7 @@ pub struct Walked {
 }
 
 // The runs numbered, or a chain too long, or too many nodes.
-#[derive(Drop)]
+#[derive(Clone, Copy)]
 pub enum RunNumbering {
     Done(Walked),
     TooDeep,

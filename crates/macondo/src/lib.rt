@@ -20,7 +20,7 @@ pub enum MacondoFormat {
     Gaddag,
 }
 
-#[derive(Drop)]
+#[derive(Clone, Copy)]
 pub enum Macondo {
     Written(usize),
     WrongSize,

@@ -11,14 +11,14 @@ use block_record::{BlockTally, Place, depth_of, keep_depth, place_of, push_block
 use node::Node24;
 
 // The tally after a block and what can be reached from it are numbered, and the runs in the longest chain from the block.
-#[derive(Drop)]
+#[derive(Clone, Copy)]
 pub struct Reached {
     pub tally: BlockTally,
     pub runs: u32,
 }
 
 // What numbering comes to: an end, or a chain with more runs than are left.
-#[derive(Drop)]
+#[derive(Clone, Copy)]
 pub enum BlockNumbering {
     Done(Reached),
     TooDeep,

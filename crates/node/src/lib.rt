@@ -13,7 +13,7 @@ pub enum Layout {
     Kbwg,
 }
 
-#[derive(Drop)]
+#[derive(Clone, Copy)]
 pub enum Packed {
     Node(u32),
     DoesNotFit { tile: u8, arc_index: u32 },

@@ -18,7 +18,7 @@ use writing::{ROW, write_words};
 // The bytes of a page.
 pub const PAGE: usize = 960;
 
-#[derive(Drop)]
+#[derive(Clone, Copy)]
 pub enum Page {
     Written,
     TitleTooLong,

@@ -20,7 +20,7 @@ const LONGER: usize = 29;
 pub const TILES: usize = 644;
 
 // What a number's walk found: a word of that size, nothing, or a refusal.
-#[derive(Drop)]
+#[derive(Clone, Copy)]
 pub enum RowFound {
     Word(usize),
     Blank,
@@ -29,7 +29,7 @@ pub enum RowFound {
 }
 
 // What the walks found: how many rows have a word, and how many tiles these have; or a refusal.
-#[derive(Drop)]
+#[derive(Clone, Copy)]
 pub enum RowsWalked {
     Words(usize, usize),
     NotLent,

@@ -11,7 +11,7 @@ use load::{BeginAnswer, FeedAnswer, Finished, Loader};
 use node::Layout;
 
 // What begin and finish answered, and the state after the last feed.
-#[derive(Drop)]
+#[derive(Clone, Copy)]
 pub struct Loaded {
     pub begun: BeginAnswer,
     pub loader: Loader,

@@ -4,7 +4,7 @@ ghost use Rattle.stored.specs.Answers.{same, verdict_of};
 
 use crate::parts::{numbers_from, numbers_to};
 
-#[derive(Drop)]
+#[derive(Clone, Copy)]
 pub enum Verdict {
     Same,
     Different,

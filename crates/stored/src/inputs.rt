@@ -11,7 +11,7 @@ const WORD: u64 = 4294967295;
 const BYTE: u64 = 255;
 
 // How many there are in a list, where the case has them, they are in range and there is room for them.
-#[derive(Drop)]
+#[derive(Clone, Copy)]
 pub enum Count {
     Are(usize),
     Malformed,

@@ -25,7 +25,7 @@ pub struct Line {
 }
 
 // What a whole line is; a case has so many numbers.
-#[derive(Drop)]
+#[derive(Clone, Copy)]
 pub enum Ended {
     Comment,
     Case(usize),

@@ -10,7 +10,7 @@ use std::io::Write;
 // One more than the highest number that a call may have.
 pub const CALLS: usize = 32;
 
-#[derive(Drop)]
+#[derive(Clone, Copy)]
 pub struct CaseTally {
     // The number of the line that is being read.
     line: u64,

@@ -28,7 +28,7 @@ pub struct Findings {
     pub byteless: bool,
 }
 
-#[derive(Drop)]
+#[derive(Clone, Copy)]
 pub enum Surveyed {
     Shallow(Findings),
     TooDeep,

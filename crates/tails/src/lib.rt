@@ -19,7 +19,7 @@ use dictionary::number_key;
 use word_list::{mark_words, shared};
 
 // The tail that the list's own run begins with; or that there are as many tails as a graph has room for.
-#[derive(Drop)]
+#[derive(Clone, Copy)]
 pub enum Closed {
     Run(u32),
     TooMany,

@@ -3,7 +3,7 @@ ghost use Rattle.std.specs.Prelude.{◌≡◌, ◌+◌, ◌-◌, ◌*◌, ◌<�
 ghost use Rattle.text.specs.Tiles.{is_digit, tile_within, tile_after, leading_tile};
 ghost use Rattle.text.specs.Said.{tile_in};
 
-#[derive(Drop)]
+#[derive(Clone, Copy)]
 pub enum TileRead {
     // the tile, and how many digits it has
     Tile(u8, usize),

@@ -10,7 +10,7 @@ use crate::next::skip_empty;
 use crate::word::WordRead;
 use label_index::LabelsRead;
 
-#[derive(Drop)]
+#[derive(Clone, Copy)]
 pub enum WordsRead {
     // how many words, how many tiles they have in all, and the place after the ending of the last line read
     Words {

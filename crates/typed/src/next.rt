@@ -9,7 +9,7 @@ ghost use Rattle.typed.specs.Said.{said_next, part_of, line_handed};
 use crate::word::WordRead;
 use label_index::LabelsRead;
 
-#[derive(Drop)]
+#[derive(Clone, Copy)]
 pub enum NextWord {
     // the line's two ends, the place after its ending, and how many tiles
     Word {

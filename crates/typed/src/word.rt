@@ -8,7 +8,7 @@ ghost use Rattle.typed.specs.Said.{said_typed};
 
 use label_index::LabelMatch;
 
-#[derive(Drop)]
+#[derive(Clone, Copy)]
 pub enum WordRead {
     // how many tiles
     Tiles(usize),

@@ -75,7 +75,7 @@ const PLACES: [u8; 79] = [
 ];
 
 // The byte of a code point, where it has one.
-#[derive(Drop)]
+#[derive(Clone, Copy)]
 pub enum Encoded {
     Byte(u8),
     NoByte,

@@ -7,7 +7,7 @@ ghost use Rattle.word_list.specs.Checks.{Found, ChecksAs};
 use crate::words::is_above;
 
 // What the check of a list answers.
-#[derive(Drop)]
+#[derive(Clone, Copy)]
 pub enum Checked {
     Sound,
     BadWord,
