@@ -1,5 +1,5 @@
 -- An answer as document 01 writes it: its values, none, or a refusal's number with the values that it carries.
-use Rattle.std.specs.Prelude.{Bool, true, false, List, [], ◌∷◌, ℕ, get_or}
+use Rattle.std.specs.Prelude.{Bool, true, false, List, [], ◌∷◌, ℕ, get_or, Result, Ok, Err, Option as Maybe, None, Some}
 use Rattle.std.proofs.Math.Option.{Option, none, some}
 
 pub data Answer : Type 0 where
@@ -48,3 +48,18 @@ first_of (c ∷ cs) = elim c.0 [ true ↦ some (as_answer c.1) | false ↦ first
 abbrev pub or_else : Option Answer → Answer → Answer
 or_else none a = a
 or_else (some r) a = r
+
+-- A result as an answer: what its value says, or why it is refused.
+abbrev pub said_result : {A E : Type 0} → (A → Answer) → (E → Refusal) → Result A E → Answer
+said_result value why (Ok a) = value a
+said_result value why (Err e) = as_answer (why e)
+
+-- what a check refuses by
+abbrev pub refusal_of : {A E : Type 0} → (E → Refusal) → Result A E → Option Answer
+refusal_of why (Ok a) = none
+refusal_of why (Err e) = some (as_answer (why e))
+
+-- A value that may be none, as an answer.
+abbrev pub said_option : {A : Type 0} → (A → Answer) → Maybe A → Answer
+said_option value None = nothing
+said_option value (Some a) = value a
