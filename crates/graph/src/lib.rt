@@ -1,14 +1,17 @@
 // A word graph: the meaning of its runs, words and loops is in specs/; here are the checks that several calls share.
 #![tactic(auto)]
 
-ghost use Rattle.std.specs.Prelude.{◌≡◌};
+ghost use Rattle.std.specs.Prelude.{◌≡◌, IfOk};
 ghost use Rattle.answers.specs.Answers.{first_of};
 ghost use Rattle.node.specs.Nodes.{kbwg};
 ghost use Rattle.graph.specs.Runs.{largest_arc, last_ends};
 ghost use Rattle.graph.specs.Checks.{nodes_row, nodes_why, nodes_refusal, graph_row, graph_why, graph_refusal};
 ghost use Rattle.graph.specs.declared.GraphRefusal.TheVariants as G;
 
+mod fit;
+
 use answers::Refuses;
+pub use fit::FitGraph;
 use node::Node24;
 
 // The lowest count that is too many, and the largest sum of counts.
@@ -89,13 +92,14 @@ pub fn check_nodes(nodes: &[u32]) -> Result<(), NodesRefusal>
     Ok(())
 }
 
-// The same, of a graph that is neither too small nor too large to number its words.
-pub fn check_graph(nodes: &[u32]) -> Result<(), GraphRefusal>
-    ensures { graph_refusal result ≡ first_of (graph_row nodes.now) }
+// The same, of a graph that is neither too small nor too large to number its words; answers the nodes as checked ones.
+pub fn check_graph(nodes: &[u32]) -> Result<FitGraph<'_>, GraphRefusal>
+    ensures refused { graph_refusal result ≡ first_of (graph_row nodes.now) }
+    ensures same { IfOk result (λ g. g.nodes.now ≡ nodes.now) }
 {
     if nodes.len() < 2 || 16777216 < nodes.len() {
         return Err(GraphRefusal::WrongSize);
     }
     check_nodes(nodes)?;
-    Ok(())
+    Ok(FitGraph { nodes })
 }
