@@ -1,7 +1,8 @@
 -- The checks of a graph that several rows of "Where each check stands" share.
-use Rattle.std.specs.Prelude.{◌||◌, not, [], ◌∷◌, ltb, leb, length}
+use Rattle.std.specs.Prelude.{◌≡◌, ◌||◌, not, false, [], ◌∷◌, ltb, leb, length}
 use Rattle.std.proofs.Math.Option.{Option, none, some}
-use Rattle.answers.specs.Answers.{Answer, refused, refusing, Row}
+use Rattle.laws.specs.Cases.{is_some}
+use Rattle.answers.specs.Answers.{Answer, refused, refusing, Row, first_of}
 use Rattle.node.specs.Nodes.{kbwg}
 use Rattle.graph.specs.Runs.{Graph, largest_arc, last_ends}
 use Rattle.graph.specs.declared.GraphCheck.{GraphCheck}
@@ -24,6 +25,10 @@ nodes_row g =
 -- "10+ under 2 nodes or over 16,777,216; 8; 9"
 abbrev pub graph_row : Graph → Row
 graph_row g = (ltb (length g) 2 || ltb 16_777_216 (length g), refusing 10 []) ∷ nodes_row g
+
+-- that a graph passes the row
+abbrev pub IsFit : Graph → Type 0
+IsFit g = is_some (first_of (graph_row g)) ≡ false
 
 -- what `check_graph` refuses by
 abbrev pub graph_refusal : GraphCheck → Option Answer

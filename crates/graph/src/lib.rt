@@ -7,6 +7,10 @@ ghost use Rattle.node.specs.Nodes.{kbwg};
 ghost use Rattle.graph.specs.Runs.{largest_arc, last_ends};
 ghost use Rattle.graph.specs.Checks.{nodes_row, nodes_refusal, graph_row, graph_refusal};
 
+mod fit;
+
+pub use fit::FitGraph;
+
 use base::larger;
 use node::Node24;
 
