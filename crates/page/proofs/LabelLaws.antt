@@ -25,7 +25,7 @@ unshown labels t = outside (label_of labels t)
 
 module _ (labels : List ℕ) (tiles : Word) where
   module _ (passed : some_of (lacks_label labels) tiles ≡ false) where
-    there : (t : ℕ) → Memᴰ t tiles → t < length labels
+    pub there : (t : ℕ) → Memᴰ t tiles → t < length labels
     there t m = let h = leb-false (length labels) t (none_of (lacks_label labels) tiles passed t m) in omega arith
 
     pub label-there : (i : ℕ) → i < length tiles → get_or tiles i 0 < length labels

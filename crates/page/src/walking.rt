@@ -55,7 +55,7 @@ fn find_row(nodes: &[u32], counts: &[u32], p: u32, number: u32, word: &mut [u8])
 pub(crate) fn shown_tiles(size: usize) -> usize
     ensures { result ≡ min size page_widths.word }
 {
-    if size < COLUMNS { size } else { COLUMNS }
+    size.min(COLUMNS)
 }
 
 // How many rows have a number that is not too large.
@@ -63,7 +63,7 @@ fn numbered_rows(first: u32) -> usize
     ensures { result ≡ min word_rows (page_widths.greatest + 1 - first) }
 {
     let after = (COUNT_LIMIT - first) as usize;
-    if after < ROWS { after + 1 } else { ROWS }
+    ROWS.min(after + 1)
 }
 
 // Walks the numbers from the first one on; puts the tiles of their words one after the other, and the size of each. The lists must have

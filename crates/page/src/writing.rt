@@ -27,12 +27,9 @@ fn put_blanks(count: usize, out: &mut [u8], at: usize) -> usize
     requires { at + count ≤ length out.old }
     ensures { Puts (blanks count) out.old at out.new result }
 {
-    let mut i = 0;
-    while i < count {
-        out[at + i] = b' ';
-        i += 1;
-    }
-    at + i
+    let end = at + count;
+    out[at..end].fill(b' ');
+    end
 }
 
 // The tiles must have labels that are bytes.
@@ -41,12 +38,10 @@ fn put_labels(tiles: &[u8], labels: &[u32], out: &mut [u8], at: usize) -> usize
     requires labelled { Labelled labels.now tiles.now }
     ensures { Puts (map (label_of labels.now) tiles.now) out.old at out.new result }
 {
-    let mut i = 0;
-    while i < tiles.len() {
-        out[at + i] = label_of(tiles[i], labels) as u8;
-        i += 1;
+    for (i, &tile) in tiles.iter().enumerate() {
+        out[at + i] = label_of(tile, labels) as u8;
     }
-    at + i
+    at + tiles.len()
 }
 
 fn more_mark(more: bool) -> u8
@@ -93,10 +88,8 @@ fn put_rows(
         out.new result }
 {
     let mut at = at;
-    let mut row = 0;
     let mut from = 0;
-    while row < sizes.len() {
-        let size = sizes[row];
+    for (row, &size) in sizes.iter().enumerate() {
         let end = from + shown_tiles(size);
         at = put_row(
             first + row as u32,
@@ -107,7 +100,6 @@ fn put_rows(
             at,
         );
         from = end;
-        row += 1;
     }
     at
 }
