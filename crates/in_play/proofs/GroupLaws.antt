@@ -126,7 +126,6 @@ module _ (bits : List ℕ) (end : ℕ) (lent : end ≤ length bits) where
   pub joined-none : joined (slice end end bits) ≡ 0
   joined-none = ap joined (slice_empty end bits)
 
-
 -- eight bytes as the library joins them
 pub joined_eight : (bs : List ℕ) → length bs ≡ 8 → from_le_bytes w64 bs ≡ joined bs
 joined_eight bs e =
@@ -156,10 +155,10 @@ pub group_joined : (bits : List ℕ) (count g : ℕ) {groups : List (List ℕ)} 
     → g < count → count * 8 ≤ length bits → from_le_bytes w64 (get_or groups g []) ≡ joined (slice (g * 8) (g * 8 + 8) bits)
 group_joined bits count g {groups} e h lent =
     let part : get_or groups g [] ≡ slice (g * 8) (g * 8 + 8) bits =
-        ap (λ l. get_or l g []) e
-        ∙ group-there count (take (count * 8) bits) g [] h
-        ∙ sym (drop-take (g * 8) 8 (take (count * 8) bits))
-        ∙ ap (drop (g * 8)) (take-take (g * 8 + 8) (count * 8) bits (omega arith)) in
+    ap (λ l. get_or l g []) e
+    ∙ group-there count (take (count * 8) bits) g [] h
+    ∙ sym (drop-take (g * 8) 8 (take (count * 8) bits))
+    ∙ ap (drop (g * 8)) (take-take (g * 8 + 8) (count * 8) bits (omega arith)) in
     ap (from_le_bytes w64) part ∙ joined_eight (slice (g * 8) (g * 8 + 8) bits) (omega (arith, length-slice (g * 8) (g * 8 + 8) bits (omega arith)))
 
 -- bytes that are 0 add nothing

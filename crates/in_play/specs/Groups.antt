@@ -1,5 +1,5 @@
 -- The record in groups of eight bytes, as it is scanned: a group is one number, whose 64 bits stand for 64 words in a row.
-use Rattle.std.specs.Prelude.{List, [], ◌∷◌, ℕ, ◌+◌, ◌-◌, ◌*◌, ◌/◌, ◌%◌, ◌^◌}
+use Rattle.std.specs.Prelude.{List, [], ◌∷◌, ℕ, ◌+◌, ◌*◌, ◌/◌, ◌%◌, ◌^◌}
 use Rattle.std.specs.Int.{w64, bit_not}
 use Rattle.std.proofs.Math.Seq.{slice}
 

@@ -6,13 +6,13 @@ use Rattle.in_play.specs.Groups.{clear_bits}
 use Rattle.in_play.proofs.GroupLaws.{group_joined}
 use Rattle.in_play.proofs.ScanLaws.{left_from, all_left, left-most, count_next, count-last}
 use Rattle.in_play.proofs.record.count_clear.Goals as goal
-use Rattle.in_play.proofs.record.count_clear.Goals.{After-from_le_bytes, After-last_clear}
+use Rattle.in_play.proofs.record.count_clear.Goals.{After-count_zeros-count, After-last_clear}
 
 pub loop-group-init : goal.loop-group-init
 loop-group-init c = omega (arith, ap length (all_left c.args.bits.now c.args.total))
 
 -- the group's part of what is left
-module _ (c : After-from_le_bytes) where
+module _ (c : After-count_zeros-count) where
   abbrev bits : List ℕ
   bits = c.args.bits.now
 
@@ -22,12 +22,12 @@ module _ (c : After-from_le_bytes) where
   abbrev g : ℕ
   g = c.loop-group.group-index
 
-  group-is : length (left_from bits total g) ≡ ones (clear_bits c.from_le_bytes.result) + length (left_from bits total (g + 1))
+  group-is : length (left_from bits total g) ≡ c.count_zeros-count.result + length (left_from bits total (g + 1))
   group-is =
       let h : g < total / 64 = omega (arith, c.whole_groups-group-items.ensures.count) in
       let e = c.from_le_bytes.ensures ∙ group_joined bits (total / 64) g c.whole_groups-group-items.ensures.groups h (omega arith) in
       count_next bits total (λ n. (c.type_inv.bits n).fits) (omega arith) g (omega arith)
-      ∙ ap (λ n. ones (clear_bits n) + length (left_from bits total (g + 1))) (sym e)
+      ∙ ap (λ n. n + length (left_from bits total (g + 1))) (sym (c.count_zeros-count.ensures.value ∙ ap (λ n. ones (clear_bits n)) e))
 
 pub overflow_add-count : goal.overflow_add-count
 overflow_add-count c = omega (arith, group-is c, left-most (bits c) (total c))

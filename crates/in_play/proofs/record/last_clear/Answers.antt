@@ -1,7 +1,6 @@
 -- `in_play::last_clear` meets its contract.
 use Rattle.std.proofs.Common.{◌≡◌, ◌∙◌, ap, ap₂, arith, ◌+◌, ◌-◌, ◌*◌, ◌/◌, ◌%◌, ◌^◌, take, drop}
 use Rattle.std.proofs.Math.Pow.{shl_exact}
-use Rattle.std.proofs.Math.Seq.{slice}
 use Rattle.std.proofs.lemmas.List.{drop-take}
 use native.Mathlib.Nat.{one-mul}
 use lib.Dec.{lit<}

@@ -1,5 +1,5 @@
 -- `in_play::turn` meets its contract: the shifted 1 is the bit's worth.
-use Rattle.std.proofs.Common.{◌≡◌, arith, ◌*◌, ◌%◌, ◌^◌}
+use Rattle.std.proofs.Common.{arith, ◌%◌, ◌^◌}
 use Rattle.std.proofs.Math.Pow.{shl_exact}
 use native.Mathlib.Nat.{one-mul}
 use lib.Dec.{lit<}
