@@ -1,19 +1,24 @@
 -- A call by the facts that decide it.
 use Rattle.std.specs.Prelude.{◌≡◌, refl, Bool, true, false, ◌≢◌, List, [], ◌∷◌, ℕ, ◌*◌, ◌≤◌, ◌<◌, eqb, length}
-use borrow.Author.Tests.{lt-ltb, le-leb, lt-leb, eq-eqb, ne_eqb, ltb-true, leb-true}
+use Rattle.std.proofs.Common.{subst}
+use borrow.Author.Tests.{lt-ltb, le-ltb, le-leb, lt-leb, eq-eqb, ne_eqb, ltb-true, leb-true}
 use Rattle.std.proofs.Math.Dec.{ltb, leb}
 use Rattle.laws.specs.Cases.{split}
 use Rattle.answers.specs.Answers.{Answer, gives, nothing, refused, IsRefusal}
 use Rattle.graph.specs.Runs.{Graph}
 use Rattle.graph.specs.Words.{Word}
 use Rattle.lookup.specs.Steps.{Try, on, stop, ◌>>=◌, lent, require}
-use Rattle.lookup.specs.StepsLaws.{lent-on, Comes, then-Comes}
+use Rattle.lookup.specs.StepsLaws.{lent-on, lent_out, Comes, then-Comes}
 use Rattle.lookup.specs.Walks.{word_index}
 use Rattle.in_play.specs.declared.Move.{Move}
 use Rattle.in_play.specs.InPlay.{in_play, turned, start_count, number_of, allowed, in_lexicon, recorded, played, moved_by, play}
 
 -- ---- the start
 module _ (nodes : Graph) (counts : List ℕ) (start : ℕ) where
+  pub start-out : length nodes ≤ start → start_count nodes counts start ≡ stop (refused 14 [])
+  unfolding start_count
+  start-out h = rw (lent_out nodes start h)
+
   pub start_none : start < length nodes → start ≡ 0 → start_count nodes counts start ≡ on 0
   unfolding start_count
   start_none h z = rw (lent-on nodes start h) (rw (eq-eqb start 0 z, ◌>>=◌))
@@ -48,6 +53,10 @@ module _ (limit : ℕ) (nodes : Graph) (counts : List ℕ) (start : ℕ) (word :
   abbrev found : Try (ℕ × ℕ)
   found = in_lexicon limit nodes counts start word bytes
 
+  pub no_start : {r : Answer} → start_count nodes counts start ≡ stop r → found ≡ stop r
+  unfolding in_lexicon
+  no_start e = rw e
+
   module _ {total : ℕ} (e : start_count nodes counts start ≡ on total) where
     pub few_bits : 8 * bytes < total → found ≡ stop (refused 11 [])
     unfolding in_lexicon
@@ -59,6 +68,10 @@ module _ (limit : ℕ) (nodes : Graph) (counts : List ℕ) (start : ℕ) (word :
       no_number s = rw e (rw (le-leb total (8 * bytes) h) (rw s))
 
       module _ {n : ℕ} (s : number_of (word_index limit nodes counts start word) ≡ on n) where
+        pub number_past : total ≤ n → found ≡ stop (refused 29 [])
+        unfolding in_lexicon
+        number_past l = rw e (rw (le-leb total (8 * bytes) h) (rw s (rw (le-ltb n total l))))
+
         pub number-within : n < total → found ≡ on (n, total)
         unfolding in_lexicon
         number-within l = rw e (rw (le-leb total (8 * bytes) h) (rw s (rw (lt-ltb n total l))))
@@ -78,6 +91,9 @@ module _ (limit : ℕ) (nodes : Graph) (counts : List ℕ) (start : ℕ) (word :
       (λ n _ _. then-Comes (λ _. ltb n total ≡ true) Within IsRefusal (require (ltb n total) (refused 29 [])) _
       (require-Comes (ltb n total) 29)
       (λ _ _ inside. (counted, ltb-true n total inside, leb-true total (8 * bytes) enough)))))
+
+  pub found_within : {n total : ℕ} → found ≡ on (n, total) → (n < total) × (total ≤ 8 * bytes)
+  found_within e = let w = subst (Comes Within IsRefusal) e found-Comes in (w.1, w.2)
 
 -- ---- the move
 module _ (limit : ℕ) (move : Move) (nodes : Graph) (counts : List ℕ) (start : ℕ) (word : Word) (bits : List ℕ) where

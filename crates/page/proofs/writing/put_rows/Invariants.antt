@@ -7,7 +7,7 @@ use Rattle.page.proofs.writing.put_rows.Given as goal
 
 abbrev pub invariant-loop-row : goal.invariant-loop-row
 invariant-loop-row l = record {
-  tiles : l.from + held_tiles page_widths.word (drop l.row l.sizes) ≡ length l.tiles;
-  left : Putting (held_rows page_widths l.labels l.first l.tiles l.sizes) l.initial.out l.at-2
-      (held_rows page_widths l.labels (l.first + l.row) (drop l.from l.tiles) (drop l.row l.sizes)) l.out l.at;
+  tiles : l.from + held_tiles page_widths.word (drop l.row l.words.sizes.now) ≡ length l.words.tiles.now;
+  left : Putting (held_rows page_widths l.labels l.words.first l.words.tiles.now l.words.sizes.now) l.initial.out l.at-2
+      (held_rows page_widths l.labels (l.words.first + l.row) (drop l.from l.words.tiles.now) (drop l.row l.words.sizes.now)) l.out l.at;
 }
