@@ -1,33 +1,19 @@
 -- `check_graph` meets its contract: the sizes by the row's first condition, the rest by the check of the nodes.
-use mathlib.Core.Path.{◌≡◌, sym, ap, ◌∙◌}
-use mathlib.Core.List.{List}
-use Prim.Native.Nat.{ℕ}
-use Rattle.answers.specs.Answers.{first_of}
-use Rattle.graph.specs.Checks.{nodes_refusal, graph_row}
+use Rattle.std.proofs.Common.{sym, ap, ◌∙◌, ⊎_elim}
+use Rattle.std.proofs.lemmas.Result.{err_from_is_err_and}
+use Rattle.laws.specs.Cases.{is_some}
 use Rattle.graph.proofs.CheckRows.{too_few-nodes, too_many-nodes, right-size}
-use Rattle.graph.specs.declared.NodesCheck.{NodesCheck}
 use Rattle.graph.proofs.check_graph.Goals as goal
-use Rattle.graph.proofs.check_graph.Goals.{After-check_nodes}
 
--- past the sizes, what the check of the nodes says
-module _ (c : After-check_nodes) where
-  abbrev nodes : List ℕ
-  nodes = c.args.nodes.now
+pub returns-then-nodes-lt2-clause-refused : goal.returns-then-nodes-lt2-clause-refused
+returns-then-nodes-lt2-clause-refused c = sym (⊎_elim (λ s. too_few-nodes _ s) (λ l. too_many-nodes _ l.1) c.then-nodes-lt2.either)
 
-  judged : {k : NodesCheck} → c.check_nodes.result ≡ k → nodes_refusal k ≡ first_of (graph_row nodes)
-  judged e = ap nodes_refusal (sym e) ∙ c.check_nodes.ensures ∙ sym (right-size nodes c.if-nodes-lt2.false c.if-nodes-gt16777216.false)
+pub returns-in_err-check_nodes-clause-refused : goal.returns-in_err-check_nodes-clause-refused
+returns-in_err-check_nodes-clause-refused c =
+    let p = err_from_is_err_and c.from_residual.result c.from_residual.ensures.1 in
+    rw (p.1, p.2) (c.in_err-check_nodes.ensures ∙ sym (right-size _ c.if-nodes-lt2.false c.if-nodes-gt16777216.false))
 
-pub returns-then-nodes-lt2 : goal.returns-then-nodes-lt2
-returns-then-nodes-lt2 c = sym (too_few-nodes c.args.nodes.now c.if-nodes-lt2.true)
-
-pub returns-then-nodes-gt16777216 : goal.returns-then-nodes-gt16777216
-returns-then-nodes-gt16777216 c = sym (too_many-nodes c.args.nodes.now c.if-nodes-gt16777216.true)
-
-pub returns-in-Sound : goal.returns-in-Sound
-returns-in-Sound c = judged (goal.at.returns-in-Sound c).After-check_nodes c.in-Sound.is
-
-pub returns-in-ArcPastEnd : goal.returns-in-ArcPastEnd
-returns-in-ArcPastEnd c = judged (goal.at.returns-in-ArcPastEnd c).After-check_nodes c.in-ArcPastEnd.is
-
-pub returns-in-NoEnd : goal.returns-in-NoEnd
-returns-in-NoEnd c = judged (goal.at.returns-in-NoEnd c).After-check_nodes c.in-NoEnd.is
+pub invariant_of-result : goal.invariant_of-result
+invariant_of-result c =
+    let passes = right-size _ c.if-nodes-lt2.false c.if-nodes-gt16777216.false ∙ sym c.in_ok-check_nodes.ensures in
+    record { fit = ap is_some passes }

@@ -1,7 +1,5 @@
 -- `Node22::pack` meets its contract: an arc over the limit is refused; every tile of a byte fits, and the sum is the packed node.
-use native.Mathlib.Omega.{arith}
-use mathlib.Core.Path.{sym, ap, ◌∙◌}
-use mathlib.Core.List.{[], ◌∷◌}
+use Rattle.std.proofs.Common.{sym, ap, ◌∙◌, arith, [], ◌∷◌}
 use Rattle.answers.specs.Answers.{gives}
 use Rattle.node.specs.Nodes.{kwg}
 use Rattle.node.proofs.PackAnswers.{pack-within, pack-arc_over}
