@@ -1,7 +1,9 @@
 -- Reading a text line by line visits exactly its lines.
-use Rattle.std.specs.Prelude.{◌≡◌, refl, true, false, List, [], ◌∷◌, eqb, ltb, get_or, take}
-use Rattle.std.proofs.Common.{sym, ap₂, ◌∙◌, true≢false, suc-add, add-one, eqb-true, ltb-true, ltb-false, length-drop, drop-drop}
+use Rattle.std.specs.Prelude.{◌≡◌, refl, not, min, take_while, nat_eq, true, false, List, [], ◌∷◌, eqb, ltb, get_or, take}
+use Rattle.std.proofs.Common.{sym, ap₂, ◌∙◌, true≢false, suc-add, one-add, eqb-true, ltb-true, ltb-false, length-drop, drop-drop}
 use Rattle.std.proofs.Math.Path.{ap}
+use Rattle.std.specs.List.{starts_with}
+use Rattle.std.proofs.lemmas.Bool.Decides.{nat_tests}
 use Prim.Native.Nat.{ℕ, zero, suc, ◌+◌, ◌-◌, ◌≤◌, ◌<◌, zero-le}
 use native.Mathlib.Omega.{arith}
 use Rattle.std.proofs.Math.ListN.{length, drop, drop_of_length-le}
@@ -10,19 +12,11 @@ use Rattle.laws.specs.Cases.{split, and_left}
 use Rattle.text.specs.Lines.{is_ending, is_pair, on_first, lines_from, lines, first_line, ending_width, line_width}
 
 -- ---- the end of a line
-module _ (text : List ℕ) (i : ℕ) where
-  pub line-here : i < length text → is_ending (get_or text i 0) ≡ true → first_line (drop i text) ≡ []
-  unfolding first_line
-  line-here h e = rw (drop-cons text i 0 h) (rw (e, first_line))
-
-  pub line-next : i < length text → is_ending (get_or text i 0) ≡ false
-      → first_line (drop i text) ≡ get_or text i 0 ∷ first_line (drop (i + 1) text)
-  unfolding first_line
-  line-next h e = rw (add-one, drop-cons text i 0 h) (rw (e, first_line))
-
-  pub line-past : length text ≤ i → first_line (drop i text) ≡ []
-  unfolding first_line
-  line-past h = rw (drop_of_length-le text h)
+-- it is all before the first ending
+pub line-while : (s : List ℕ) → take_while (λ b. not (is_ending b)) s ≡ first_line s
+unfolding first_line
+line-while [] = refl
+line-while (b ∷ s) = split (is_ending b) (λ e. rw (e, first_line)) (λ e. rw (e, first_line, one-add) (ap (b ∷◌) (line-while s)))
 
 -- a line stands in the text
 pub line-fits : (s : List ℕ) → length (first_line s) ≤ length s
@@ -39,25 +33,20 @@ line-part [] = refl
 line-part (b ∷ s) = split (is_ending b) (λ e. rw (e, first_line)) (λ e. rw (e, first_line) (ap (b ∷◌) (line-part s)))
 
 -- ---- the ending
-module _ (text : List ℕ) (i : ℕ) where
-  pub ending_past : length text ≤ i → ending_width (drop i text) ≡ 0
-  unfolding ending_width
-  ending_past h = rw (drop_of_length-le text h)
+starts-pair : (b c : ℕ) (s : List ℕ) → starts_with nat_eq (b ∷ c ∷ s) (0x0D ∷ 0x0A ∷ []) ≡ is_pair b c
+starts-pair b c s = grind (arith, nat_tests)
 
-  pub ending_last : i < length text → length text ≤ i + 1 → ending_width (drop i text) ≡ 1
-  unfolding ending_width
-  ending_last h k = let p : length text ≤ suc i = omega arith in rw (drop-cons text i 0 h, drop_of_length-le text p)
+pub width_pair : (s : List ℕ) → starts_with nat_eq s (0x0D ∷ 0x0A ∷ []) ≡ true → ending_width s ≡ 2
+unfolding ending_width
+width_pair [] e = absurd (true≢false (sym e))
+width_pair (b ∷ []) e = grind (arith, nat_tests)
+width_pair (b ∷ c ∷ s) e = rw (sym (starts-pair b c s) ∙ e, ending_width)
 
-  ending_two : i + 1 < length text → drop i text ≡ get_or text i 0 ∷ get_or text (i + 1) 0 ∷ drop (suc (suc i)) text
-  ending_two h = drop-cons text i 0 (omega arith) ∙ ap (get_or text i 0 ∷◌) (drop-cons text (suc i) 0 (omega arith) ∙ rw (add-one i))
-
-  pub ending_pair : i + 1 < length text → is_pair (get_or text i 0) (get_or text (i + 1) 0) ≡ true → ending_width (drop i text) ≡ 2
-  unfolding ending_width
-  ending_pair h e = rw (ending_two h) (rw (e, ending_width))
-
-  pub ending_one : i + 1 < length text → is_pair (get_or text i 0) (get_or text (i + 1) 0) ≡ false → ending_width (drop i text) ≡ 1
-  unfolding ending_width
-  ending_one h e = rw (ending_two h) (rw (e, ending_width))
+pub width_one : (s : List ℕ) → starts_with nat_eq s (0x0D ∷ 0x0A ∷ []) ≡ false → ending_width s ≡ min (length s) 1
+unfolding ending_width
+width_one [] e = refl
+width_one (b ∷ []) e = refl
+width_one (b ∷ c ∷ s) e = rw (sym (starts-pair b c s) ∙ e, ending_width) (omega arith)
 
 pub ending_fits : (s : List ℕ) → ending_width s ≤ length s
 unfolding ending_width
@@ -175,16 +164,12 @@ Visits-only text at ls (done h) = sym (lines-past text at h)
 Visits-only text at ls (visit {ls = rest} h v) =
     ap (first_line (drop at text) ∷◌) (Visits-only text (at + line_width (drop at text)) rest v) ∙ sym (lines_at text at h)
 
--- ---- a line and what follows it, by the place where it ends
-module _ (text : List ℕ) (at end : ℕ) (e : end ≡ at + length (first_line (drop at text))) where
-  pub after_line : (after : ℕ) → after ≡ end + ending_width (drop end text) → after ≡ at + line_width (drop at text)
+-- ---- the line and the ending that a text begins with, by how many bytes they have
+module _ (s : List ℕ) (end width : ℕ) (e : end ≡ length (take_while (λ b. not (is_ending b)) s)) where
+  pub line-before : take end s ≡ first_line s
+  line-before = rw (e ∙ ap length (line-while s)) (line-part s)
+
+  pub line-after : width ≡ ending_width (drop end s) → end + width ≡ line_width s
   unfolding line_width
-  after_line after w =
-      let d = ap ending_width (drop-drop (length (first_line (drop at text))) at text ∙ ap (λ k. drop k text) (sym e)) in
-      omega arith
-
-  pub line-between : take (end - at) (drop at text) ≡ first_line (drop at text)
-  line-between = let d : end - at ≡ length (first_line (drop at text)) = omega arith in rw d (line-part (drop at text))
-
-  pub end_fits : at ≤ length text → end ≤ length text
-  end_fits h = let l = line-fits (drop at text) in let d = length-drop at text in omega arith
+  line-after w = let i : end ≡ length (first_line s) = e ∙ ap length (line-while s) in
+      rw (← i) (ap (λ n. end + n) w)
