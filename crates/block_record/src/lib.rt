@@ -6,13 +6,6 @@ ghost use Rattle.std.specs.Prelude.{◌≡◌, ◌+◌, ◌*◌, ◌≤◌, ◌<
 ghost use Rattle.block_record.specs.Record.{place_at, child_in, Pushed};
 ghost use Rattle.block_record.specs.Depths.{depth_at};
 
-// What the record says of a node: where its block stands.
-#[derive(Clone, Copy)]
-pub enum Place {
-    Numbered(u32),
-    Unnumbered,
-}
-
 // The blocks numbered, and the nodes of the file so far.
 #[derive(Clone, Copy)]
 pub struct BlockTally {
@@ -20,21 +13,17 @@ pub struct BlockTally {
     pub nodes: u32,
 }
 
-// Node p's block; the work list must have an entry for p.
-pub fn place_of(work: &[u32], p: usize) -> Place
+// Where node p's block stands, if it is numbered; the work list must have an entry for p.
+pub fn place_of(work: &[u32], p: usize) -> Option<u32>
     requires { p < length work.now }
     ensures { result ≡ place_at work.now p }
 {
-    let v = work[p];
-    if v == 0 {
-        Place::Unnumbered
-    } else {
-        Place::Numbered(v - 1)
-    }
+    work[p].checked_sub(1)
 }
 
 // Where the block that an arc leads to stands by the record, which must have an entry for it; arc 0 leads nowhere. The entry is read before it
 // is known whether it is asked for, so that no branch can be mispredicted.
+#[tactic(auto, unfolding(crate::specs::Record::child_in))]
 pub fn child_place(work: &[u32], arc: u32) -> u32
     requires { arc < length work.now }
     ensures { result ≡ child_in work.now arc }
@@ -43,10 +32,7 @@ pub fn child_place(work: &[u32], arc: u32) -> u32
     if arc == 0 {
         return 0;
     }
-    let Place::Numbered(at) = place else {
-        return 0;
-    };
-    at
+    place.unwrap_or(0)
 }
 
 // Numbers the block of node p, which takes `size` nodes; the record must have room for it, and the sum must fit 32 bits.

@@ -1,61 +1,26 @@
--- Digits put from the right. The idea: those that are left to put, put where all begin, give all of them.
-use mathlib.Core.Path.{◌≡◌, refl, sym, ap, ◌∙◌}
-use mathlib.Core.Logic.{inr}
-use mathlib.Core.List.{List, [], ◌∷◌}
-use Prim.Native.Nat.{ℕ, ◌+◌, ◌-◌, ◌/◌, ◌%◌, ◌<◌, ◌≤◌}
-use native.Mathlib.Omega.{arith}
-use lib.ListN.{length, set, length-set}
-use lib.Seq.{sets}
-use Rattle.laws.specs.ListWrites.{sets_append, sets-apart}
-use Rattle.endian.specs.Puts.{Puts}
+-- Digits written from the right, the last first.
+use Rattle.std.proofs.Common.{◌≡◌, List, [], ◌∷◌, ◌++◌, ℕ, zero, suc, ◌+◌, ◌/◌, ◌%◌, ◌<◌, length, set, drop, arith, add-one, append_assoc, append-nil, drop_of_length-le, le_refl}
+use Rattle.std.proofs.lemmas.List.{drop-set}
 use Rattle.decimal.specs.Decimal.{decimal}
-use Rattle.decimal.specs.DecimalLaws.{decimal-one, decimal-more, decimal-some, length-one, length_more}
+use Rattle.decimal.specs.DecimalLaws.{decimal-one, decimal-more, length-one, length_more, by_tenths}
 
--- the digits of `number` begin at `start`; those of `left` are still to be put, and end before `at`
-pub record DigitsLeft (number start : ℕ) (before : List ℕ) (left : ℕ) (now : List ℕ) (at : ℕ) : Type 0 where
-  pub size : length now ≡ length before
-  pub room : at ≤ length now
-  pub place : at ≡ start + length (decimal left)
-  pub stored : sets now start (decimal left) ≡ sets before start (decimal number)
+-- the last k digits of a number, with zeros in front where it has fewer
+abbrev pub last_digits : ℕ → ℕ → List ℕ
+last_digits zero n = []
+last_digits (suc k) n = last_digits k (n / 10) ++ (0x30 + n % 10) ∷ []
 
-module _ {number start : ℕ} {before : List ℕ} where
-  pub digits-start : {end : ℕ} → end ≤ length before → end ≡ start + length (decimal number) → DigitsLeft number start before number before end
-  digits-start r e = record { size = refl; room = r; place = e; stored = refl }
+-- a number's digits are as many of its last ones
+all_digits : (n : ℕ) → last_digits (length (decimal n)) n ≡ decimal n
+all_digits =
+    by_tenths (λ n. last_digits (length (decimal n)) n ≡ decimal n)
+    (λ n h. let e : n % 10 ≡ n = omega arith in rw (length-one n h, decimal-one n h, e))
+    (λ n h i. rw (length_more n h, add-one, last_digits, i, decimal-more n h))
 
-  module _ {left : ℕ} {now : List ℕ} {at : ℕ} (h : DigitsLeft number start before left now at) where
-    -- the next one has its byte
-    pub digit-there : 0 < at
-    digit-there = omega (arith, h.place, decimal-some left)
+-- at first all of them are left
+pub none_written : (ds : List ℕ) (n : ℕ) → length ds ≡ length (decimal n) → last_digits (length ds) n ++ drop (length ds) ds ≡ decimal n
+none_written ds n e = rw (drop_of_length-le ds (le_refl (length ds)), e, append-nil) (all_digits n)
 
-    pub digit_room : at - 1 < length now
-    digit_room = omega (arith, digit-there, h.room)
-
-    pub digit-put : 10 ≤ left → DigitsLeft number start before (left / 10) (set now (at - 1) (0x30 + left % 10)) (at - 1)
-    digit-put more =
-        let tenth = decimal (left / 10) in
-        let place : at - 1 ≡ start + length tenth = omega (arith, h.place, length_more left more) in
-        let same = length-set now (at - 1) (0x30 + left % 10) in
-        record {
-          size = same ∙ h.size;
-          room = omega (arith, same, h.room);
-          place = place;
-          stored =
-              sym (sets-apart tenth now start (at - 1) (0x30 + left % 10) (inr (omega (arith, place))))
-              ∙ ap (λ i. set (sets now start tenth) i (0x30 + left % 10)) place
-              ∙ sym (sets_append now start tenth ((0x30 + left % 10) ∷ []))
-              ∙ ap (sets now start) (sym (decimal-more left more))
-              ∙ h.stored;
-        }
-
-    pub digits-put : left < 10 → {end : ℕ} → end ≡ start + length (decimal number)
-        → Puts (decimal number) before (at - 1) (set now (at - 1) (0x30 + left)) end
-    digits-put one e =
-        let place : at - 1 ≡ start = omega (arith, h.place, length-one left one) in
-        record {
-          place = omega (arith, place, e);
-          stored = rw place (ap (sets now start) (sym (decimal-one left one)) ∙ h.stored);
-        }
-
--- bytes that end at a place begin where there is just room for them
-pub put-before : {xs a b : List ℕ} {begin end : ℕ} (at : ℕ) → end ≡ at + length xs → Puts xs a begin b end → Puts xs a at b end
-put-before {xs} {a} at e p = record { place = e; stored = p.stored ∙ ap (λ i. sets a i xs) (omega (arith, p.place, e)) }
+-- the last of those that are left, written before the others
+pub digit-written : (ds : List ℕ) (k n j : ℕ) → j ≡ suc k → k < length ds
+    → last_digits k (n / 10) ++ drop k (set ds k (0x30 + n % 10)) ≡ last_digits j n ++ drop j ds
+digit-written ds k n j e h = rw (e, last_digits, append_assoc, drop-set ds k (0x30 + n % 10) h, add-one)

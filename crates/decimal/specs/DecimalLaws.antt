@@ -53,6 +53,16 @@ length-one n h = ap length (decimal-one n h)
 pub length_more : (n : ℕ) → 10 ≤ n → length (decimal n) ≡ length (decimal (n / 10)) + 1
 length_more n h = ap length (decimal-more n h) ∙ length-append (decimal (n / 10)) ((0x30 + n % 10) ∷ [])
 
+-- one from 10 ^ k on and below 10 ^ (k + 1) has k + 1
+pub decimal-count : (k n : ℕ) → 10 ^ k ≤ n → n < 10 * 10 ^ k → length (decimal n) ≡ suc k
+decimal-count zero n h i = length-one n (omega arith)
+decimal-count (suc k) n h i =
+    let p = pow-suc 10 k in
+    let low : 10 ^ k ≤ n / 10 = omega arith in
+    let high : n / 10 < 10 * 10 ^ k = omega arith in
+    let some : 10 ≤ n = omega (arith, decimal-count k (n / 10) low high) in
+    length_more n some ∙ omega (arith, decimal-count k (n / 10) low high)
+
 -- ---- from a number's tenth to the number
 module _ (P : ℕ → Type 0) (one : (n : ℕ) → n < 10 → P n) (more : (n : ℕ) → 10 ≤ n → P (n / 10) → P n) where
   tenths_below : (k n : ℕ) → n < k → P n
@@ -63,7 +73,7 @@ module _ (P : ℕ → Type 0) (one : (n : ℕ) → n < 10 → P n) (more : (n : 
       (λ t. let b = ltb-false n 10 t in more n b (tenths_below k (n / 10) (omega arith)))
 
   -- what holds of each number below 10, and of each other if of its tenth, holds of every number
-  by_tenths : (n : ℕ) → P n
+  pub by_tenths : (n : ℕ) → P n
   by_tenths n = tenths_below (suc n) n (omega arith)
 
 pub decimal-some : (n : ℕ) → 0 < length (decimal n)

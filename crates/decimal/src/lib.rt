@@ -5,17 +5,23 @@ ghost use Rattle.std.specs.Prelude.{◌≡◌, ◌+◌, ◌≤◌, length};
 ghost use Rattle.endian.specs.Puts.{Puts};
 ghost use Rattle.decimal.specs.Decimal.{decimal};
 
-// How many digits the number has.
+// How many digits the number has: 0 has one, as 1 has.
 pub fn digit_count(number: u32) -> usize
     ensures { result ≡ length (decimal number) }
 {
-    let mut count: usize = 1;
+    number.max(1).ilog10() as usize + 1
+}
+
+// Writes the digits over bytes, of which there must be as many, the last digit first.
+fn write_digits(number: u32, digits: &mut [u8])
+    requires { length digits.old ≡ length (decimal number) }
+    ensures { digits.new ≡ decimal number }
+{
     let mut left = number;
-    while 9 < left {
+    for i in (0..digits.len()).rev() {
+        digits[i] = b'0' + (left % 10) as u8;
         left /= 10;
-        count += 1;
     }
-    count
 }
 
 // Puts the digits so that they end before a place, where they must have room, and answers where they begin.
@@ -23,16 +29,9 @@ pub fn put_digits(number: u32, out: &mut [u8], end: usize) -> usize
     requires { (length (decimal number) ≤ end) × (end ≤ length out.old) }
     ensures { Puts (decimal number) out.old result out.new end }
 {
-    let mut at = end;
-    let mut left = number;
-    while 10 <= left {
-        at -= 1;
-        out[at] = b'0' + (left % 10) as u8;
-        left /= 10;
-    }
-    at -= 1;
-    out[at] = b'0' + left as u8;
-    at
+    let start = end - digit_count(number);
+    write_digits(number, &mut out[start..end]);
+    start
 }
 
 // Puts the digits from a place on, where they must have room, and answers the place after them.
@@ -41,6 +40,6 @@ pub fn put_number(number: u32, out: &mut [u8], at: usize) -> usize
     ensures { Puts (decimal number) out.old at out.new result }
 {
     let end = at + digit_count(number);
-    put_digits(number, out, end);
+    write_digits(number, &mut out[at..end]);
     end
 }

@@ -1,4 +1,4 @@
 -- What the proofs use.
-mod BigStores
 pub mod BytesLaws
 pub mod BigLaws
+pub mod PartStores

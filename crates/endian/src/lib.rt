@@ -9,7 +9,7 @@ ghost use Rattle.endian.specs.Puts.{Puts};
 pub fn from_le_bytes(a: u8, b: u8, c: u8, d: u8) -> u32
     ensures { result ≡ from_bytes a b c d }
 {
-    a as u32 + b as u32 * 0x100 + c as u32 * 0x10000 + d as u32 * 0x1000000
+    u32::from_le_bytes([a, b, c, d])
 }
 
 // The number in the four bytes from p on, which must be there.
@@ -17,7 +17,7 @@ pub fn read_le_u32(bytes: &[u8], p: usize) -> u32
     requires { p + 3 < length bytes.now }
     ensures { result ≡ node_at bytes.now p }
 {
-    from_le_bytes(bytes[p], bytes[p + 1], bytes[p + 2], bytes[p + 3])
+    u32::from_le_bytes([bytes[p], bytes[p + 1], bytes[p + 2], bytes[p + 3]])
 }
 
 // Stores v in the four bytes from p on, which must be there.
@@ -25,10 +25,7 @@ pub fn write_le_u32(bytes: &mut [u8], p: usize, v: u32)
     requires { p + 3 < length bytes.old }
     ensures { bytes.new ≡ sets bytes.old p (to_bytes v) }
 {
-    bytes[p] = (v % 0x100) as u8;
-    bytes[p + 1] = (v / 0x100 % 0x100) as u8;
-    bytes[p + 2] = (v / 0x10000 % 0x100) as u8;
-    bytes[p + 3] = (v / 0x1000000 % 0x100) as u8;
+    bytes[p..p + 4].copy_from_slice(&v.to_le_bytes());
 }
 
 // The same with the highest byte first.
@@ -36,10 +33,7 @@ pub fn write_be_u32(bytes: &mut [u8], p: usize, v: u32)
     requires { p + 3 < length bytes.old }
     ensures { bytes.new ≡ sets bytes.old p (big_endian 4 v) }
 {
-    bytes[p] = (v / 0x1000000 % 0x100) as u8;
-    bytes[p + 1] = (v / 0x10000 % 0x100) as u8;
-    bytes[p + 2] = (v / 0x100 % 0x100) as u8;
-    bytes[p + 3] = (v % 0x100) as u8;
+    bytes[p..p + 4].copy_from_slice(&v.to_be_bytes());
 }
 
 // Stores a number of eight bytes, given by its halves, from p on; the bytes must be there.
@@ -47,8 +41,8 @@ pub fn write_be_halves(bytes: &mut [u8], p: usize, high: u32, low: u32)
     requires { p + 7 < length bytes.old }
     ensures { bytes.new ≡ sets bytes.old p (big_endian 8 (high * 4294967296 + low)) }
 {
-    write_be_u32(bytes, p, high);
-    write_be_u32(bytes, p + 4, low);
+    let v = u64::from(high) * 0x1_0000_0000 + u64::from(low);
+    bytes[p..p + 8].copy_from_slice(&v.to_be_bytes());
 }
 
 // Copies text to the bytes from p on, which must be there.
@@ -56,11 +50,7 @@ pub fn write_bytes(bytes: &mut [u8], p: usize, text: &[u8])
     requires { p + length text.now ≤ length bytes.old }
     ensures { bytes.new ≡ sets bytes.old p text.now }
 {
-    let mut i: usize = 0;
-    while i < text.len() {
-        bytes[p + i] = text[i];
-        i += 1;
-    }
+    bytes[p..p + text.len()].copy_from_slice(text);
 }
 
 // Puts a byte at a place, which must be there, and answers the place after it.

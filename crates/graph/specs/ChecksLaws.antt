@@ -6,12 +6,12 @@ use mathlib.Core.List.{[], ◌∷◌}
 use Rattle.std.proofs.Math.Option.{none}
 use Rattle.std.proofs.Math.Nat.{le-max_left, le-max_right}
 use Rattle.std.proofs.lemmas.Bool.{not-false}
-use Rattle.laws.specs.Cases.{or_false-left, or_false-right}
+use Rattle.laws.specs.Cases.{is_none, or_false-left, or_false-right}
 use Rattle.answers.specs.Answers.{first_of}
 use Rattle.answers.specs.RowLaws.{row-passed}
 use Rattle.node.specs.Nodes.{BitLayout, kbwg, arc, is_end}
 use Rattle.graph.specs.Runs.{Graph, node, largest_arc, last_ends, start_node}
-use Rattle.graph.specs.Checks.{nodes_row, graph_row}
+use Rattle.graph.specs.Checks.{nodes_row, graph_row, IsFit}
 
 module _ (y : BitLayout) where
   last-is : (v : ℕ) (g : Graph) → last_ends y (v ∷ g) ≡ is_end y (node (v ∷ g) (length g))
@@ -70,6 +70,9 @@ fit g e =
       most = ltb-false 16_777_216 (length g) (or_false-right small large a.0);
       steps = closed g a.1;
     }
+
+pub fit-holds : (g : Graph) → IsFit g → Fit g
+fit-holds g e = fit g (is_none (first_of (graph_row g)) e)
 
 -- node 0 or 1 leads to the start
 pub start-inside : {g : Graph} → Fit g → (root : ℕ) → root < 2 → start_node g root < length g

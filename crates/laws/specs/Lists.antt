@@ -1,5 +1,6 @@
 -- What holds of every entry of a list, the entries that pass a test, whether a number is among them, and lists joined and in part.
-use Rattle.std.specs.Prelude.{◌≡◌, refl, Bool, true, false, ◌||◌, not, ℕ, zero, suc, eqb, length, take, drop}
+use Rattle.std.specs.List.{list_any}
+use Rattle.std.specs.Prelude.{◌≡◌, refl, Bool, true, false, not, ℕ, zero, suc, eqb, length, take, drop}
 use Rattle.std.proofs.Common.{sym, ap, ◌∙◌, subst, ⊎_elim, arith}
 use mathlib.Core.List.Memᴰ
 use mathlib.Core.List.{List, [], ◌∷◌, ◌++◌, map, map-append, append_assoc, Memᴰ}
@@ -46,8 +47,7 @@ filtered f (x ∷ xs) = elim (f x) [ true ↦ x ∷ filtered f xs | false ↦ fi
 
 -- whether some entry passes
 abbrev pub some_of : {A : Type 0} → (A → Bool) → List A → Bool
-some_of f [] = false
-some_of f (x ∷ xs) = f x || some_of f xs
+some_of f xs = list_any f xs
 
 abbrev pub member : ℕ → List ℕ → Bool
 member x l = some_of (eqb x) l

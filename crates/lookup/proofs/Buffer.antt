@@ -1,36 +1,24 @@
 -- The buffer of `get_word_by_index`, tile by tile: what each turn of the walk leaves of it.
-use mathlib.Core.Path.{◌≡◌, ◌∙◌}
-use mathlib.Core.List.{List, [], ◌∷◌}
-use Prim.Native.Nat.{ℕ, ◌+◌, ◌-◌, ◌≤◌, ◌<◌}
-use native.Mathlib.Nat.{sub-zero}
-use native.Mathlib.Omega.{arith}
-use lib.ListN.{length, drop, set, length-set}
-use Rattle.laws.specs.Buffers.{Left, left-begins, left_is, left-put, left-done}
+use Rattle.std.proofs.Common.{◌≡◌, ◌∙◌, List, [], ◌∷◌, ℕ, ◌+◌, ◌-◌, ◌≤◌, ◌<◌, length, drop, set, arith, length-set}
+use Rattle.laws.specs.Buffers.{Filled, Left, left_is, left-put, left-done}
 use Rattle.answers.specs.Answers.{Answer, gives, refused}
 use Rattle.lookup.specs.Steps.{on, stop}
 use Rattle.node.specs.Nodes.{kbwg, tile, arc}
 use Rattle.graph.specs.Runs.{Graph}
 use Rattle.graph.specs.Words.{Word}
 use Rattle.lookup.specs.Walks.{Turn, last, down, turn_in, word_from}
-use Rattle.lookup.specs.declared.by_number.WordByIndex.{WordByIndex}
-use Rattle.lookup.specs.declared.by_number.WordByIndex.TheVariants as T
-use Rattle.lookup.specs.Said.{said_word, WordPut}
 use Rattle.lookup.proofs.WordByIndexLaws.{word-stop, word-full, word-last, word-down, word_next}
-
-pub left-start : (counts : List ℕ) (g : Graph) (p idx : ℕ) (w : List ℕ)
-    → Left (word_from counts g (length w) 0 p idx) w 0 w (word_from counts g (length w - 0) 0 p idx)
-left-start counts g p idx w = rw sub-zero (left-begins (word_from counts g (length w) 0 p idx) w)
 
 module _ {whole : List ℕ × Answer} {w₀ : List ℕ} {n : ℕ} {w : List ℕ} (counts : List ℕ) (g : Graph) (p idx : ℕ)
     (l : Left whole w₀ n w (word_from counts g (length w - n) n p idx)) where
-  pub by-stop : (r : Answer) (x : WordByIndex) → turn_in counts (drop p g) p idx ≡ stop r → said_word x ≡ r → WordPut whole w₀ w x
-  by-stop r x e k = left-done (said_word x) (left_is (word-stop counts g (length w - n) n p idx e ∙ rw (← k)) l)
+  pub by-stop : {r : Answer} → turn_in counts (drop p g) p idx ≡ stop r → Filled whole w₀ w r
+  by-stop {r} e = left-done r (left_is (word-stop counts g (length w - n) n p idx e) l)
 
-  pub by-full : (t : Turn) → turn_in counts (drop p g) p idx ≡ on t → length w ≤ n → WordPut whole w₀ w T.BufferFull
-  by-full t e h = left-done (refused 16 []) (left_is (word-full counts g (length w - n) n p idx e (omega arith)) l)
+  pub by-full : {t : Turn} → turn_in counts (drop p g) p idx ≡ on t → length w ≤ n → Filled whole w₀ w (refused 16 [])
+  by-full e h = left-done (refused 16 []) (left_is (word-full counts g (length w - n) n p idx e (omega arith)) l)
 
   pub by_last : {v t : ℕ} → turn_in counts (drop p g) p idx ≡ on (last v) → t ≡ tile kbwg v → n < length w
-      → WordPut whole w₀ (set w n t) (T.Tiles (n + 1))
+      → Filled whole w₀ (set w n t) (gives ((n + 1) ∷ []))
   by_last {v} {t} e k h =
       left-done (gives ((n + 1) ∷ []))
       (left-put t [] (gives ((n + 1) ∷ [])) h (left_is (word-last counts g (length w - n) n p idx e (omega arith) ∙ rw (← k)) l))

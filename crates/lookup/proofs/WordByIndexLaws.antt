@@ -1,4 +1,4 @@
--- The walk from a number to its word: the words at a node, a turn at a node of a run, and turn by turn.
+-- The walk from a number to its word: a turn at a node of a run, and turn by turn.
 use mathlib.Core.Path.{◌≡◌}
 use mathlib.Core.Bool.{true, false, ◌&&◌}
 use mathlib.Core.List.{List, [], ◌∷◌}
@@ -7,28 +7,13 @@ use native.Mathlib.Omega.{arith}
 use native.Mathlib.Numerals.{add-one}
 use borrow.Author.Tests.{eqb-false, lt-ltb, le-ltb}
 use lib.Dec.{eqb}
-use lib.ListN.{length, get_or, drop, drop_of_length-le}
+use lib.ListN.{length, drop, drop_of_length-le}
 use lib.Seq.{drop-cons}
 use Rattle.answers.specs.Answers.{Answer, gives, nothing, refused}
 use Rattle.node.specs.Nodes.{kbwg, tile, arc, accepts, accepts_bit, is_end}
 use Rattle.graph.specs.Runs.{Graph, node}
 use Rattle.lookup.specs.Steps.{on, stop, ◌>>=◌}
-use Rattle.lookup.specs.StepsLaws.{lent-on, lent_out}
-use Rattle.lookup.specs.Walks.{Turn, last, down, words_between, words_here, turn_in, word_from}
-
--- ---- the words at a node
-module _ (counts : List ℕ) (v p : ℕ) where
-  pub here_on : is_end kbwg v ≡ false → words_here counts v p ≡ words_between counts p (p + 1)
-  unfolding words_here
-  here_on e = rw (e, add-one, words_here)
-
-  pub here_out : is_end kbwg v ≡ true → length counts ≤ p → words_here counts v p ≡ stop (refused 14 [])
-  unfolding words_here
-  here_out e h = rw (e, words_here) (lent_out counts p h)
-
-  pub here_end : is_end kbwg v ≡ true → p < length counts → words_here counts v p ≡ on (get_or counts p 0)
-  unfolding words_here
-  here_end e h = rw (e, words_here) (lent-on counts p h)
+use Rattle.lookup.specs.Walks.{Turn, last, down, words_here, turn_in, word_from}
 
 -- ---- a turn at a node
 -- a number whose word does not end there is past the node's own word, if it has one
@@ -46,33 +31,24 @@ module _ (counts : List ℕ) (g : Graph) (p idx : ℕ) where
     unfolding turn_in
     turn_last l = rw (drop-cons g p 0 h) (rw (l, turn_in))
 
-    pub turn-stop : eqb idx 0 && accepts kbwg (node g p) ≡ false → {r : Answer} → words_here counts (node g p) p ≡ stop r
-        → turn_in counts (drop p g) p idx ≡ stop r
-    unfolding turn_in
-    turn-stop l e = rw (drop-cons g p 0 h) (rw (l, turn_in) (rw e))
+    module _ (l : eqb idx 0 && accepts kbwg (node g p) ≡ false) where
+      pub turn-stop : {r : Answer} → words_here counts (node g p) p ≡ stop r → turn_in counts (drop p g) p idx ≡ stop r
+      unfolding turn_in
+      turn-stop e = rw (drop-cons g p 0 h) (rw (l, turn_in) (rw e))
 
--- a node at which the word does not end, with its words
-pub record HasWords (counts : List ℕ) (g : Graph) (p idx n : ℕ) : Type 0 where
-  pub inside : p < length g
-  pub longer : eqb idx 0 && accepts kbwg (node g p) ≡ false
-  pub words : words_here counts (node g p) p ≡ on n
+      module _ {n : ℕ} (e : words_here counts (node g p) p ≡ on n) where
+        pub turn-down : {b : ℕ} → b ≡ accepts_bit kbwg (node g p) → idx < n → turn_in counts (drop p g) p idx ≡ on (down (node g p) (idx - b))
+        unfolding turn_in
+        turn-down f k = rw f (rw (drop-cons g p 0 h) (rw (l, turn_in) (rw e (rw (lt-ltb idx n k, ◌>>=◌)))))
 
-module _ {counts : List ℕ} {g : Graph} {p idx n : ℕ} (w : HasWords counts g p idx n) where
-  pub turn-down : idx < n → turn_in counts (drop p g) p idx ≡ on (down (node g p) (idx - accepts_bit kbwg (node g p)))
-  unfolding turn_in
-  turn-down k = rw (drop-cons g p 0 w.inside) (rw (w.longer, turn_in) (rw w.words (rw (lt-ltb idx n k, ◌>>=◌))))
+        module _ (k : n ≤ idx) where
+          pub turn-none : is_end kbwg (node g p) ≡ true → turn_in counts (drop p g) p idx ≡ stop nothing
+          unfolding turn_in
+          turn-none y = rw (drop-cons g p 0 h) (rw (l, turn_in) (rw e (rw (le-ltb idx n k, ◌>>=◌) (rw y))))
 
-  module _ (k : n ≤ idx) where
-    pub turn-none : is_end kbwg (node g p) ≡ true → turn_in counts (drop p g) p idx ≡ stop nothing
-    unfolding turn_in
-    turn-none y =
-        rw (drop-cons g p 0 w.inside) (rw (w.longer, turn_in) (rw w.words (rw (le-ltb idx n k, ◌>>=◌) (rw y))))
-
-    pub turn-next : is_end kbwg (node g p) ≡ false → turn_in counts (drop p g) p idx ≡ turn_in counts (drop (p + 1) g) (p + 1) (idx - n)
-    unfolding turn_in
-    turn-next y =
-        rw add-one (rw (drop-cons g p 0 w.inside) (rw (w.longer, turn_in)
-        (rw w.words (rw (le-ltb idx n k, ◌>>=◌) (rw y)))))
+          pub turn-next : is_end kbwg (node g p) ≡ false → turn_in counts (drop p g) p idx ≡ turn_in counts (drop (p + 1) g) (p + 1) (idx - n)
+          unfolding turn_in
+          turn-next y = rw add-one (rw (drop-cons g p 0 h) (rw (l, turn_in) (rw e (rw (le-ltb idx n k, ◌>>=◌) (rw y)))))
 
 -- ---- turn by turn
 module _ (counts : List ℕ) (g : Graph) where

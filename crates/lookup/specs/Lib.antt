@@ -4,4 +4,5 @@ pub mod Walks
 pub mod WalkedLaws
 pub mod GraphLent
 pub mod WordsBefore
+pub mod Refusals
 pub mod Said

@@ -4,9 +4,11 @@
 mod by_number;
 mod by_tile;
 mod by_word;
+mod refusals;
 mod run;
 
-pub use by_number::{WordByIndex, get_word_by_index};
+pub use by_number::get_word_by_index;
 pub use by_tile::{Sought, seek, seek_from};
-pub use by_word::{WordIndex, get_word_index};
-pub use run::{RunSearch, lent_part};
+pub use by_word::get_word_index;
+pub use refusals::{LookupRefusal, NotLent, WordRefusal};
+pub use run::lent_part;

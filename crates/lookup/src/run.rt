@@ -1,24 +1,12 @@
 // The run that begins at a node, and what is lent.
 ghost use Rattle.std.specs.Prelude.{◌≡◌, ◌≤◌, drop};
-ghost use Rattle.lookup.specs.Steps.{lent_part};
+ghost use Rattle.graph.specs.Counting.{count_limit};
+ghost use Rattle.lookup.specs.Steps.{lent_part, sum, difference};
 ghost use Rattle.lookup.specs.Walks.{find_in, words_between};
 ghost use Rattle.lookup.specs.Said.{search_try, between_try};
 
+use crate::refusals::{LookupRefusal, NotLent};
 use node::Node24;
-
-#[derive(Clone, Copy)]
-pub enum RunSearch {
-    At(usize),
-    Absent,
-    NotLent,
-}
-
-#[derive(Clone, Copy)]
-pub enum Between {
-    Words(u32),
-    NotLent,
-    OutOfRange,
-}
 
 // What a walk can reach of a lent list: places are 32-bit numbers, so no walk gets further.
 pub fn lent_part(list: &[u32]) -> &[u32]
@@ -29,35 +17,44 @@ pub fn lent_part(list: &[u32]) -> &[u32]
 }
 
 // The first node with the tile in the run from p.
-pub(crate) fn find_in(nodes: &[u32], p: usize, tile: u8) -> RunSearch
+pub(crate) fn find_in(nodes: &[u32], p: usize, tile: u8) -> Result<Option<usize>, NotLent>
     ensures { search_try result ≡ find_in (drop p nodes.now) p tile }
 {
-    let mut i = p;
-    while i < nodes.len() {
+    for i in p..nodes.len() {
         let v = nodes[i];
         if Node24(v).tile() == tile {
-            return RunSearch::At(i);
+            return Ok(Some(i));
         }
         if Node24(v).is_end() {
-            return RunSearch::Absent;
+            return Ok(None);
         }
-        i += 1;
     }
-    RunSearch::NotLent
+    Err(NotLent)
+}
+
+// A sum or a difference that is a word number.
+#[tactic(auto, unfolding(crate::specs::Steps::sum))]
+pub(crate) fn sum(a: u32, b: u32) -> Result<u32, LookupRefusal>
+    ensures { between_try result ≡ sum count_limit a b }
+{
+    a.checked_add(b).ok_or(LookupRefusal::OutOfRange)
+}
+
+#[tactic(auto, unfolding(crate::specs::Steps::difference))]
+pub(crate) fn difference(a: u32, b: u32) -> Result<u32, LookupRefusal>
+    ensures { between_try result ≡ difference a b }
+{
+    a.checked_sub(b).ok_or(LookupRefusal::OutOfRange)
 }
 
 // The words of a run from its place p on that come before its place q, which must not be below p: where its count is lent, so is p's.
-pub(crate) fn words_between(counts: &[u32], p: usize, q: usize) -> Between
+#[tactic(auto, unfolding(crate::specs::Walks::words_between, crate::specs::Steps::lent))]
+pub(crate) fn words_between(counts: &[u32], p: usize, q: usize) -> Result<u32, LookupRefusal>
     requires { p ≤ q }
     ensures { between_try result ≡ words_between counts.now p q }
 {
     if counts.len() <= q {
-        return Between::NotLent;
+        return Err(LookupRefusal::NotLent);
     }
-    let first = counts[p];
-    let other = counts[q];
-    if first < other {
-        return Between::OutOfRange;
-    }
-    Between::Words(first - other)
+    difference(counts[p], counts[q])
 }

@@ -2,24 +2,43 @@
 #![tactic(auto)]
 
 ghost use Rattle.std.specs.Prelude.{◌≡◌};
-ghost use Rattle.node.specs.Nodes.{kwg, kbwg, tile, accepts, accepts_bit, is_end, arc, values};
-ghost use Rattle.node.specs.Said.{bit_layout, said_node, pack_answer, repack_node_answer};
+ghost use Rattle.node.specs.Nodes.{kwg, kbwg, tile, accepts, accepts_bit, is_end, arc};
+ghost use Rattle.node.specs.Said.{bit_layout, fields_of, values_of, does_not_fit, said_node, pack_answer, repack_node_answer};
 
-use base::bit;
+use answers::Refuses;
 
-#[derive(Clone, Copy)]
+#[derive(Clone, Copy, Debug, PartialEq, Eq)]
 pub enum Layout {
     Kwg,
     Kbwg,
 }
 
-#[derive(Clone, Copy)]
-pub enum Packed {
-    Node(u32),
-    DoesNotFit { tile: u8, arc_index: u32 },
+// What a node holds.
+#[derive(Clone, Copy, Debug, PartialEq, Eq)]
+pub struct Fields {
+    pub tile: u8,
+    pub accepts: bool,
+    pub is_end: bool,
+    pub arc_index: u32,
 }
 
-// A KWG node.
+// The tile or the arc is too large for the layout.
+#[derive(Clone, Copy, Debug, PartialEq, Eq)]
+pub struct DoesNotFit {
+    pub tile: u8,
+    pub arc_index: u32,
+}
+
+impl Refuses for DoesNotFit {
+    ghost refusal = { does_not_fit };
+
+    fn number(&self) -> u32 {
+        6
+    }
+}
+
+// A KWG node. It and the KBWG node are two types, and not one over a layout: callers write `Node24(v)`, and an alias of a generic type
+// makes no value.
 #[derive(Clone, Copy)]
 pub struct Node22(pub u32);
 
@@ -48,15 +67,32 @@ impl Node22 {
         self.0 % 0x400000
     }
 
-    pub fn pack(tile: u8, accepts: bool, is_end: bool, arc_index: u32) -> Packed
-        ensures { said_node result ≡ pack_answer kwg (values tile accepts is_end arc_index) }
+    pub fn unpack(self) -> Fields
+        ensures { result ≡ fields_of kwg self.0 }
     {
-        if 0x400000 <= arc_index {
-            return Packed::DoesNotFit { tile, arc_index };
+        Fields {
+            tile: self.tile(),
+            accepts: self.accepts(),
+            is_end: self.is_end(),
+            arc_index: self.arc_index(),
         }
-        Packed::Node(
-            tile as u32 * 0x1000000 + bit(accepts) * 0x800000 + bit(is_end) * 0x400000 + arc_index,
-        )
+    }
+
+    #[tactic(auto, unfolding(crate::specs::Said::pack_answer, crate::specs::Nodes::fits))]
+    pub fn pack(fields: Fields) -> Result<u32, DoesNotFit>
+        ensures { said_node result ≡ pack_answer kwg (values_of fields) }
+    {
+        let Fields {
+            tile,
+            accepts,
+            is_end,
+            arc_index,
+        } = fields;
+        if 0x400000 <= arc_index {
+            return Err(DoesNotFit { tile, arc_index });
+        }
+        let flags = u32::from(accepts) * 0x800000 + u32::from(is_end) * 0x400000;
+        Ok(u32::from(tile) * 0x1000000 + flags + arc_index)
     }
 }
 
@@ -96,47 +132,58 @@ impl Node24 {
         self.0 / 0x100
     }
 
-    pub fn pack(tile: u8, accepts: bool, is_end: bool, arc_index: u32) -> Packed
-        ensures { said_node result ≡ pack_answer kbwg (values tile accepts is_end arc_index) }
+    pub fn unpack(self) -> Fields
+        ensures { result ≡ fields_of kbwg self.0 }
     {
-        if 0x40 <= tile {
-            return Packed::DoesNotFit { tile, arc_index };
+        Fields {
+            tile: self.tile(),
+            accepts: self.accepts(),
+            is_end: self.is_end(),
+            arc_index: self.arc_index(),
         }
-        if 0x1000000 <= arc_index {
-            return Packed::DoesNotFit { tile, arc_index };
+    }
+
+    #[tactic(auto, unfolding(crate::specs::Said::pack_answer, crate::specs::Nodes::fits))]
+    pub fn pack(fields: Fields) -> Result<u32, DoesNotFit>
+        ensures { said_node result ≡ pack_answer kbwg (values_of fields) }
+    {
+        let Fields {
+            tile,
+            accepts,
+            is_end,
+            arc_index,
+        } = fields;
+        if 0x40 <= tile || 0x1000000 <= arc_index {
+            return Err(DoesNotFit { tile, arc_index });
         }
-        Packed::Node(arc_index * 0x100 + bit(accepts) * 0x80 + bit(is_end) * 0x40 + tile as u32)
+        let flags = u32::from(accepts) * 0x80 + u32::from(is_end) * 0x40;
+        Ok(arc_index * 0x100 + flags + u32::from(tile))
     }
 }
 
-// A node with these fields.
-pub fn pack(layout: Layout, tile: u8, accepts: bool, is_end: bool, arc_index: u32) -> Packed
-    ensures { said_node result ≡ pack_answer (bit_layout layout) (values tile accepts is_end arc_index) }
+// What a node of this layout holds.
+pub fn unpack(layout: Layout, node: u32) -> Fields
+    ensures { result ≡ fields_of (bit_layout layout) node }
 {
     match layout {
-        Layout::Kwg => Node22::pack(tile, accepts, is_end, arc_index),
-        Layout::Kbwg => Node24::pack(tile, accepts, is_end, arc_index),
+        Layout::Kwg => Node22(node).unpack(),
+        Layout::Kbwg => Node24(node).unpack(),
     }
 }
 
-// A node of one layout in the other: the same tile, flags and arc.
-pub fn repack_node(from: Layout, to: Layout, node: u32) -> Packed
+// A node of this layout that holds this.
+pub fn pack(layout: Layout, fields: Fields) -> Result<u32, DoesNotFit>
+    ensures { said_node result ≡ pack_answer (bit_layout layout) (values_of fields) }
+{
+    match layout {
+        Layout::Kwg => Node22::pack(fields),
+        Layout::Kbwg => Node24::pack(fields),
+    }
+}
+
+// A node of one layout in the other.
+pub fn repack_node(from: Layout, to: Layout, node: u32) -> Result<u32, DoesNotFit>
     ensures { said_node result ≡ repack_node_answer (bit_layout from) (bit_layout to) node }
 {
-    match from {
-        Layout::Kwg => {
-            let kwg = Node22(node);
-            pack(to, kwg.tile(), kwg.accepts(), kwg.is_end(), kwg.arc_index())
-        }
-        Layout::Kbwg => {
-            let kbwg = Node24(node);
-            pack(
-                to,
-                kbwg.tile(),
-                kbwg.accepts(),
-                kbwg.is_end(),
-                kbwg.arc_index(),
-            )
-        }
-    }
+    pack(to, unpack(from, node))
 }

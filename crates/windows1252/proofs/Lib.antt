@@ -1,4 +1,3 @@
 -- What the proofs of several functions use.
-mod EncodedLaws
 mod PlaceLaws
 pub mod Windows1252Laws

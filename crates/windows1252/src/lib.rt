@@ -2,7 +2,7 @@
 // the table is not read.
 #![tactic(auto)]
 
-ghost use Rattle.std.specs.Prelude.{◌≡◌, false};
+ghost use Rattle.std.specs.Prelude.{◌≡◌};
 ghost use Rattle.windows1252.specs.Windows1252.{is_itself, byte_of, no_byte, byte_written};
 ghost use Rattle.windows1252.specs.Encoded.{OnlyPlace, encoded};
 
@@ -74,24 +74,11 @@ const PLACES: [u8; 79] = [
     0, 0, 8, // 02C6 ˆ
 ];
 
-// The byte of a code point, where it has one.
-#[derive(Clone, Copy)]
-pub enum Encoded {
-    Byte(u8),
-    NoByte,
-}
-
 // Whether a code point is its own byte.
 fn is_itself(c: u32) -> bool
     ensures { result ≡ is_itself c }
 {
-    if c < 0x80 {
-        return true;
-    }
-    if c < 0xA0 {
-        return false;
-    }
-    c <= 0xFF
+    matches!(c, 0..=0x7F | 0xA0..=0xFF)
 }
 
 // The one place where a code point can stand in the table.
@@ -101,40 +88,31 @@ fn table_place(c: u32) -> u8
     PLACES[(c % 79) as usize]
 }
 
-// The byte of a code point by the table alone; the code point must not be its own byte.
-fn encode_by_table(c: u32) -> Encoded
-    requires { is_itself c ≡ false }
+// The byte of a code point, where it has one.
+pub fn encode(c: u32) -> Option<u8>
     ensures { encoded result ≡ byte_of c }
 {
-    let place = table_place(c);
-    if CODE_POINTS[place as usize] != c {
-        return Encoded::NoByte;
+    if is_itself(c) {
+        return Some(c as u8);
     }
-    Encoded::Byte(0x80 + place)
+    let place = table_place(c);
+    if CODE_POINTS[place as usize] == c {
+        Some(0x80 + place)
+    } else {
+        None
+    }
 }
 
 // Whether a code point has no byte.
 pub fn no_byte(c: u32) -> bool
     ensures { result ≡ no_byte c }
 {
-    if is_itself(c) {
-        return false;
-    }
-    let Encoded::Byte(_) = encode_by_table(c) else {
-        return true;
-    };
-    false
+    encode(c).is_none()
 }
 
 // The byte of a code point, 0 where it has none.
 pub fn byte_of(c: u32) -> u8
     ensures { result ≡ byte_written c }
 {
-    if is_itself(c) {
-        return c as u8;
-    }
-    let Encoded::Byte(byte) = encode_by_table(c) else {
-        return 0;
-    };
-    byte
+    encode(c).unwrap_or(0)
 }

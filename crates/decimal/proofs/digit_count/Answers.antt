@@ -1,20 +1,16 @@
--- `digit_count` meets its contract: the digits counted and those of what is left are one more than all; a division by ten takes one.
-use native.Mathlib.Omega.{arith}
-use mathlib.Core.Path.{refl}
-use Rattle.decimal.specs.DecimalLaws.{decimal-length, decimal-some, length-one, length_more}
+-- `digit_count` meets its contract: how many digits there are is what `ilog10` says, and 0 has as many as 1.
+use Rattle.std.proofs.Common.{◌≡◌, ℕ, zero, suc, ◌∙◌, ap, sym, arith, length, max}
+use Rattle.decimal.specs.Decimal.{decimal}
+use Rattle.decimal.specs.DecimalLaws.{decimal-count, length-one}
 use Rattle.decimal.proofs.digit_count.Goals as goal
 
-pub loop-left-init : goal.loop-left-init
-loop-left-init c = refl
-
-pub overflow_add-count : goal.overflow_add-count
-overflow_add-count c =
-    let l = c.loop-left in
-    let s = c in
-    omega (arith, l.invariant, decimal-some l.left, decimal-length 9 s.args.number (omega (arith, s.ranges)))
-
-pub loop-left-preserved : goal.loop-left-preserved
-loop-left-preserved c = let l = c.loop-left in omega (arith, l.invariant, length_more l.left (omega (arith, c.loop-left-test.true)))
+as_one : (n : ℕ) → length (decimal (max n 1)) ≡ length (decimal n)
+as_one zero = length-one 1 (omega arith) ∙ sym (length-one 0 (omega arith))
+as_one (suc n) = ap (λ m. length (decimal m)) (omega arith)
 
 pub returns : goal.returns
-returns c = let l = c.loop-left in omega (arith, l.invariant, length-one l.left (omega (arith, c.loop-left-test.false)))
+returns c =
+    let e = c.ilog10.ensures in
+    let count : length (decimal (max c.args.number 1)) ≡ suc c.ilog10.result =
+    rw (← c.max.ensures) (decimal-count c.ilog10.result c.max.result e.power_le e.next_power_gt) in
+    omega (arith, count, as_one c.args.number)

@@ -1,12 +1,12 @@
--- `put_number` meets its contract: digits that end where there is just room for them begin at the place.
-use mathlib.Core.Path.{ap}
-use Prim.Native.Nat.{◌+◌}
-use Rattle.decimal.proofs.PutLaws.{put-before}
+-- `put_number` meets its contract.
+use Rattle.std.proofs.Common.{arith}
+use Rattle.endian.proofs.PartStores.{part-stored}
+use Rattle.decimal.specs.Decimal.{decimal}
 use Rattle.decimal.proofs.put_number.Goals as goal
 
 pub returns : goal.returns
-returns c =
-    let put = c in
-    let counted = put in
-    let at = counted.args.at in
-    put-before at (ap (at +◌) counted.digit_count.ensures) put.put_digits.ensures
+returns c = let a = c.args in
+    record {
+      place = omega arith;
+      stored = part-stored a.out.now a.at _ _ (decimal a.number) c.write_digits.ensures (omega arith) (omega arith);
+    }

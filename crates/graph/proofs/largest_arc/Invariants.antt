@@ -1,13 +1,9 @@
--- `largest_arc` meets its contract: the largest so far and the nodes from i on give the largest of all.
-use Prim.Native.Nat.{◌-◌, ◌≤◌}
-use mathlib.Core.Path.{◌≡◌}
-use lib.ListN.{length}
+-- `largest_arc` meets its contract: the largest so far and the nodes from here on give the largest of all.
+use Rattle.std.proofs.Common.{◌≡◌}
 use Rattle.node.specs.Nodes.{kbwg}
-use Rattle.graph.proofs.CheckRows.{largest_from}
+use Rattle.graph.specs.Runs.{largest_arc}
+use Rattle.graph.proofs.AlongNodes.{largest_from}
 use Rattle.graph.proofs.largest_arc.Given as goal
 
-abbrev pub invariant-loop-i : goal.invariant-loop-i
-invariant-loop-i l = (l.i ≤ length l.nodes) × (largest_from kbwg l.largest l.i l.nodes ≡ largest_from kbwg 0 0 l.nodes)
-
-abbrev pub decreases-loop-i : goal.decreases-loop-i
-decreases-loop-i l = length l.nodes - l.i
+abbrev pub invariant-loop-v : goal.invariant-loop-v
+invariant-loop-v l = largest_from kbwg l.largest l.v-index l.nodes ≡ largest_arc kbwg l.nodes
