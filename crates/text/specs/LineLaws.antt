@@ -1,6 +1,6 @@
 -- Reading a text line by line visits exactly its lines.
 use Rattle.std.specs.Prelude.{◌≡◌, refl, not, min, take_while, nat_eq, true, false, List, [], ◌∷◌, eqb, ltb, get_or, take}
-use Rattle.std.proofs.Common.{sym, ap₂, ◌∙◌, true≢false, suc-add, one-add, eqb-true, ltb-true, ltb-false, length-drop, drop-drop}
+use Rattle.std.proofs.Common.{sym, ap₂, ◌∙◌, true≢false, suc-add, add-one, one-add, eqb-true, ltb-true, ltb-false, length-drop, drop-drop}
 use Rattle.std.proofs.Math.Path.{ap}
 use Rattle.std.specs.List.{starts_with}
 use Rattle.std.proofs.lemmas.Bool.Decides.{nat_tests}
@@ -12,6 +12,20 @@ use Rattle.laws.specs.Cases.{split, and_left}
 use Rattle.text.specs.Lines.{is_ending, is_pair, on_first, lines_from, lines, first_line, ending_width, line_width}
 
 -- ---- the end of a line
+module _ (text : List ℕ) (i : ℕ) where
+  pub line-here : i < length text → is_ending (get_or text i 0) ≡ true → first_line (drop i text) ≡ []
+  unfolding first_line
+  line-here h e = rw (drop-cons text i 0 h) (rw (e, first_line))
+
+  pub line-next : i < length text → is_ending (get_or text i 0) ≡ false
+      → first_line (drop i text) ≡ get_or text i 0 ∷ first_line (drop (i + 1) text)
+  unfolding first_line
+  line-next h e = rw (add-one, drop-cons text i 0 h) (rw (e, first_line))
+
+  pub line-past : length text ≤ i → first_line (drop i text) ≡ []
+  unfolding first_line
+  line-past h = rw (drop_of_length-le text h)
+
 -- it is all before the first ending
 pub line-while : (s : List ℕ) → take_while (λ b. not (is_ending b)) s ≡ first_line s
 unfolding first_line
@@ -33,6 +47,26 @@ line-part [] = refl
 line-part (b ∷ s) = split (is_ending b) (λ e. rw (e, first_line)) (λ e. rw (e, first_line) (ap (b ∷◌) (line-part s)))
 
 -- ---- the ending
+module _ (text : List ℕ) (i : ℕ) where
+  pub ending_past : length text ≤ i → ending_width (drop i text) ≡ 0
+  unfolding ending_width
+  ending_past h = rw (drop_of_length-le text h)
+
+  pub ending_last : i < length text → length text ≤ i + 1 → ending_width (drop i text) ≡ 1
+  unfolding ending_width
+  ending_last h k = let p : length text ≤ suc i = omega arith in rw (drop-cons text i 0 h, drop_of_length-le text p)
+
+  ending_two : i + 1 < length text → drop i text ≡ get_or text i 0 ∷ get_or text (i + 1) 0 ∷ drop (suc (suc i)) text
+  ending_two h = drop-cons text i 0 (omega arith) ∙ ap (get_or text i 0 ∷◌) (drop-cons text (suc i) 0 (omega arith) ∙ rw (add-one i))
+
+  pub ending_pair : i + 1 < length text → is_pair (get_or text i 0) (get_or text (i + 1) 0) ≡ true → ending_width (drop i text) ≡ 2
+  unfolding ending_width
+  ending_pair h e = rw (ending_two h) (rw (e, ending_width))
+
+  pub ending_one : i + 1 < length text → is_pair (get_or text i 0) (get_or text (i + 1) 0) ≡ false → ending_width (drop i text) ≡ 1
+  unfolding ending_width
+  ending_one h e = rw (ending_two h) (rw (e, ending_width))
+
 starts-pair : (b c : ℕ) (s : List ℕ) → starts_with nat_eq (b ∷ c ∷ s) (0x0D ∷ 0x0A ∷ []) ≡ is_pair b c
 starts-pair b c s = grind (arith, nat_tests)
 
@@ -173,3 +207,17 @@ module _ (s : List ℕ) (end width : ℕ) (e : end ≡ length (take_while (λ b.
   unfolding line_width
   line-after w = let i : end ≡ length (first_line s) = e ∙ ap length (line-while s) in
       rw (← i) (ap (λ n. end + n) w)
+
+-- ---- a line and what follows it, by the place where it ends
+module _ (text : List ℕ) (at end : ℕ) (e : end ≡ at + length (first_line (drop at text))) where
+  pub after_line : (after : ℕ) → after ≡ end + ending_width (drop end text) → after ≡ at + line_width (drop at text)
+  unfolding line_width
+  after_line after w =
+      let d = ap ending_width (drop-drop (length (first_line (drop at text))) at text ∙ ap (λ k. drop k text) (sym e)) in
+      omega arith
+
+  pub line-between : take (end - at) (drop at text) ≡ first_line (drop at text)
+  line-between = let d : end - at ≡ length (first_line (drop at text)) = omega arith in rw d (line-part (drop at text))
+
+  pub end_fits : at ≤ length text → end ≤ length text
+  end_fits h = let l = line-fits (drop at text) in let d = length-drop at text in omega arith

@@ -1,6 +1,6 @@
 -- The tile that a text begins with: by what its first bytes are, and by the decimal digits that write it (`leading-written`, `written-leads`).
-use Rattle.std.specs.Prelude.{◌≡◌, refl, cond, None, Some, true, false, ◌&&◌, not, ℕ, ◌+◌, ◌-◌, ◌*◌, ◌/◌, ◌%◌, ◌≤◌, ◌<◌, eqb, leb, ltb, length, get_or, drop}
-use Rattle.std.proofs.Common.{sym, ap, ◌∙◌, subst, le-leb, leb-true, ne_eqb, ltb-true, ltb-false, drop_of_length-le, drop-drop}
+use Rattle.std.specs.Prelude.{◌≡◌, refl, cond, None, Some, true, false, ◌&&◌, not, ◌≢◌, ℕ, ◌+◌, ◌-◌, ◌*◌, ◌/◌, ◌%◌, ◌≤◌, ◌<◌, eqb, leb, ltb, length, get_or, drop}
+use Rattle.std.proofs.Common.{sym, ap, ◌∙◌, subst, add-one, le-leb, leb-true, ne_eqb, ltb-true, ltb-false, drop_of_length-le, drop-drop}
 use mathlib.Core.List.{List, [], ◌∷◌, ◌++◌}
 use Rattle.std.proofs.Math.Option.{none, some}
 use native.Mathlib.Omega.{arith}
@@ -37,6 +37,39 @@ digit_low b e = leb-true 0x30 b (and_left (leb 0x30 b) (leb b 0x39) e)
 pub digit-high : (b : ℕ) → is_digit b ≡ true → b ≤ 0x39
 digit-high b e = leb-true b 0x39 (and_right (leb 0x30 b) (leb b 0x39) e)
 
+-- ---- the tile after a first digit, and the tile, at a place of a text
+module _ (text : List ℕ) (d i : ℕ) where
+  pub after-end : length text ≤ i → tile_after d (drop i text) ≡ tile_within d 1
+  unfolding tile_after
+  after-end h = rw (drop_of_length-le text h)
+
+  pub after-digit : i < length text → is_digit (get_or text i 0) ≡ true
+      → tile_after d (drop i text) ≡ tile_within (d * 10 + (get_or text i 0 - 0x30)) 2
+  unfolding tile_after
+  after-digit h e = rw (drop-cons text i 0 h) (rw (e, tile_after))
+
+  pub after-other : i < length text → is_digit (get_or text i 0) ≡ false → tile_after d (drop i text) ≡ tile_within d 1
+  unfolding tile_after
+  after-other h e = rw (drop-cons text i 0 h) (rw (e, tile_after))
+
+module _ (text : List ℕ) (i : ℕ) where
+  pub tile-end : length text ≤ i → leading_tile (drop i text) ≡ none
+  unfolding leading_tile
+  tile-end h = rw (drop_of_length-le text h)
+
+  pub tile-zero : i < length text → get_or text i 0 ≡ 0x30 → leading_tile (drop i text) ≡ none
+  unfolding leading_tile
+  tile-zero h e = rw (drop-cons text i 0 h) (rw (e, leading_tile))
+
+  pub tile-other : i < length text → is_digit (get_or text i 0) ≡ false → leading_tile (drop i text) ≡ none
+  unfolding leading_tile
+  tile-other h e = rw (drop-cons text i 0 h) (rw (e, leading_tile))
+
+  pub tile-digit : i < length text → is_digit (get_or text i 0) ≡ true → get_or text i 0 ≢ 0x30
+      → leading_tile (drop i text) ≡ tile_after (get_or text i 0 - 0x30) (drop (i + 1) text)
+  unfolding leading_tile
+  tile-digit h e n = rw (add-one, drop-cons text i 0 h) (rw (e, leading_tile) (rw (ne_eqb (get_or text i 0) 0x30 n)))
+
 -- ---- the tile that a text begins with, by the digits that it begins with
 pub digit-here : (text : List ℕ) (i : ℕ) → i < length text
     → first_digit (drop i text) ≡ cond (is_digit (get_or text i 0)) (Some (get_or text i 0 - 0x30)) None
@@ -52,18 +85,18 @@ unfolding tile_after first_digit
 after-second d [] = refl
 after-second d (b ∷ s) = split (is_digit b) (λ y. rw (y, tile_after, cond)) (λ y. rw (y, tile_after, cond))
 
-pub tile-none : (s : List ℕ) → first_digit s ≡ None → leading_tile s ≡ none
+pub digit-none : (s : List ℕ) → first_digit s ≡ None → leading_tile s ≡ none
 unfolding leading_tile first_digit
-tile-none [] e = refl
-tile-none (b ∷ s) e =
+digit-none [] e = refl
+digit-none (b ∷ s) e =
     split (is_digit b)
     (λ y. absurd (none-some (b - 0x30) (sym (rw (y, cond) at e))))
     (λ y. rw (y, leading_tile))
 
-pub tile-zero : (s : List ℕ) → first_digit s ≡ Some 0 → leading_tile s ≡ none
+pub digit-zero : (s : List ℕ) → first_digit s ≡ Some 0 → leading_tile s ≡ none
 unfolding leading_tile first_digit
-tile-zero [] e = refl
-tile-zero (b ∷ s) e =
+digit-zero [] e = refl
+digit-zero (b ∷ s) e =
     split (is_digit b)
     (λ y.
     let z = same_Some (b - 0x30) 0 (rw (y, cond) at e) in
@@ -73,10 +106,10 @@ tile-zero (b ∷ s) e =
     (λ y. rw (y, leading_tile))
 
 -- the first is not 0
-pub tile-first : (s : List ℕ) (d : ℕ) → first_digit s ≡ Some d → 0 < d → leading_tile s ≡ tile_after d (drop 1 s)
+pub digit-first : (s : List ℕ) (d : ℕ) → first_digit s ≡ Some d → 0 < d → leading_tile s ≡ tile_after d (drop 1 s)
 unfolding leading_tile first_digit
-tile-first [] d e h = absurd (none-some d e)
-tile-first (b ∷ s) d e h =
+digit-first [] d e h = absurd (none-some d e)
+digit-first (b ∷ s) d e h =
     split (is_digit b)
     (λ y.
     let i = same_Some (b - 0x30) d (rw (y, cond) at e) in
@@ -86,14 +119,14 @@ tile-first (b ∷ s) d e h =
 
 -- and the second is there, or not
 module _ (text : List ℕ) (at d : ℕ) (e : first_digit (drop at text) ≡ Some d) (h : 0 < d) where
-  pub tile-alone : d ≤ 9 → first_digit (drop (at + 1) text) ≡ None → leading_tile (drop at text) ≡ some (d, 1)
-  tile-alone k f =
-      tile-first (drop at text) d e h ∙ ap (tile_after d) (drop-drop 1 at text)
+  pub digit-alone : d ≤ 9 → first_digit (drop (at + 1) text) ≡ None → leading_tile (drop at text) ≡ some (d, 1)
+  digit-alone k f =
+      digit-first (drop at text) d e h ∙ ap (tile_after d) (drop-drop 1 at text)
       ∙ after-second d (drop (at + 1) text) ∙ rw f (within-tile d 1 h (omega arith))
 
-  pub tile-pair : (f : ℕ) → first_digit (drop (at + 1) text) ≡ Some f → leading_tile (drop at text) ≡ tile_within (d * 10 + f) 2
-  tile-pair f g =
-      tile-first (drop at text) d e h ∙ ap (tile_after d) (drop-drop 1 at text) ∙ after-second d (drop (at + 1) text) ∙ rw g
+  pub digit-pair : (f : ℕ) → first_digit (drop (at + 1) text) ≡ Some f → leading_tile (drop at text) ≡ tile_within (d * 10 + f) 2
+  digit-pair f g =
+      digit-first (drop at text) d e h ∙ ap (tile_after d) (drop-drop 1 at text) ∙ after-second d (drop (at + 1) text) ∙ rw g
 
 -- ---- "decimal, no leading zero": the tile that a text begins with is the one that its first digits write
 pub record WrittenTile (s : List ℕ) (t n : ℕ) : Type 0 where
