@@ -17,8 +17,6 @@ ghost use Rattle.std.specs.Prelude.{◌≡◌, ◌+◌, ◌*◌, ◌≤◌, ◌<
 ghost use Rattle.dictionary.specs.Tree.{Tree, tree_of, added};
 ghost use Rattle.dictionary.specs.KeyNumbered.{KeyNumbered};
 
-use base::whole;
-
 // A key's number, and how many keys there are then.
 #[derive(Clone, Copy)]
 pub struct KeyNumber {
@@ -28,6 +26,7 @@ pub struct KeyNumber {
 
 // The tree of a key: the number above the low half's lowest byte, that byte and the high half are added up, so that where such numbers are
 // neighbours the roots are too.
+#[tactic(auto, unfolding(crate::specs::Tree::tree_of))]
 fn tree_of(n: usize, key: u64) -> usize
     requires { 0 < n }
     ensures { result ≡ tree_of n key }
@@ -59,21 +58,17 @@ pub fn number_key(dict: &mut [u32], n: usize, count: u32, key: u64) -> KeyNumber
 {
     let mut link = tree_of(n, key);
     let mut bits = key;
-    loop {
-        let next = dict[link];
-        if next == 0 {
-            add_key(dict, n, link, count, key);
-            return KeyNumber {
-                number: count,
-                count: count + 1,
-            };
-        }
-        let number = next - 1;
+    while let Some(number) = dict[link].checked_sub(1) {
         let at = n + 4 * number as usize;
-        if whole(dict[at + 1], dict[at]) == key {
+        if u64::from(dict[at + 1]) * 0x100000000 + u64::from(dict[at]) == key {
             return KeyNumber { number, count };
         }
         link = at + 2 + (bits % 2) as usize;
         bits /= 2;
+    }
+    add_key(dict, n, link, count, key);
+    KeyNumber {
+        number: count,
+        count: count + 1,
     }
 }

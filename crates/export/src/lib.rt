@@ -10,12 +10,7 @@ use node::Node24;
 pub fn lacks_label(nodes: &[u32], labels: &[u32]) -> bool
     ensures { result ≡ unlabelled nodes.now labels.now }
 {
-    let mut i = 0;
-    while i < nodes.len() {
-        if labels.len() <= Node24(nodes[i]).tile() as usize {
-            return true;
-        }
-        i += 1;
-    }
-    false
+    nodes
+        .iter()
+        .any(|v| labels.len() <= Node24(*v).tile() as usize)
 }

@@ -1,17 +1,14 @@
 -- A run's letter set, a node at a time; and that a table of the labels' ranks gives the sets of the labels.
 use mathlib.Core.Path.{◌≡◌, ap, ◌∙◌}
-use mathlib.Core.Bool.{true, false, and-false}
-use mathlib.Core.Logic.{◌≢◌}
+use mathlib.Core.Bool.{true, false}
 use mathlib.Core.List.{List, [], map}
-use Prim.Native.Nat.{ℕ, ◌+◌, ◌*◌, ◌%◌, ◌^◌, ◌≤◌, ◌<◌}
-use native.Mathlib.Omega.{arith}
-use borrow.Author.Tests.{eq-eqb, ne_eqb}
+use Prim.Native.Nat.{ℕ, ◌+◌, ◌≤◌, ◌<◌}
 use lib.Bits.{bit_or, or_zero_r}
 use lib.ListN.{length, get_or, drop_of_length-le}
-use Rattle.laws.specs.BitSets.{marked, bit_set, bit-set-with, marked_either, marked_shift}
+use Rattle.laws.specs.BitSets.{marked, bit_set, bit-set-with, marked_either}
 use Rattle.laws.specs.Lists.{filtered}
 use Rattle.laws.specs.Members.{map_same, in_filtered}
-use Rattle.node.specs.Nodes.{kbwg, tile, accepts, is_end}
+use Rattle.node.specs.Nodes.{kbwg, tile, is_end}
 use Rattle.graph.specs.Runs.{Graph, node, run}
 use Rattle.graph.specs.RunLaws.{in_graph}
 use Rattle.export.specs.Starts.{run_of, unlabelled}
@@ -20,21 +17,6 @@ use Rattle.export.specs.RunOfLaws.{run_ends, run-goes-on}
 use Rattle.macondo_file.specs.Alphabet.{letter_at}
 use Rattle.macondo_file.specs.File.{ends_in_letter, set_of}
 use Rattle.letter_sets.specs.Letters.{Ranks, set_by}
-
--- ---- the letter of a node, where it has one
-module _ (v : ℕ) where
-  pub no-letter : tile kbwg v ≡ 0 → ends_in_letter v ≡ false
-  no-letter e = rw (eq-eqb (tile kbwg v) 0 e) (and-false (accepts kbwg v))
-
-  pub no_word : accepts kbwg v ≡ false → ends_in_letter v ≡ false
-  no_word e = rw e
-
-  -- a shift by a rank is the power of two
-  pub letter-shifted : (s t : ℕ) → accepts kbwg v ≡ true → tile kbwg v ≢ 0 → t ≤ 50
-      → bit_or s (1 * 2 ^ t % 2 ^ 64) ≡ marked s t (ends_in_letter v)
-  letter-shifted s t a z h =
-      let e : ends_in_letter v ≡ true = rw (a, ne_eqb (tile kbwg v) 0 z) in
-      rw e (marked_shift s t (omega arith))
 
 -- ---- a node at a time
 module _ (ranks : List ℕ) where

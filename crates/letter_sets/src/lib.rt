@@ -7,7 +7,6 @@ ghost use Rattle.std.specs.Prelude.{◌*◌, ◌≤◌, length};
 ghost use Rattle.letter_sets.specs.Letters.{Small};
 ghost use Rattle.letter_sets.specs.SetNumbers.{RankedSetsNumbered};
 
-use base::clear;
 use dictionary::number_key;
 use runs::letter_set;
 
@@ -22,17 +21,14 @@ pub fn number_sets(nodes: &[u32], ranks: &[u8; 64], work: &mut [u32], blocks: us
     ensures { RankedSetsNumbered nodes.now ranks.now blocks work.old work.new result }
 {
     let n = nodes.len();
-    let sets = 3 * n;
-    clear(&mut work[sets..], n);
-    let mut count: u32 = 0;
-    let mut j: usize = 0;
-    while j < blocks {
-        let p = work[n + j] as usize;
-        let set = letter_set(nodes, ranks, p);
-        let numbered = number_key(&mut work[sets..], n, count, set);
-        work[2 * n + j] = numbered.number;
+    let (list, sets) = work.split_at_mut(3 * n);
+    sets[..n].fill(0);
+    let mut count = 0;
+    for j in 0..blocks {
+        let set = letter_set(nodes, ranks, list[n + j] as usize);
+        let numbered = number_key(sets, n, count, set);
+        list[2 * n + j] = numbered.number;
         count = numbered.count;
-        j += 1;
     }
     count
 }

@@ -12,14 +12,12 @@ fn with_letter(set: u64, ranks: &[u8; 64], v: u32) -> u64
     requires { Small ranks.now }
     ensures { result ≡ marked set (get_or ranks.now (tile kbwg v) 0) (ends_in_letter v) }
 {
-    let tile = Node24(v).tile() as usize;
-    if tile == 0 {
-        return set;
+    let tile = usize::from(Node24(v).tile());
+    if tile != 0 && Node24(v).accepts() {
+        set | 1u64 << ranks[tile]
+    } else {
+        set
     }
-    if Node24(v).accepts() {
-        return set | 1u64 << ranks[tile];
-    }
-    set
 }
 
 // The letter set of the run from p, by a table of ranks that are small enough.
@@ -28,14 +26,12 @@ pub(crate) fn letter_set(nodes: &[u32], ranks: &[u8; 64], p: usize) -> u64
     ensures { result ≡ set_by ranks.now nodes.now p }
 {
     let mut set: u64 = 0;
-    let mut i = p;
-    while i < nodes.len() {
+    for i in p..nodes.len() {
         let v = nodes[i];
         set = with_letter(set, ranks, v);
         if Node24(v).is_end() {
             return set;
         }
-        i += 1;
     }
     set
 }
