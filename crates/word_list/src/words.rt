@@ -1,40 +1,13 @@
 // The words of a list, one beside another, and the way back from each to the one before it.
 ghost use Rattle.std.specs.Prelude.{◌≡◌, ◌+◌, ◌≤◌, ◌<◌, length};
 ghost use Rattle.graph.specs.Order.{shared};
-ghost use Rattle.built.specs.Listed.{word_below};
 ghost use Rattle.word_list.specs.Words.{IsLexicon, Marked};
-
-use base::widened;
 
 // How many tiles two words share before they part.
 pub fn shared(v: &[u8], w: &[u8]) -> usize
     ensures { result ≡ shared v.now w.now }
 {
-    let mut c: usize = 0;
-    while c < v.len() {
-        if w.len() <= c {
-            return c;
-        }
-        if v[c] != w[c] {
-            return c;
-        }
-        c += 1;
-    }
-    c
-}
-
-// Whether word w is above word v.
-pub(crate) fn is_above(v: &[u8], w: &[u8]) -> bool
-    ensures { result ≡ word_below v.now w.now }
-{
-    let c = shared(v, w);
-    if w.len() <= c {
-        return false;
-    }
-    if v.len() <= c {
-        return true;
-    }
-    v[c] < w[c]
+    v.iter().zip(w).take_while(|(a, b)| a == b).count()
 }
 
 // Keeps for each word how many tiles the word before it has, in the number that stands as far behind `base` as the word's length byte does in
@@ -50,7 +23,7 @@ pub fn mark_words(list: &[u8], work: &mut [u32], base: usize) -> usize
     let mut at: usize = 0;
     while at < list.len() {
         work[base + at] = before;
-        before = widened(list[at]);
+        before = u32::from(list[at]);
         last = at;
         at += 1 + before as usize;
     }

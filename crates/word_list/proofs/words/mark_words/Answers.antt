@@ -26,10 +26,10 @@ module _ (c : In-loop-at) where
   inside = let x = given.requires.lexicon in word-inside x.2 (c.loop-at.invariant.1 x.0 x.1 x.2) c.loop-at-test.true
 
 pub overflow_add-at-in-loop-at : goal.overflow_add-at-in-loop-at
-overflow_add-at-in-loop-at c = let i = inside (goal.at.overflow_add-at-in-loop-at c).In-loop-at in let e = c.widened-before.ensures in omega arith
+overflow_add-at-in-loop-at c = let i = inside (goal.at.overflow_add-at-in-loop-at c).In-loop-at in let e = c.from-before.ensures in omega arith
 
 pub loop-at-smaller : goal.loop-at-smaller
-loop-at-smaller c = let i = inside (goal.at.loop-at-smaller c).In-loop-at in let e = c.widened-before.ensures in omega arith
+loop-at-smaller c = let i = inside (goal.at.loop-at-smaller c).In-loop-at in let e = c.from-before.ensures in omega arith
 
 pub loop-at-preserved : goal.loop-at-preserved
 loop-at-preserved c =
@@ -37,7 +37,7 @@ loop-at-preserved c =
     let l = s.loop-at in
     let size = l.invariant.0 in
     let room = (given s).requires.list_in_bounds in
-    (length-set l.work _ _ ∙ size, λ ws x e. rw c.widened-before.ensures (Marking-next e (l.invariant.1 ws x e) s.loop-at-test.true (omega arith)))
+    (length-set l.work _ _ ∙ size, λ ws x e. rw c.from-before.ensures (Marking-next e (l.invariant.1 ws x e) s.loop-at-test.true (omega arith)))
 
 pub returns : goal.returns
 returns c = λ ws x e. marking_ends e c.requires.list_nonzero c.loop-at-test.false (c.loop-at.invariant.1 ws x e)
