@@ -1,8 +1,8 @@
 -- A list checked word by word. The idea: the rows of the words passed refuse nothing, so that those of the bytes left answer for the list.
-use Rattle.std.proofs.Common.{◌≡◌, refl, sym, ap, ◌∙◌, List, [], ◌∷◌, ◌++◌, ℕ, zero, suc, ◌+◌, ◌-◌, ◌≤◌, ◌<◌, Bool, true, false, ◌||◌, not, eqb, ltb, length, take, drop, arith, length-append, take_at, drop_at, le-ltb}
+use Rattle.std.proofs.Common.{◌≡◌, refl, ap, ◌∙◌, List, [], ◌∷◌, ◌++◌, ℕ, zero, suc, ◌-◌, ◌≤◌, ◌<◌, true, false, ◌||◌, not, eqb, ltb, length, take, drop, arith, length-append, take_at, drop_at, le-ltb}
 use Rattle.std.proofs.Math.Option.{none, some}
 use Rattle.laws.specs.Lists.{some_of}
-use Rattle.answers.specs.Answers.{Answer, refused, Row, first_of}
+use Rattle.answers.specs.Answers.{refused, Row, first_of}
 use Rattle.answers.specs.RowLaws.{row_ends, rows_refuse, rows_pass, stops_at, all_pass}
 use Rattle.graph.specs.Words.{Word}
 use Rattle.built.specs.Listed.{word_below, no_tile, word_row, rows_ahead, list_row}

@@ -1,5 +1,5 @@
 -- Two words tile by tile.
-use Rattle.std.proofs.Common.{◌≡◌, refl, ap, ◌∙◌, [], ◌∷◌, ℕ, ◌+◌, Bool, eqb, length, take, arith}
+use Rattle.std.proofs.Common.{◌≡◌, refl, ◌∙◌, [], ◌∷◌, ℕ, Bool, eqb, length, take, arith}
 use Rattle.std.specs.List.{prefix_len, zip}
 use Rattle.std.proofs.lemmas.List.Folds.{length-prefix_len}
 use Rattle.laws.specs.Cases.{split}

@@ -41,7 +41,11 @@ fn next_word(list: &[u8]) -> Option<(&[u8], &[u8])>
         return None;
     }
     let (word, after) = rest.split_at_checked(*tiles as usize)?;
-    if are_tiles(word) { Some((word, after)) } else { None }
+    if are_tiles(word) {
+        Some((word, after))
+    } else {
+        None
+    }
 }
 
 // Checks the words one by one: each must be a word, and above the one before it. Before the first there is the empty word.

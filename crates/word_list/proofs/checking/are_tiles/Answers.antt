@@ -1,5 +1,5 @@
 -- `checking::are_tiles` meets its contract.
-use Rattle.std.proofs.Common.{rules, tests, ◌≡◌, refl, ◌∙◌, Bool, true, not, List, [], ◌∷◌, ℕ, ap, arith}
+use Rattle.std.proofs.Common.{rules, tests, ◌≡◌, refl, ◌∙◌, Bool, not, List, [], ◌∷◌, ℕ}
 use Rattle.std.specs.List.{list_all}
 use Rattle.std.proofs.lemmas.Iterator.{YieldsList-from_slice}
 use Rattle.std.proofs.lemmas.Iterator.Search.{all_from_yields_List}

@@ -1,5 +1,5 @@
 -- `checking::check_list` meets its contract: the words passed refuse nothing, and the rows of the bytes left answer for the list.
-use Rattle.std.proofs.Common.{rules, tests, ◌≡◌, ◌∙◌, sym, ap, subst, Bool, true, false, not, ◌<◌, length, arith, [], MatchOption, refl, is_le, nat_cmp, Some, None, Err, eqb-true, ltb-false, Result}
+use Rattle.std.proofs.Common.{rules, tests, ◌≡◌, ◌∙◌, sym, ap, Bool, not, ◌<◌, length, arith, refl, is_le, nat_cmp, Some, Err, Result}
 use Rattle.std.proofs.lemmas.Bool.Decides.{nat_tests}
 use Rattle.std.specs.Ordering.{is_some_and}
 use Rattle.std.specs.Cmp.Lexicographic.{slice_partial_cmp}
@@ -9,7 +9,7 @@ use Rattle.std.proofs.lemmas.Result.{err_from_is_err_and}
 use Rattle.graph.specs.Words.{Word}
 use Rattle.built.specs.Listed.{word_below}
 use Rattle.word_list.specs.declared.checking.ListRefusal.TheVariants.{BadWord}
-use Rattle.word_list.specs.Checks.{Begins, NoWord, ChecksAs}
+use Rattle.word_list.specs.Checks.{Begins}
 use Rattle.word_list.proofs.CheckLaws.{checking-begins, checking-ends, no_word, word-refused, fewer_left, checking-next}
 use Rattle.word_list.proofs.checking.check_list.Goals as goal
 use Rattle.word_list.proofs.checking.check_list.Goals.{After-le}

@@ -1,9 +1,6 @@
 -- `checking::next_word` meets its contract: the first test of the row that holds refuses, and where none does there is a word.
-use Rattle.std.proofs.Common.{rules, tests, ◌≡◌, sym, ap, ◌∙◌, Bool, true, false, ◌||◌, not, List, ◌∷◌, ℕ, eqb, ltb, length, take, subst, lt-ltb, le-ltb, arith, ne_eqb}
+use Rattle.std.proofs.Common.{rules, tests, ◌≡◌, sym, true, false, ◌||◌, eqb, ltb, length, lt-ltb, le-ltb, arith}
 use Rattle.std.proofs.lemmas.Bool.{not-false}
-use Rattle.laws.specs.Lists.{some_of}
-use Rattle.built.specs.Listed.{no_tile}
-use Rattle.word_list.specs.Checks.{Begins, NoWord}
 use Rattle.word_list.proofs.CheckLaws.{bad_length, bad-end, bad-tile}
 use Rattle.word_list.proofs.checking.next_word.Goals as goal
 
@@ -14,7 +11,7 @@ returns-then-not-contains c =
     bad_length t.tiles.now t.rest.now t.ensures.cases.0 bad
 
 pub returns-in_err-word : goal.returns-in_err-word
-returns-in_err-word c = 
+returns-in_err-word c =
     let t = c.in_ok-tiles in
     let fits : (eqb t.tiles.now 0 || ltb 64 t.tiles.now) ≡ false = search (rules, tests) in
     let short : ltb (length t.rest.now) t.tiles.now ≡ true = lt-ltb (length t.rest.now) t.tiles.now (omega (arith, c.in_err-word.ensures.cases)) in
