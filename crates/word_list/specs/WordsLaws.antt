@@ -1,11 +1,12 @@
 -- What stands where in the bytes of words, and where two words part. The idea: past the words before a place stand the bytes of those after it.
-use Rattle.std.specs.Prelude.{◌≡◌, refl, List, [], ◌∷◌, ℕ, suc, ◌+◌, ◌-◌, ◌≤◌, eqb, length, get_or, take, drop}
-use Rattle.std.proofs.Common.{sym, ap, ap₂, ◌∙◌, zero-le, add-zero, add-one, arith, eqb-true, length-append, drop-drop, get_or-drop}
+use Rattle.std.specs.Prelude.{◌≡◌, refl, true, false, List, [], ◌∷◌, ℕ, suc, ◌+◌, ◌-◌, ◌≤◌, ◌<◌, eqb, ltb, length, get_or, take, drop}
+use Rattle.std.proofs.Common.{sym, ap, ap₂, ◌∙◌, zero-le, add-zero, add-one, arith, eqb-true, le-ltb, length-append, drop-drop, get_or-drop}
+use Rattle.std.proofs.Math.Bool.{or-false}
 use Rattle.std.proofs.Math.Seq.{take-append_seam, drop-append_seam}
 use Rattle.laws.specs.Cases.{split}
 use Rattle.graph.specs.Words.{Word}
 use Rattle.graph.specs.Order.{shared}
-use Rattle.built.specs.Listed.{list_bytes}
+use Rattle.built.specs.Listed.{list_bytes, word_below}
 use Rattle.word_list.specs.Words.{rejoined, place_after}
 
 -- ---- the bytes from a place on
@@ -69,3 +70,47 @@ unfolding shared
 shared_same [] w = refl
 shared_same (t ∷ v) [] = refl
 shared_same (t ∷ v) (s ∷ w) = split (eqb t s) (λ e. rw (e, shared) (ap₂ ◌∷◌ (eqb-true t s e) (shared_same v w))) (λ e. rw (e, shared))
+
+-- there the order is decided: a word that ends there is not above
+pub ends-not-above : (v w : Word) → length w ≤ shared v w → word_below v w ≡ false
+unfolding shared
+ends-not-above [] [] h = refl
+ends-not-above [] (s ∷ w) h = absurd (omega arith)
+ends-not-above (t ∷ v) [] h = refl
+ends-not-above (t ∷ v) (s ∷ w) h =
+    split (eqb t s)
+    (λ e.
+    let i = eqb-true t s e in
+    let k : suc (length w) ≤ suc (shared v w) = rw (e, shared) at h in
+    rw (le-ltb t s (omega arith), e) (ends-not-above v w (omega arith)))
+    (λ e. let k : suc (length w) ≤ 0 = rw (e, shared) at h in absurd (omega arith))
+
+-- one that goes on where the other ends is above it
+pub ends_above : (v w : Word) → length v ≤ shared v w → shared v w < length w → word_below v w ≡ true
+unfolding shared
+ends_above [] [] h k = absurd (omega arith)
+ends_above [] (s ∷ w) h k = refl
+ends_above (t ∷ v) [] h k = absurd (omega arith)
+ends_above (t ∷ v) (s ∷ w) h k =
+    split (eqb t s)
+    (λ e.
+    let i = eqb-true t s e in
+    let a : suc (length v) ≤ suc (shared v w) = rw (e, shared) at h in
+    let b : suc (shared v w) < suc (length w) = rw (e, shared) at k in
+    rw (le-ltb t s (omega arith), e) (ends_above v w (omega arith) (omega arith)))
+    (λ e. let a : suc (length v) ≤ 0 = rw (e, shared) at h in absurd (omega arith))
+
+-- and else it is by the tiles that stand there
+pub parts-above : (v w : Word) → shared v w < length v → shared v w < length w
+    → word_below v w ≡ ltb (get_or v (shared v w) 0) (get_or w (shared v w) 0)
+unfolding shared
+parts-above [] w h k = absurd (omega arith)
+parts-above (t ∷ v) [] h k = absurd (omega arith)
+parts-above (t ∷ v) (s ∷ w) h k =
+    split (eqb t s)
+    (λ e.
+    let i = eqb-true t s e in
+    let a : suc (shared v w) < suc (length v) = rw (e, shared) at h in
+    let b : suc (shared v w) < suc (length w) = rw (e, shared) at k in
+    rw (e, shared) (rw (le-ltb t s (omega arith)) (parts-above v w (omega arith) (omega arith))))
+    (λ e. rw (e, shared) (or-false (ltb t s)))
