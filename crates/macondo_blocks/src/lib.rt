@@ -9,4 +9,4 @@ mod sorting;
 
 pub use alphabet::{letters, ranks};
 pub use arcs::arcs_of;
-pub use blocks::{BlockNumbering, Reached, number_blocks};
+pub use blocks::{Reached, TooDeep, number_blocks};
