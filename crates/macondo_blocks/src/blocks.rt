@@ -64,12 +64,12 @@ fn number_run(
     if chain_left == 0 {
         return Err(TooDeep);
     }
-    let mut arcs = [0u32; 64];
-    let count = arcs_of(nodes, labels, p, &mut arcs);
-    let mut sum = push_block(nodes.len(), work, p, t, count as u32 + 1);
+    let mut list = [0u32; 64];
+    let arcs = arcs_of(nodes, labels, p, &mut list);
+    let mut sum = push_block(nodes.len(), work, p, t, arcs.len() as u32 + 1);
     keep_depth(nodes.len(), work, p, 0);
     let mut runs: u32 = 0;
-    for arc in &arcs[..count] {
+    for arc in arcs {
         let child = Node24(*arc).arc_index() as usize;
         let reached = number_arc(nodes, labels, work, child, sum, chain_left - 1)?;
         sum = reached.tally;

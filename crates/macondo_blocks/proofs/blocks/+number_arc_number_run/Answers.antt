@@ -1,7 +1,7 @@
 -- `number_arc` and `number_run` meet their contracts: the chain left falls with each run; what the arcs still to come lead to, met after
 -- what is numbered, is what is met from the block; and the longest chain from it is one run longer than from what its arcs lead to.
-use Rattle.std.specs.Prelude.{◌≡◌, ◌≢◌, true, List, ℕ, ◌+◌, ◌-◌, ◌≤◌, ◌<◌, length, get_or, take, None}
-use Rattle.std.proofs.Common.{sym, ap, ◌∙◌, subst, ⊎_elim, arith, eq-eqb, true≢false, length-take-le}
+use Rattle.std.specs.Prelude.{◌≡◌, ◌≢◌, true, List, ℕ, ◌+◌, ◌-◌, ◌≤◌, ◌<◌, length, get_or, None}
+use Rattle.std.proofs.Common.{sym, ap, ◌∙◌, subst, ⊎_elim, arith, eq-eqb, true≢false}
 use Rattle.std.specs.Option.{is_some}
 use Rattle.std.proofs.lemmas.Result.{err_from_is_err_and}
 use mathlib.Core.List.{Memᴰ}
@@ -15,7 +15,7 @@ use Rattle.macondo_blocks.specs.Blocks.{BlocksRecorded, BlocksReached, Numbering
 use Rattle.macondo_blocks.proofs.BlockNumberingLaws.{followed-deep, known-deep, known-reaches, push-fits, BlockOpened, opens}
 use Rattle.macondo_blocks.proofs.BlockNumberingLaws.{arc-walk-start, walk-recorded, walk-next, walk-below, walk-deep, walk-done}
 use Rattle.macondo_blocks.proofs.blocks.+number_arc_number_run.Goals as goal
-use Rattle.macondo_blocks.proofs.blocks.+number_arc_number_run.Goals.{number_arc-After-depth_of-runs, number_run-After-arcs_of-count, number_run-After-keep_depth, number_run-After-arc_index-child}
+use Rattle.macondo_blocks.proofs.blocks.+number_arc_number_run.Goals.{number_arc-After-depth_of-runs, number_run-After-keep_depth, number_run-After-arc_index-child}
 
 -- ---- a child that is numbered, and what is kept of its depth
 module _ {t : ℕ} (c : number_arc-After-depth_of-runs t) where
@@ -50,39 +50,30 @@ number_arc-returns-then-runs-eq0 t c =
 pub number_arc-returns : goal.number_arc-returns
 number_arc-returns t c = reaches (goal.at.number_arc-returns t c).After-depth_of-runs (λ z. omega (arith, z)) (omega arith)
 
--- ---- a block: its arcs are known
-module _ {t : ℕ} (c : number_run-After-arcs_of-count t) where
-  abbrev arcs : List ℕ
-  arcs = take c.arcs_of-count.result c.arcs_of-count.new.arcs
-
-  many : length arcs ≡ c.arcs_of-count.result
-  many = length-take-le c.arcs_of-count.result c.arcs_of-count.new.arcs (omega (arith, c.arcs_of-count.ensures.0, c.arcs_of-count.auto.arcs))
-
--- the block itself is numbered, and followed
+-- ---- a block: it is numbered, and followed
 module _ {t : ℕ} (c : number_run-After-keep_depth t) where
   opened : BlockOpened c.args.nodes.now c.args.labels.now c.args.work.now c.args.t c.args.p c.keep_depth.new.work c.push_block-sum.result
   opened =
-      let n = many (goal.at.number_run-After-keep_depth t c).After-arcs_of-count in
-      let m = ap length c.arcs_of-count.ensures.1 in
+      let m = ap length c.arcs_of-arcs.ensures.1 in
       opens c.requires.blocks_recorded c.args.p c.requires.p_in_bounds.0 c.requires.p_value c.push_block-sum.new.work c.keep_depth.new.work c.push_block-sum.result
-      (c.arcs_of-count.result + 1) (omega arith) c.push_block-sum.ensures c.keep_depth.ensures
+      (length c.arcs_of-arcs.result.now + 1) (omega arith) c.push_block-sum.ensures c.keep_depth.ensures
 
 -- a turn of the loop: the arc is one of the block's
 module _ {t : ℕ} (c : number_run-After-arc_index-child t) where
   turn-arc : Memᴰ c.arc_index-child.result (arcs_from c.args.nodes.now c.args.p)
   turn-arc =
       subst (λ (q : ℕ). Memᴰ q (arcs_from c.args.nodes.now c.args.p)) (sym c.arc_index-child.ensures)
-      (child-held c.args.nodes.now c.args.labels.now c.args.p _ c.arcs_of-count.ensures.1 c.loop-arc.arc-index c.loop-arc-test.true)
+      (child-held c.args.nodes.now c.args.labels.now c.args.p _ c.arcs_of-arcs.ensures.1 c.loop-arc.arc-index c.loop-arc-test.true)
 
 pub number_run-returns-then-chain_left-eq0 : goal.number_run-returns-then-chain_left-eq0
 number_run-returns-then-chain_left-eq0 t c = deep-at-once c.args.nodes.now c.args.p c.args.chain_left c.if-chain_left-eq0.true
 
 pub number_run-push_block-sum-requires : goal.number_run-push_block-sum-requires
 number_run-push_block-sum-requires t c =
-    push-fits c.requires.blocks_recorded c.args.p c.requires.p_in_bounds.0 c.requires.p_value (c.arcs_of-count.result + 1) (omega (arith, c.arcs_of-count.ensures.0))
+    push-fits c.requires.blocks_recorded c.args.p c.requires.p_in_bounds.0 c.requires.p_value (length c.arcs_of-arcs.result.now + 1) (omega (arith, c.arcs_of-arcs.ensures.0))
 
 pub number_run-loop-arc-init : goal.number_run-loop-arc-init
-number_run-loop-arc-init t c = arc-walk-start (opened (goal.at.number_run-loop-arc-init t c).After-keep_depth) c.arcs_of-count.ensures.1
+number_run-loop-arc-init t c = arc-walk-start (opened (goal.at.number_run-loop-arc-init t c).After-keep_depth) c.arcs_of-arcs.ensures.1
 
 pub number_run-number_arc-requires : goal.number_run-number_arc-requires
 number_run-number_arc-requires t c =
@@ -114,4 +105,4 @@ pub number_run-returns : goal.number_run-returns
 number_run-returns t c =
     -- all are walked, and the block's depth is kept
     walk-done c.loop-arc.invariant (opened (goal.at.number_run-returns t c).After-keep_depth) c.requires.blocks_recorded c.requires.p_in_bounds.0 c.requires.p_value
-    c.if-chain_left-eq0.false c.arcs_of-count.ensures.1 c.loop-arc-test.false c.keep_depth-2.new.work c.keep_depth-2.ensures
+    c.if-chain_left-eq0.false c.arcs_of-arcs.ensures.1 c.loop-arc-test.false c.keep_depth-2.new.work c.keep_depth-2.ensures
