@@ -62,13 +62,13 @@ module _ {g : Graph} {labels w : List ℕ} {t : BlockTally} (r : BlocksRecorded 
     few : t.blocks < length g
     few = holds-room r.holds p h new
 
-    pub push-fits : (size : ℕ) → size ≤ 51
+    pub push-fits : MacondoReady g labels → (size : ℕ) → size ≤ 51
         → (length g ≤ 16777216) × (length g + length g ≤ length w) × (p < length g) × (t.blocks < length g)
         × (t.nodes + size < 4294967296) × (t.nodes < 4294967295)
-    push-fits size k =
-        let m = r.ready.fit.most in
+    push-fits ready size k =
+        let m = ready.fit.most in
         let f = few in
-        let n = tally-few r.holds (size_few g labels r.ready) in
+        let n = tally-few r.holds (size_few g labels ready) in
         (m, omega (arith, r.room), h, f, omega arith, omega arith)
 
     pub opens : (w₁ w₂ : List ℕ) (t₁ : BlockTally) (size : ℕ) → size ≡ size_of g labels p → Pushed (length g) w p t size w₁ t₁
@@ -121,8 +121,8 @@ arc-walk-start {g} {labels} {p = p} o e = record {
 
 module _ {g : Graph} {labels : List ℕ} {c p : ℕ} {arcs : List ℕ} {w₀ : List ℕ} {t₀ : BlockTally} {w : List ℕ} {t : BlockTally} {runs i : ℕ}
     (k : ArcWalk g labels c p arcs w₀ t₀ w t runs i) where
-  pub walk-recorded : MacondoReady g labels → 3 * length g ≤ length w₀ → BlocksRecorded g labels w t
-  walk-recorded ready room = record { ready = ready; room = omega (arith, k.past.size); holds = k.holds; depths = k.depths }
+  pub walk-recorded : 3 * length g ≤ length w₀ → BlocksRecorded g labels w t
+  walk-recorded room = record { room = omega (arith, k.past.size); holds = k.holds; depths = k.depths }
 
   -- ---- the next arc
   module _ (q : ℕ) (h : i < length arcs) (e : q ≡ arc kbwg (get_or arcs i 0)) where
@@ -190,7 +190,7 @@ pub walk-deep : (g : Graph) (c p : ℕ) → c ≢ 0 → (q : ℕ) → Memᴰ q (
 walk-deep g c p z q m d = let s : c ≡ suc (c - 1) = omega arith in ap (λ x. deeper g x p) s ∙ deep-by-arc g (c - 1) p q m d
 
 -- ---- from a cleared list on
-module _ (w w' : List ℕ) {g : Graph} {labels : List ℕ} (ready : MacondoReady g labels) (room : 3 * length g ≤ length w) (e : w' ≡ cleared (length g) w) where
+module _ (w w' : List ℕ) (g : Graph) (room : 3 * length g ≤ length w) (e : w' ≡ cleared (length g) w) where
   pub clear_at : (p : ℕ) → p < length g → get_or w' p 0 ≡ 0
   clear_at p h = ap (λ l. get_or l p 0) e ∙ cleared_at (length g) w p h
 
@@ -199,10 +199,9 @@ module _ (w w' : List ℕ) {g : Graph} {labels : List ℕ} (ready : MacondoReady
       let n = length g in
       subst (Kept (3 * n) w) (sym e) (kept-further (3 * n) n w (cleared n w) (omega arith) (cleared-kept n w (omega arith)))
 
-  pub clear-recorded : (t : BlockTally) → t.blocks ≡ 0 → t.nodes ≡ 0 → BlocksRecorded g labels w' t
-  clear-recorded t b n =
+  pub clear-recorded : (labels : List ℕ) (t : BlockTally) → t.blocks ≡ 0 → t.nodes ≡ 0 → BlocksRecorded g labels w' t
+  clear-recorded labels t b n =
       record {
-        ready = ready;
         room = omega (arith, clear-past.size);
         holds = holds-here (holds-none (length g) (size_of g labels) 0 w' t clear_at b n);
         depths = (depths-none g w' clear_at).0;
@@ -211,9 +210,9 @@ module _ (w w' : List ℕ) {g : Graph} {labels : List ℕ} (ready : MacondoReady
   pub cleared-below : (p : ℕ) → Below g w' p
   cleared-below p = (depths-none g w' clear_at).1 p
 
-  pub clear-numbering : (t : BlockTally) → t.blocks ≡ 0 → (s : ℕ) (v : List ℕ) (r : Result Reached TooDeep) → NumberingFrom g labels w' t 64 s v r
+  pub clear-numbering : (labels : List ℕ) (t : BlockTally) → t.blocks ≡ 0 → (s : ℕ) (v : List ℕ) (r : Result Reached TooDeep) → NumberingFrom g labels w' t 64 s v r
       → NumberingIs g labels s w v r
-  clear-numbering t z s v (Ok r) n = (
+  clear-numbering labels t z s v (Ok r) n = (
     record {
       holds = holds_at (ap (λ o. met eqb (children_of g labels) 64 (blocks_in (length g) w' o) s) z) n.numbered.holds;
       past = kept_then clear-past n.numbered.past;
@@ -221,4 +220,4 @@ module _ (w w' : List ℕ) {g : Graph} {labels : List ℕ} (ready : MacondoReady
     n.depth,
     n.depth 64 ∙ le-ltb 64 r.runs n.within,
   )
-  clear-numbering t z s v (Err e) d = d
+  clear-numbering labels t z s v (Err e) d = d

@@ -12,7 +12,6 @@ use Rattle.block_record.specs.Depths.{Depth, Depths, NoneLeft}
 use Rattle.block_record.specs.declared.BlockTally.{BlockTally}
 use Rattle.macondo_file.specs.Alphabet.{by_tile}
 use Rattle.macondo_file.specs.File.{children_of, size_of, blocks_from}
-use Rattle.macondo_file.specs.RowLaws.{MacondoReady}
 use Rattle.macondo_blocks.specs.declared.blocks.Reached.{Reached}
 use Rattle.macondo_blocks.specs.declared.blocks.TooDeep.{TooDeep}
 
@@ -31,7 +30,6 @@ with_arc labels arcs v = inserted_all (by_tile labels) arcs (filtered has_arc (v
 
 -- the work list has room for the record and the depths; it holds the blocks numbered so far, and how deep they are
 pub record BlocksRecorded (g : Graph) (labels : List ℕ) (w : List ℕ) (t : BlockTally) : Type 0 where
-  pub ready : MacondoReady g labels
   pub room : 3 * length g ≤ length w
   pub holds : HoldsBlocks (length g) (size_of g labels) 0 w t (order_in (length g) w t)
   pub depths : Depths g w

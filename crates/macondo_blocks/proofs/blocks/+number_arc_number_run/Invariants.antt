@@ -11,4 +11,4 @@ decreases-number_run l = 2 * l.chain_left
 
 abbrev pub invariant-number_run-loop-arc : goal.invariant-number_run-loop-arc
 invariant-number_run-loop-arc l =
-    ArcWalk l.nodes l.labels l.chain_left l.p l.arcs l.initial.work l.initial.sum l.work l.sum l.runs l.arc-index
+    ArcWalk l.g.nodes.now l.g.labels.now l.chain_left l.p l.arcs l.initial.work l.initial.sum l.work l.sum l.runs l.arc-index

@@ -7,21 +7,21 @@ use Rattle.macondo_blocks.proofs.blocks.number_blocks.Goals as goal
 use Rattle.macondo_blocks.proofs.blocks.number_blocks.Goals.{After-fill}
 
 -- the list is cleared
-zeros : (c : After-fill) → c.fill.new.self ++ drop (length c.args.nodes.now) c.args.work.now ≡ cleared (length c.args.nodes.now) c.args.work.now
+zeros : (c : After-fill) → c.fill.new.self ++ drop (length c.args.g.nodes.now) c.args.work.now ≡ cleared (length c.args.g.nodes.now) c.args.work.now
 zeros c = search rules
 
 pub number_run-requires : goal.number_run-requires
 number_run-requires c =
     let z = zeros (goal.at.number_run-requires c).After-fill in
-    let ready = c.requires.macondo_ready in
-    let room = c.requires.s_in_bounds.1 in
+    let g = c.args.g.nodes.now in
     record {
-      blocks_recorded = clear-recorded c.args.work.now _ ready room z _ refl refl;
-      p_in_bounds = (c.requires.s_in_bounds.0, cleared-below c.args.work.now _ ready room z c.args.s);
-      p_value = clear_at c.args.work.now _ ready room z c.args.s c.requires.s_in_bounds.0;
+      blocks_recorded = clear-recorded c.args.work.now _ g c.requires.1 z c.args.g.labels.now _ refl refl;
+      p_in_bounds = (c.requires.0, cleared-below c.args.work.now _ g c.requires.1 z c.args.s);
+      p_value = clear_at c.args.work.now _ g c.requires.1 z c.args.s c.requires.0;
     }
 
 pub returns : goal.returns
 returns c =
     let z = zeros (goal.at.returns c).After-fill in
-    clear-numbering c.args.work.now _ c.requires.macondo_ready c.requires.s_in_bounds.1 z _ refl c.args.s c.number_run.new.work c.number_run.result c.number_run.ensures
+    clear-numbering c.args.work.now _ c.args.g.nodes.now c.requires.1 z c.args.g.labels.now _ refl c.args.s c.number_run.new.work c.number_run.result
+    c.number_run.ensures
