@@ -4,13 +4,12 @@ use mathlib.Core.List.{List, [], ◌++◌, map}
 use Prim.Native.Nat.{ℕ, suc, ◌+◌, ◌-◌, ◌*◌, ◌≤◌, ◌<◌}
 use native.Mathlib.Numerals.{add-one}
 use native.Mathlib.Omega.{arith}
-use lib.ListN.{length, get_or, take, length-map}
-use lib.Seq.{sets, length-take-le}
+use lib.ListN.{length, get_or, length-map}
+use lib.Seq.{sets}
 use Rattle.laws.specs.ListWrites.{sets_append}
 use Rattle.endian.specs.Bytes.{big_endian, big_endians}
 use Rattle.endian.proofs.BigLaws.{bigs_length, bigs_append}
 use Rattle.endian.specs.Putting.{Putting, put-start, put-room, put_next, put-done}
-use Rattle.node.specs.Nodes.{kbwg, tile, arc}
 use Rattle.graph.specs.Runs.{Graph}
 use Rattle.macondo_file.specs.File.{arcs_of}
 use Rattle.macondo_writing.specs.FileTables.{arc_in, block_in, block_nodes_from}

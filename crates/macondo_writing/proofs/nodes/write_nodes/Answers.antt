@@ -1,9 +1,8 @@
 -- `write_nodes` meets its contract: after the count, the blocks left, written where they go, give the section.
-use Rattle.std.specs.Prelude.{◌≡◌, ℕ, ◌+◌, ◌*◌, ◌≤◌, ◌<◌, length, get_or}
+use Rattle.std.specs.Prelude.{ℕ, ◌+◌, ◌*◌, ◌≤◌, ◌<◌, length, get_or}
 use Rattle.std.proofs.Common.{arith}
 use Rattle.node.specs.Nodes.{kbwg, arc}
 use Rattle.macondo_blocks.specs.ArcsLaws.{child-inside}
-use Rattle.macondo_writing.specs.FileTables.{block_nodes_from}
 use Rattle.macondo_writing.proofs.SectionLaws.{section-stored}
 use Rattle.macondo_writing.proofs.BlockNodes.{blocks_start, block-fits, blocks-next, blocks-done}
 use Rattle.macondo_writing.proofs.nodes.write_nodes.Goals as goal
@@ -13,7 +12,7 @@ use Rattle.macondo_writing.proofs.nodes.write_nodes.Goals.{After-arcs_of-arcs}
 module _ (c : After-arcs_of-arcs) where
   fits-here : c.loop-j.w + (4 + 4 * length c.arcs_of-arcs.result.now) ≤ length c.loop-j.file
   fits-here =
-      block-fits c.args.g.nodes.now c.args.g.labels.now c.args.ranks.now c.args.work.now _ _ _ c.loop-j.j c.loop-j.invariant c.loop-j-test.true
+      block-fits c.args.g.nodes.now c.args.g.labels.now c.args.t.ranks.now c.args.t.work.now _ _ _ c.loop-j.j c.loop-j.invariant c.loop-j-test.true
       c.arcs_of-arcs.result.now c.arcs_of-arcs.ensures.1
       (omega (arith, c.requires.nodes_in_bounds, c.requires.tables_filled.nodes, c.write_be_u32.auto.bytes))
 
@@ -21,7 +20,7 @@ module _ (c : After-arcs_of-arcs) where
   child k h = child-inside c.args.g.nodes.now c.args.g.labels.now _ c.arcs_of-arcs.result.now c.arcs_of-arcs.ensures.1 k h c.args.g.ready
 
 pub loop-j-init : goal.loop-j-init
-loop-j-init c = blocks_start c.args.g.nodes.now c.args.g.labels.now c.args.ranks.now c.args.work.now _ _ _
+loop-j-init c = blocks_start c.args.g.nodes.now c.args.g.labels.now c.args.t.ranks.now c.args.t.work.now _ _ _
 
 pub write_block-requires : goal.write_block-requires
 write_block-requires c =
@@ -37,12 +36,11 @@ overflow_add-w-in-loop-j-2 c = omega (arith, fits-here (goal.at.overflow_add-w-i
 
 pub loop-j-preserved : goal.loop-j-preserved
 loop-j-preserved c =
-    blocks-next c.args.g.nodes.now c.args.g.labels.now c.args.ranks.now c.args.work.now _ _ _ c.loop-j.j c.loop-j.invariant c.loop-j-test.true
+    blocks-next c.args.g.nodes.now c.args.g.labels.now c.args.t.ranks.now c.args.t.work.now _ _ _ c.loop-j.j c.loop-j.invariant c.loop-j-test.true
     c.arcs_of-arcs.result.now c.arcs_of-arcs.ensures.1 c.write_block.ensures
 
 pub returns : goal.returns
 returns c =
-    let all = block_nodes_from c.args.g.nodes.now c.args.g.labels.now c.args.ranks.now c.args.work.now 0 c.args.counts.blocks in
-    section-stored 4 all c.args.file.now c.args.at c.args.counts.nodes c.requires.tables_filled.nodes c.write_be_u32.ensures
-    (blocks-done c.args.g.nodes.now c.args.g.labels.now c.args.ranks.now c.args.work.now _ _ _ c.loop-j.j c.loop-j.invariant
+    section-stored 4 _ c.args.file.now c.args.at c.args.t.counts.nodes c.requires.tables_filled.nodes c.write_be_u32.ensures
+    (blocks-done c.args.g.nodes.now c.args.g.labels.now c.args.t.ranks.now c.args.t.work.now _ _ _ c.loop-j.j c.loop-j.invariant
     (omega (arith, c.loop-j-test.false)))

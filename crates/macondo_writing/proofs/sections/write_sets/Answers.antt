@@ -1,10 +1,10 @@
 -- `write_sets` meets its contract: after the count, the sets left, written where they go, give the section.
 use Rattle.std.specs.Prelude.{◌≡◌, ◌+◌, ◌*◌}
-use Rattle.std.proofs.Common.{sym, ap, ◌∙◌, arith}
+use Rattle.std.proofs.Common.{sym, ◌∙◌, arith}
 use Rattle.letter_sets.specs.HalvesLaws.{set_halves}
 use Rattle.letter_sets.specs.SetNumbers.{set_at, sets_in}
 use Rattle.laws.specs.Tables.{table-length, table_at}
-use Rattle.macondo_writing.proofs.SectionLaws.{SectionWriting, writing-next, writing-done, section-stored}
+use Rattle.macondo_writing.proofs.SectionLaws.{writing-next, writing-done, section-stored}
 use Rattle.macondo_writing.proofs.sections.write_sets.Goals as goal
 
 pub loop-i-preserved : goal.loop-i-preserved
