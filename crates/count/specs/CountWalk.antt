@@ -1,15 +1,13 @@
 -- The state of the walk: what the marks, the stack and the counts say of each other.
-use Rattle.std.specs.Prelude.{◌≡◌, Bool, true, false, ◌⊎◌, List, ℕ, suc, ◌+◌, ◌*◌, ◌/◌, ◌≤◌, ◌<◌, min, length, get_or}
+use Rattle.std.specs.Prelude.{◌≡◌, Bool, ◌⊎◌, List, ℕ, suc, ◌+◌, ◌*◌, ◌/◌, ◌≤◌, ◌<◌, leb, min, length, get_or, Option, Some, None, Result, Ok, Err}
+use Rattle.std.specs.List.{list_any}
 use Rattle.node.specs.Nodes.{kbwg}
 use Rattle.graph.specs.Runs.{Graph}
 use Rattle.graph.specs.Words.{count}
 use Rattle.graph.specs.Loops.{Step, Loops, Clear}
 use Rattle.graph.specs.Lent.{Kept}
 use Rattle.loops.specs.NodeMarks.{mark, done, stacked, OnStack, sum_over, mets}
-use Rattle.count.specs.declared.walk.MaybeNode.{MaybeNode}
-use Rattle.count.specs.declared.walk.MaybeNode.TheVariants.{Nothing, At}
-use Rattle.count.specs.declared.walk.AfterStep.{AfterStep}
-use Rattle.count.specs.declared.walk.AfterStep.TheVariants.{Stack, LoopMet}
+use Rattle.count.specs.declared.walk.LoopMet.{LoopMet}
 
 -- ---- the marks
 -- 1 for the mark of a node that is done
@@ -69,19 +67,18 @@ pub record LoopFound (g : Graph) (c w c' w' : List ℕ) : Type 0 where
   pub work-kept : Kept (2 * length g) w w'
 
 -- ---- what the functions of the walk answer
-abbrev pub NextIs : Graph → List ℕ → ℕ → MaybeNode → Type 0
-NextIs g w p (At q) = Step kbwg g p q × (mark w q ≡ done → ⊥)
-NextIs g w p Nothing = (q : ℕ) → Step kbwg g p q → mark w q ≡ done
+abbrev pub NextIs : Graph → List ℕ → ℕ → Option ℕ → Type 0
+NextIs g w p (Some q) = Step kbwg g p q × (mark w q ≡ done → ⊥)
+NextIs g w p None = (q : ℕ) → Step kbwg g p q → mark w q ≡ done
 
-abbrev pub StepIs : ℕ → Graph → List ℕ → List ℕ → List ℕ → List ℕ → AfterStep → Type 0
-StepIs limit g c w c' w' (Stack size) = StepTaken limit g c w c' w' size
-StepIs limit g c w c' w' LoopMet = LoopFound g c w c' w'
+abbrev pub StepIs : ℕ → Graph → List ℕ → List ℕ → List ℕ → List ℕ → Result ℕ LoopMet → Type 0
+StepIs limit g c w c' w' (Ok size) = StepTaken limit g c w c' w' size
+StepIs limit g c w c' w' (Err _) = LoopFound g c w c' w'
 
-abbrev pub WalkedIs : ℕ → Graph → List ℕ → List ℕ → List ℕ → List ℕ → Bool → Type 0
-WalkedIs limit g c w c' w' true = LoopFound g c w c' w'
-WalkedIs limit g c w c' w' false = AllDone limit g c w c' w'
+abbrev pub WalkedIs : ℕ → Graph → List ℕ → List ℕ → List ℕ → List ℕ → Result Unit LoopMet → Type 0
+WalkedIs limit g c w c' w' (Ok _) = AllDone limit g c w c' w'
+WalkedIs limit g c w c' w' (Err _) = LoopFound g c w c' w'
 
--- whether one of the first n counts is at least the limit
-abbrev pub ReachesIs : ℕ → List ℕ → ℕ → Bool → Type 0
-ReachesIs limit c n true = (p : ℕ) × (p < n) × (limit ≤ get_or c p 0)
-ReachesIs limit c n false = (p : ℕ) → p < n → get_or c p 0 < limit
+-- whether a count is at least the limit
+abbrev pub reaches_limit : ℕ → List ℕ → Bool
+reaches_limit limit c = list_any (λ n. leb limit n) c

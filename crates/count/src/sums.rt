@@ -2,45 +2,43 @@
 ghost use Rattle.std.specs.Prelude.{◌≡◌, false, ◌+◌, ◌<◌, ◌≤◌, min, length, get_or};
 ghost use Rattle.graph.specs.Counting.{count_limit};
 ghost use Rattle.node.specs.Nodes.{kbwg, arc, is_end};
-ghost use Rattle.graph.specs.ChecksLaws.{Fit};
 ghost use Rattle.graph.specs.CountLaws.{by_arc, by_run, sum_at};
 
-use base::{bit, capped_sum};
+use graph::FitGraph;
 use node::Node24;
 
 // The words that go on by the node's arc.
+#[tactic(auto, unfolding(graph::specs::CountLaws::by_arc))]
 fn words_by_arc(counts: &[u32], node: u32) -> u32
     requires { arc kbwg node < length counts.now }
     ensures { result ≡ by_arc kbwg (λ q. get_or counts.now q 0) node }
 {
     let arc = Node24(node).arc_index() as usize;
-    if arc == 0 {
-        return 0;
-    }
-    counts[arc]
+    if arc == 0 { 0 } else { counts[arc] }
 }
 
 // The words of the nodes after node p in its run.
+#[tactic(auto, unfolding(graph::specs::CountLaws::by_run))]
 fn words_by_run(counts: &[u32], node: u32, p: usize) -> u32
     requires { is_end kbwg node ≡ false → p + 1 < length counts.now }
     ensures { result ≡ by_run kbwg (λ q. get_or counts.now q 0) node p }
 {
     if Node24(node).is_end() {
-        return 0;
+        0
+    } else {
+        counts[p + 1]
     }
-    counts[p + 1]
 }
 
 // The count of p by the counts of the nodes that it leads to.
-pub(crate) fn count_at(nodes: &[u32], counts: &[u32], p: usize) -> u32
-    requires fit { Fit nodes.now }
-    requires p_in_bounds { p < length nodes.now }
-    requires nodes_in_bounds { length nodes.now ≤ length counts.now }
-    ensures { result ≡ min (sum_at kbwg nodes.now (λ q. get_or counts.now q 0) p) count_limit }
+pub(crate) fn count_at(g: FitGraph<'_>, counts: &[u32], p: usize) -> u32
+    requires p_in_bounds { p < length g.nodes.now }
+    requires nodes_in_bounds { length g.nodes.now ≤ length counts.now }
+    ensures { result ≡ min (sum_at kbwg g.entry.nodes.now (λ q. get_or counts.now q 0) p) count_limit }
 {
-    let node = nodes[p];
-    let own = bit(Node24(node).accepts());
+    let node = g.nodes[p];
+    let own = u32::from(Node24(node).accepts());
     let below = words_by_arc(counts, node);
     let after = words_by_run(counts, node, p);
-    capped_sum(capped_sum(own, below), after)
+    own.saturating_add(below).saturating_add(after)
 }

@@ -3,103 +3,78 @@
 // that is counted. Only marks say what is counted: 0 is a count like others.
 ghost use Rattle.std.specs.Prelude.{◌<◌, ◌≤◌, length};
 ghost use Rattle.graph.specs.Counting.{count_limit};
-ghost use Rattle.graph.specs.ChecksLaws.{Fit};
 ghost use Rattle.count.specs.CountWalk.{CountWalk, NextIs, StepIs, WalkedIs};
 
 use crate::sums::count_at;
+use graph::FitGraph;
 use loops::{DONE, push};
 use node::Node24;
 
-// A node that was looked for, if there is one.
-#[derive(Drop)]
-enum MaybeNode {
-    Nothing,
-    At(usize),
-}
-
-// What a step leads to: a stack of so many nodes, or a loop.
-#[derive(Drop)]
-enum AfterStep {
-    Stack(usize),
-    LoopMet,
-}
+// The walk came back to its path.
+#[derive(Clone, Copy, Debug, PartialEq, Eq)]
+pub struct LoopMet;
 
 // The first node that p leads to and that is not done.
-fn next_to_count(nodes: &[u32], work: &[u32], p: usize) -> MaybeNode
-    requires fit { Fit nodes.now }
-    requires p_in_bounds { p < length nodes.now }
-    requires nodes_in_bounds { length nodes.now ≤ length work.now }
-    ensures { NextIs nodes.now work.now p result }
+fn next_to_count(g: FitGraph<'_>, work: &[u32], p: usize) -> Option<usize>
+    requires p_in_bounds { p < length g.nodes.now }
+    requires nodes_in_bounds { length g.nodes.now ≤ length work.now }
+    ensures { NextIs g.entry.nodes.now work.now p result }
 {
-    let node = nodes[p];
+    let node = g.nodes[p];
     let arc = Node24(node).arc_index() as usize;
-    if arc != 0 {
-        if work[arc] != DONE {
-            return MaybeNode::At(arc);
-        }
+    if arc != 0 && work[arc] != DONE {
+        return Some(arc);
     }
-    if Node24(node).is_end() {
-        return MaybeNode::Nothing;
+    if !Node24(node).is_end() && work[p + 1] != DONE {
+        return Some(p + 1);
     }
-    if work[p + 1] != DONE {
-        return MaybeNode::At(p + 1);
-    }
-    MaybeNode::Nothing
+    None
 }
 
-// One step at the top of the stack: a node that it leads to goes on the stack, or it is counted and goes off. A node that is on the stack
-// already closes a loop.
-fn take_step(nodes: &[u32], counts: &mut [u32], work: &mut [u32], size: usize) -> AfterStep
-    requires fit { Fit nodes.now }
+// One step at the top of a stack of so many nodes, and how many are on it then: a node that the top leads to goes on the stack, or the top
+// is counted and goes off. A node that is on the stack already closes a loop.
+fn take_step(
+    g: FitGraph<'_>,
+    counts: &mut [u32],
+    work: &mut [u32],
+    size: usize,
+) -> Result<usize, LoopMet>
     requires size_nonzero { 0 < size }
-    requires count_walk { CountWalk count_limit nodes.now counts.old work.old size }
-    ensures { StepIs count_limit nodes.now counts.old work.old counts.new work.new result }
+    requires count_walk { CountWalk count_limit g.nodes.now counts.old work.old size }
+    ensures { StepIs count_limit g.entry.nodes.now counts.old work.old counts.new work.new result }
 {
-    let n = nodes.len();
+    let n = g.nodes.len();
     let p = work[n + (size - 1)] as usize;
-    match next_to_count(nodes, work, p) {
-        MaybeNode::At(q) => {
+    match next_to_count(g, work, p) {
+        Some(q) => {
             if work[q] != 0 {
-                return AfterStep::LoopMet;
+                return Err(LoopMet);
             }
             push(work, n, size, q);
-            AfterStep::Stack(size + 1)
+            Ok(size + 1)
         }
-        MaybeNode::Nothing => {
-            counts[p] = count_at(nodes, counts, p);
+        None => {
+            counts[p] = count_at(g, counts, p);
             work[p] = DONE;
-            AfterStep::Stack(size - 1)
+            Ok(size - 1)
         }
     }
 }
 
-// Whether it meets a loop; if not, every node is counted. Every node is a root, the last first: the rest of a root's run is then done before it.
-pub(crate) fn walk(nodes: &[u32], counts: &mut [u32], work: &mut [u32]) -> bool
-    requires fit { Fit nodes.now }
-    requires count_walk { CountWalk count_limit nodes.now counts.old work.old 0 }
-    ensures { WalkedIs count_limit nodes.now counts.old work.old counts.new work.new result }
+// Counts every node, or stops where it meets a loop. Every node is a root, the last first: the rest of a root's run is then done before it.
+pub(crate) fn walk(g: FitGraph<'_>, counts: &mut [u32], work: &mut [u32]) -> Result<(), LoopMet>
+    requires count_walk { CountWalk count_limit g.nodes.now counts.old work.old 0 }
+    ensures { WalkedIs count_limit g.entry.nodes.now counts.old work.old counts.new work.new result }
 {
-    let n = nodes.len();
-    let mut roots = n;
-    let mut size: usize = 0;
-    while 0 < roots {
-        if size == 0 {
-            if work[roots - 1] == 0 {
-                push(work, n, 0, roots - 1);
-                size = 1;
-            } else {
-                roots -= 1;
-            }
-        } else {
-            match take_step(nodes, counts, work, size) {
-                AfterStep::Stack(s) => {
-                    size = s;
-                }
-                AfterStep::LoopMet => {
-                    return true;
-                }
+    let n = g.nodes.len();
+    for root in (0..n).rev() {
+        if work[root] == 0 {
+            push(work, n, 0, root);
+            let mut size: usize = 1;
+            while size > 0 {
+                size = take_step(g, counts, work, size)?;
             }
         }
     }
-    false
+    Ok(())
 }

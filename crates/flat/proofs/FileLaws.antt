@@ -4,9 +4,6 @@ use Prim.Native.Nat.{ℕ}
 use Rattle.macondo.specs.Said.{said_macondo}
 use Rattle.macondo.specs.declared.Macondo.{Macondo}
 use Rattle.macondo.specs.declared.Macondo.TheVariants as M
-use Rattle.lxd.specs.Said.{said_lxd}
-use Rattle.lxd.specs.declared.Lxd.{Lxd}
-use Rattle.lxd.specs.declared.Lxd.TheVariants as L
 use Rattle.answers.specs.Answers.{Answer, refusal_in}
 use Rattle.flat.specs.FlatFiles.{file_of, flat_file}
 use Rattle.flat.specs.declared.files.FlatFile.{FlatFile}
@@ -33,20 +30,3 @@ macondo-says M.ChainTooLong w a = (refl, refl)
 macondo-says M.NotOneCodePoint w a = (refl, refl)
 macondo-says M.TooManyNodes w a = (refl, refl)
 macondo-says M.FileTooShort w a = (refl, refl)
-
-pub lxd-says : (x : Lxd) → ((n : ℕ) → x ≡ L.Written n → ⊥) → ((r : ℕ) → x ≡ L.ArcPastEnd r → ⊥) → Says (said_lxd x)
-lxd-says (L.Written n) w a = absurd (w n refl)
-lxd-says (L.ArcPastEnd r) w a = absurd (a r refl)
-lxd-says L.WrongSize w a = (refl, refl)
-lxd-says L.NoEnd w a = (refl, refl)
-lxd-says L.TitleNotWindows1252 w a = (refl, refl)
-lxd-says L.TitleTooLong w a = (refl, refl)
-lxd-says L.DateNotWindows1252 w a = (refl, refl)
-lxd-says L.DateTooLong w a = (refl, refl)
-lxd-says L.NoLabel w a = (refl, refl)
-lxd-says L.WorkTooShort w a = (refl, refl)
-lxd-says L.ChainTooLong w a = (refl, refl)
-lxd-says L.LetterNotWindows1252 w a = (refl, refl)
-lxd-says L.TooManyWords w a = (refl, refl)
-lxd-says L.TooManyNodes w a = (refl, refl)
-lxd-says L.FileTooShort w a = (refl, refl)

@@ -3,7 +3,9 @@ ghost use Rattle.std.specs.Prelude.{◌≡◌};
 ghost use Rattle.count.specs.Said.{said_counting};
 ghost use Rattle.flat.specs.FlatCounts.{counted_of, flat_counted};
 
-use count::Counted;
+use answers::Refuses;
+use count::CountRefusal;
+use graph::{GraphRefusal, NodesRefusal};
 
 #[repr(C)]
 #[derive(Clone, Copy)]
@@ -13,23 +15,25 @@ pub struct FlatCounted {
     pub node: u32,
 }
 
-fn counted(refusal: u32, arc: u32, node: u32) -> FlatCounted
-    ensures { result ≡ record { refusal = refusal; arc = arc; node = node } }
-{
-    FlatCounted { refusal, arc, node }
-}
-
-pub fn flat_counted(answer: Counted) -> FlatCounted
+pub fn flat_counted(answer: Result<(), CountRefusal>) -> FlatCounted
     ensures answer { counted_of result ≡ said_counting answer }
     ensures flat { result ≡ flat_counted (counted_of result) }
 {
-    match answer {
-        Counted::Done => counted(0, 0, 0),
-        Counted::WrongSize => counted(10, 0, 0),
-        Counted::ArcPastEnd(arc) => counted(8, arc, 0),
-        Counted::NoEnd => counted(9, 0, 0),
-        Counted::ListTooShort => counted(11, 0, 0),
-        Counted::Loops(node) => counted(12, 0, node),
-        Counted::TooMany => counted(13, 0, 0),
+    let Err(why) = answer else {
+        return FlatCounted {
+            refusal: 0,
+            arc: 0,
+            node: 0,
+        };
+    };
+    let (arc, node) = match why {
+        CountRefusal::Graph(GraphRefusal::Nodes(NodesRefusal::ArcPastEnd(arc))) => (arc, 0),
+        CountRefusal::Loops(node) => (0, node),
+        _ => (0, 0),
+    };
+    FlatCounted {
+        refusal: why.number(),
+        arc,
+        node,
     }
 }

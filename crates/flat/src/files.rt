@@ -1,11 +1,15 @@
 // Files for other programs. A format is a number: 0 is a DAWG, every other number a GADDAG.
 ghost use Rattle.std.specs.Prelude.{◌≡◌};
-ghost use Rattle.answers.specs.Answers.{refusal_in};
+ghost use Rattle.answers.specs.Answers.{refusal_in, as_answer};
+ghost use Rattle.graph.specs.Checks.{graph_why};
 ghost use Rattle.macondo.specs.Said.{said_macondo};
 ghost use Rattle.lxd.specs.Said.{said_lxd};
+ghost use Rattle.flat.specs.Flat.{arc_carried};
 ghost use Rattle.flat.specs.FlatFiles.{format_numbered, file_of, flat_file};
 
-use lxd::Lxd;
+use answers::Refuses;
+use graph::{GraphRefusal, NodesRefusal};
+use lxd::LxdRefusal;
 use macondo::{Macondo, MacondoFormat};
 
 // What a writer answers: the file's length in bytes.
@@ -68,35 +72,23 @@ pub fn flat_macondo(answer: Macondo) -> FlatFile
     }
 }
 
-fn lxd_refusal(answer: Lxd) -> u32
-    ensures { result ≡ refusal_in (said_lxd answer) }
+// The arc that the refusal of a graph carries, or 0.
+fn arc_past_end(why: GraphRefusal) -> u32
+    ensures { result ≡ arc_carried (as_answer (graph_why why)) }
 {
-    match answer {
-        Lxd::Written(_) => 0,
-        Lxd::WrongSize => 10,
-        Lxd::ArcPastEnd(_) => 8,
-        Lxd::NoEnd => 9,
-        Lxd::TitleNotWindows1252 => 20,
-        Lxd::TitleTooLong => 19,
-        Lxd::DateNotWindows1252 => 20,
-        Lxd::DateTooLong => 19,
-        Lxd::NoLabel => 21,
-        Lxd::WorkTooShort => 11,
-        Lxd::ChainTooLong => 22,
-        Lxd::LetterNotWindows1252 => 23,
-        Lxd::TooManyWords => 13,
-        Lxd::TooManyNodes => 25,
-        Lxd::FileTooShort => 11,
+    match why {
+        GraphRefusal::Nodes(NodesRefusal::ArcPastEnd(arc)) => arc,
+        _ => 0,
     }
 }
 
-pub fn flat_lxd(answer: Lxd) -> FlatFile
+pub fn flat_lxd(answer: Result<usize, LxdRefusal>) -> FlatFile
     ensures answer { file_of result ≡ said_lxd answer }
     ensures flat { result ≡ flat_file (file_of result) }
 {
     match answer {
-        Lxd::Written(written) => file(0, 0, written),
-        Lxd::ArcPastEnd(arc) => file(8, arc, 0),
-        _ => file(lxd_refusal(answer), 0, 0),
+        Ok(written) => file(0, 0, written),
+        Err(LxdRefusal::Graph(why)) => file(why.number(), arc_past_end(why), 0),
+        Err(why) => file(why.number(), 0, 0),
     }
 }

@@ -1,5 +1,5 @@
 -- What the proofs of several functions use.
-mod CheckRows
+mod AlongNodes
 pub mod CountedOnce
 pub mod WordsAscend
 pub mod WordsEquationLaws

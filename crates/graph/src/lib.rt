@@ -79,6 +79,7 @@ fn last_ends(nodes: &[u32]) -> bool
 }
 
 // Whether every arc leads to a node and the last node ends its run, so that no walk leaves the nodes.
+#[tactic(auto, unfolding(answers::specs::Answers::first_of))]
 pub fn check_nodes(nodes: &[u32]) -> Result<(), NodesRefusal>
     ensures { nodes_refusal result ≡ first_of (nodes_row nodes.now) }
 {
@@ -93,6 +94,7 @@ pub fn check_nodes(nodes: &[u32]) -> Result<(), NodesRefusal>
 }
 
 // The same, of a graph that is neither too small nor too large to number its words; answers the nodes as checked ones.
+#[tactic(auto, unfolding(answers::specs::Answers::first_of))]
 pub fn check_graph(nodes: &[u32]) -> Result<FitGraph<'_>, GraphRefusal>
     ensures refused { graph_refusal result ≡ first_of (graph_row nodes.now) }
     ensures same { IfOk result (λ g. g.nodes.now ≡ nodes.now) }

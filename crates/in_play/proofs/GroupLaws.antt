@@ -1,20 +1,22 @@
 -- What a group says of its numbers: bit k of the bytes joined from byte i on is that of number 8 * i + k.
-use mathlib.Core.Path.{◌≡◌, sym, ap, ap₂, ◌∙◌}
+use mathlib.Core.Path.{◌≡◌, refl, sym, ap, ap₂, ◌∙◌}
 use mathlib.Core.Bool.{not}
-use mathlib.Core.List.{List, [], ◌∷◌}
-use Prim.Native.Nat.{ℕ, suc, ◌+◌, ◌-◌, ◌*◌, ◌/◌, ◌%◌, ◌^◌, ◌≤◌, ◌<◌}
+use mathlib.Core.List.{List, [], ◌∷◌, ◌++◌}
+use Prim.Native.Nat.{ℕ, zero, suc, ◌+◌, ◌-◌, ◌*◌, ◌/◌, ◌%◌, ◌^◌, ◌≤◌, ◌<◌}
 use native.Mathlib.Nat.{mod-add-div', mul_assoc, mul_comm, le_trans}
 use native.Mathlib.Numerals.{add-one}
 use native.Mathlib.Omega.{arith}
-use borrow.Author.Tests.{ltb-true, ltb-false}
-use lib.Bits.{xor_lt}
+use borrow.Author.Tests.{ltb-true, ltb-false, eqb-true, eqb-false}
 use lib.Dec.{eqb, ltb, lit<}
-use lib.ListN.{length, get_or, take, length-take, get_or-eq_default}
-use lib.Pow.{shr-shr, pow-add, pow_mono, ones_lt}
-use lib.Seq.{slice, slice-cons, slice_empty, length-slice, get_or-take, get_or-drop}
-use Rattle.laws.specs.Bits.{has_bit, zero_bit, low_bit, higher_power, xor_bit, ones_bit, turned_if}
+use lib.ListN.{length, get_or, take, drop, replicate, length-take, get_or-eq_default}
+use lib.Pow.{shr-shr, pow-add, pow_mono}
+use lib.Seq.{drop-drop, slice, slice-cons, slice_empty, length-slice, get_or-take, get_or-drop}
+use Rattle.std.specs.Int.{w64, bit_at, from_le_bytes}
+use Rattle.std.specs.Simd.{first_chunks}
+use Rattle.std.proofs.lemmas.List.{take_all, take-take, drop-take}
+use Rattle.std.proofs.lemmas.Nat.Bits.{bit_at_not}
+use Rattle.laws.specs.Bits.{has_bit, zero_bit, low_bit, higher_power}
 use Rattle.laws.specs.Cases.{split}
-use Rattle.endian.specs.Bytes.{node_at}
 use Rattle.in_play.specs.InPlay.{in_play}
 use Rattle.in_play.specs.Groups.{joined, clear_bits}
 
@@ -63,6 +65,15 @@ joined-bit (b ∷ bs) h k =
     let r : k % 8 ≡ (k - 8) % 8 = omega arith in
     joined-high b (joined bs) k (h 0) l ∙ joined-bit bs (tail_bytes b bs h) (k - 8) ∙ sym (ap₂ (λ n m. has_bit (get_or (b ∷ bs) n 0) m) q r))
 
+not-bit : (v k : ℕ) → not (has_bit v k) ≡ eqb (1 - bit_at v k) 1
+not-bit v k =
+    split (has_bit v k)
+    (λ t. let e : bit_at v k ≡ 1 = eqb-true (bit_at v k) 1 t in rw (t, e))
+    (λ t. let n = eqb-false (bit_at v k) 1 t in let e : bit_at v k ≡ 0 = omega arith in rw (t, e))
+
+pub clear-below : (group : ℕ) → clear_bits group < 2 ^ 64
+clear-below group = omega arith
+
 -- the lowest d bits of a number
 pub low_bits : (v d k : ℕ) → k < d → has_bit v k ≡ has_bit (v % 2 ^ d) k
 low_bits v d k h =
@@ -100,14 +111,12 @@ module _ (bits : List ℕ) (bytes : Bytes bits) where
 
   -- the clear bits of at most eight bytes tell which numbers are not in play
   module _ (i end : ℕ) (few : end ≤ i + 8) where
-    pub clear-below : end ≤ length bits → clear_bits (joined (slice i end bits)) < 2 ^ 64
-    clear-below lent = xor_lt 64 (joined (slice i end bits)) (2 ^ 64 - 1) (part-below i end 8 lent few) (ones_lt 64)
-
-    pub clear-bit : (k : ℕ) → 8 * i + k < 8 * end → not (in_play bits (8 * i + k)) ≡ has_bit (clear_bits (joined (slice i end bits))) k
-    clear-bit k h =
-        sym
-        (xor_bit (joined (slice i end bits)) (2 ^ 64 - 1) k
-        ∙ ap₂ turned_if (group-bit i end k h) (ones_bit 64 k (omega arith)))
+    pub clear-bit : (k : ℕ) → 8 * i + k < 8 * end → end ≤ length bits
+        → not (in_play bits (8 * i + k)) ≡ has_bit (clear_bits (joined (slice i end bits))) k
+    clear-bit k h lent =
+        let small = part-below i end 8 lent few in
+        let other = bit_at_not w64 (joined (slice i end bits)) k small (omega arith) in
+        ap not (sym (group-bit i end k h)) ∙ not-bit (joined (slice i end bits)) k ∙ ap (λ n. eqb n 1) (sym other)
 
 -- ---- a group byte by byte
 module _ (bits : List ℕ) (end : ℕ) (lent : end ≤ length bits) where
@@ -117,22 +126,43 @@ module _ (bits : List ℕ) (end : ℕ) (lent : end ≤ length bits) where
   pub joined-none : joined (slice end end bits) ≡ 0
   joined-none = ap joined (slice_empty end bits)
 
-  -- four at a time
-  pub joined_four : (i : ℕ) → i + 4 ≤ end → joined (slice i end bits) ≡ node_at bits i + 4294967296 * joined (slice (i + 4) end bits)
-  joined_four i h =
-      let a = joined-from i (omega arith) in
-      let b = at_next 1 (omega arith) in
-      let c = at_next 2 (omega arith) in
-      let d = at_next 3 (omega arith) in
-      omega arith
-    where
-      at_next : (k : ℕ) → i + k < end → joined (slice (i + k) end bits) ≡ get_or bits (i + k) 0 + 256 * joined (slice (i + suc k) end bits)
-      at_next k l = let e : i + k + 1 ≡ i + suc k = omega arith in joined-from (i + k) l ∙ ap (λ n. get_or bits (i + k) 0 + 256 * joined (slice n end bits)) e
-
-pub joined_eight : (bits : List ℕ) (i : ℕ) → i + 8 ≤ length bits → joined (slice i (i + 8) bits) ≡ node_at bits (i + 4) * 4294967296 + node_at bits i
-joined_eight bits i h =
-    let a = joined_four bits (i + 8) h i (omega arith) in
-    let b = joined_four bits (i + 8) h (i + 4) (omega arith) in
-    let e : i + 4 + 4 ≡ i + 8 = omega arith in
-    let z = ap (λ k. joined (slice k (i + 8) bits)) e ∙ joined-none bits (i + 8) h in
+-- eight bytes as the library joins them
+pub joined_eight : (bs : List ℕ) → length bs ≡ 8 → from_le_bytes w64 bs ≡ joined bs
+joined_eight bs e =
+    let lent : 8 ≤ length bs = omega arith in
+    let at_0 = joined-from bs 8 lent 0 (omega arith) in
+    let at_1 = joined-from bs 8 lent 1 (omega arith) in
+    let at_2 = joined-from bs 8 lent 2 (omega arith) in
+    let at_3 = joined-from bs 8 lent 3 (omega arith) in
+    let at_4 = joined-from bs 8 lent 4 (omega arith) in
+    let at_5 = joined-from bs 8 lent 5 (omega arith) in
+    let at_6 = joined-from bs 8 lent 6 (omega arith) in
+    let at_7 = joined-from bs 8 lent 7 (omega arith) in
+    let none = joined-none bs 8 lent in
+    let all : joined (slice 0 8 bs) ≡ joined bs = ap joined (take_all 8 bs (omega arith)) in
     omega arith
+
+-- the eighth part of a record
+pub group-there : {X : Type 0} (count : ℕ) (l : List X) (g : ℕ) (d : List X) → g < count → get_or (first_chunks 8 count l) g d ≡ take 8 (drop (g * 8) l)
+group-there zero l g d h = absurd (omega arith)
+group-there (suc count) l zero d h = refl
+group-there (suc count) l (suc g) d h =
+    let e : 8 + g * 8 ≡ suc g * 8 = omega arith in
+    group-there count (drop 8 l) g d (omega arith) ∙ ap (take 8) (drop-drop (g * 8) 8 l ∙ ap (λ n. drop n l) e)
+
+-- a group of a record as the library joins it
+pub group_joined : (bits : List ℕ) (count g : ℕ) {groups : List (List ℕ)} → groups ≡ first_chunks 8 count (take (count * 8) bits)
+    → g < count → count * 8 ≤ length bits → from_le_bytes w64 (get_or groups g []) ≡ joined (slice (g * 8) (g * 8 + 8) bits)
+group_joined bits count g {groups} e h lent =
+    let part : get_or groups g [] ≡ slice (g * 8) (g * 8 + 8) bits =
+    ap (λ l. get_or l g []) e
+    ∙ group-there count (take (count * 8) bits) g [] h
+    ∙ sym (drop-take (g * 8) 8 (take (count * 8) bits))
+    ∙ ap (drop (g * 8)) (take-take (g * 8 + 8) (count * 8) bits (omega arith)) in
+    ap (from_le_bytes w64) part ∙ joined_eight (slice (g * 8) (g * 8 + 8) bits) (omega (arith, length-slice (g * 8) (g * 8 + 8) bits (omega arith)))
+
+-- bytes that are 0 add nothing
+pub joined_zeros : (bs : List ℕ) (n : ℕ) → joined (bs ++ replicate n 0) ≡ joined bs
+joined_zeros [] zero = refl
+joined_zeros [] (suc n) = let r = joined_zeros [] n in omega arith
+joined_zeros (b ∷ bs) n = ap (λ j. b + 256 * j) (joined_zeros bs n)

@@ -1,9 +1,9 @@
 -- The scan of the record, group after group. The idea: the numbers not in play from a group on are those of the group, told by its clear bits,
 -- and those from the next group on.
-use mathlib.Core.Path.{◌≡◌, refl, sym, ap, ◌∙◌}
+use mathlib.Core.Path.{◌≡◌, sym, ap, ◌∙◌}
 use mathlib.Core.Bool.{Bool, not}
 use mathlib.Core.Logic.{◌≢◌}
-use mathlib.Core.List.{List, [], ◌∷◌, ◌++◌, append-nil}
+use mathlib.Core.List.{List, [], ◌++◌, append-nil}
 use Prim.Native.Nat.{ℕ, ◌+◌, ◌-◌, ◌*◌, ◌/◌, ◌%◌, ◌^◌, ◌≤◌, ◌<◌}
 use native.Mathlib.Nat.{mod-lt}
 use native.Mathlib.Omega.{arith}
@@ -14,8 +14,7 @@ use lib.Seq.{slice}
 use Rattle.laws.specs.Bits.{has_bit}
 use Rattle.laws.specs.Lists.{filtered, none_left}
 use Rattle.laws.specs.Members.{filtered-length, filtered_append}
-use Rattle.answers.specs.Answers.{gives}
-use Rattle.in_play.specs.InPlay.{in_play, up_from, not_in_play, remaining}
+use Rattle.in_play.specs.InPlay.{in_play, up_from, not_in_play}
 use Rattle.in_play.specs.Groups.{joined, clear_bits, last_clear, first_or}
 use Rattle.in_play.proofs.UpFromLaws.{told-count, told-lowest, lowest-below, up_append, up-length}
 use Rattle.in_play.proofs.GroupLaws.{Bytes, low_bits, clear-below, clear-bit}
@@ -50,10 +49,11 @@ module _ (bits : List ℕ) (total : ℕ) where
       here = filtered out (up_from (64 * g) 64)
 
       told : (k : ℕ) → k < 64 → out (64 * g + k) ≡ has_bit clear k
-      told k l = let e : 64 * g + k ≡ 8 * (g * 8) + k = omega arith in ap out e ∙ clear-bit bits bytes (g * 8) (g * 8 + 8) (omega arith) k (omega arith)
+      told k l = let e : 64 * g + k ≡ 8 * (g * 8) + k = omega arith in
+          ap out e ∙ clear-bit bits bytes (g * 8) (g * 8 + 8) (omega arith) k (omega arith) (omega arith)
 
       small : clear < 2 ^ 64
-      small = clear-below bits bytes (g * 8) (g * 8 + 8) (omega arith) (omega arith)
+      small = clear-below (joined (slice (g * 8) (g * 8 + 8) bits))
 
       here-first : left_from g ≡ here ++ left_from (g + 1)
       unfolding here
@@ -88,7 +88,7 @@ module _ (bits : List ℕ) (total : ℕ) where
     last-told k h =
         let e : 64 * (total / 64) + k ≡ 8 * (total / 64 * 8) + k = omega arith in
         ap out e
-        ∙ clear-bit bits bytes (total / 64 * 8) ((total + 7) / 8) (omega arith) k (omega arith)
+        ∙ clear-bit bits bytes (total / 64 * 8) ((total + 7) / 8) (omega arith) k (omega arith) (omega arith)
         ∙ low_bits (clear_bits (joined (slice (total / 64 * 8) ((total + 7) / 8) bits))) (total % 64) k h
 
     last-left : left_from (total / 64) ≡ filtered out (up_from (64 * (total / 64)) (total % 64))
@@ -110,12 +110,3 @@ module _ (bits : List ℕ) (total : ℕ) where
 
       pub last-below : count_trailing_zeros 64 (last_clear bits total) < total % 64
       last-below = lowest-below (total % 64) 64 (last_clear bits total) (omega arith) last-small n
-
--- ---- the answer, by how many are left
-pub remaining-none : (l : List ℕ) → length l ≡ 0 → remaining (length l) l ≡ gives (0 ∷ [])
-remaining-none [] h = refl
-remaining-none (n ∷ l) h = absurd (omega arith)
-
-pub remaining-some : (l : List ℕ) → length l ≢ 0 → remaining (length l) l ≡ gives (length l ∷ first_or 0 l ∷ [])
-remaining-some [] h = absurd (h refl)
-remaining-some (n ∷ l) h = refl

@@ -1,6 +1,6 @@
 -- The record in groups of eight bytes, as it is scanned: a group is one number, whose 64 bits stand for 64 words in a row.
-use Rattle.std.specs.Prelude.{List, [], ◌∷◌, ℕ, ◌+◌, ◌-◌, ◌*◌, ◌/◌, ◌%◌, ◌^◌}
-use Rattle.std.specs.Int.Bits.{bit_xor}
+use Rattle.std.specs.Prelude.{List, [], ◌∷◌, ℕ, ◌+◌, ◌*◌, ◌/◌, ◌%◌, ◌^◌}
+use Rattle.std.specs.Int.{w64, bit_not}
 use Rattle.std.proofs.Math.Seq.{slice}
 
 -- bytes as one number, the first the lowest
@@ -10,7 +10,7 @@ joined (b ∷ bs) = b + 256 * joined bs
 
 -- the bits that are clear in a group
 abbrev pub clear_bits : ℕ → ℕ
-clear_bits group = bit_xor group (2 ^ 64 - 1)
+clear_bits group = bit_not w64 group
 
 -- of the group in which the count ends, the clear bits below the count
 abbrev pub last_clear : List ℕ → ℕ → ℕ

@@ -1,73 +1,54 @@
 // Which word of the start's lexicon is meant.
-ghost use Rattle.std.specs.Prelude.{◌≡◌};
+ghost use Rattle.std.specs.Prelude.{◌≡◌, ◌*◌, ◌<◌, ◌≤◌, IfOk};
 ghost use Rattle.graph.specs.Counting.{count_limit};
 ghost use Rattle.in_play.specs.InPlay.{start_count, in_lexicon};
 ghost use Rattle.in_play.specs.Said.{start_says, found_as};
 
-use lookup::WordIndex;
-
-#[derive(Clone, Copy)]
-pub enum StartCount {
-    Words(u32),
-    NotLent,
-}
+use crate::refusals::PlayRefusal;
+use lookup::NotLent;
 
 // A word's number, and how many words there are.
 #[derive(Clone, Copy)]
-pub enum InLexicon {
-    Number { number: u32, total: u32 },
-    NotLent,
-    TooFewBits,
-    OutOfRange,
-    NoWord,
+pub struct InLexicon {
+    pub number: u32,
+    pub total: u32,
 }
 
 // How many words the start has. Start 0 has none, whatever its count.
-fn start_count(nodes: &[u32], counts: &[u32], start: u32) -> StartCount
+#[tactic(auto, unfolding(crate::specs::InPlay::start_count, lookup::specs::Steps::lent))]
+fn start_count(nodes: &[u32], counts: &[u32], start: u32) -> Result<u32, NotLent>
     ensures { start_says result ≡ start_count nodes.now counts.now start }
 {
     let p = start as usize;
     if nodes.len() <= p {
-        return StartCount::NotLent;
+        return Err(NotLent);
     }
     if p == 0 {
-        return StartCount::Words(0);
+        return Ok(0);
     }
-    if counts.len() <= p {
-        return StartCount::NotLent;
-    }
-    StartCount::Words(counts[p])
+    counts.get(p).copied().ok_or(NotLent)
 }
 
 // The word's number, where a record of so many bytes has a bit for each word.
+#[tactic(auto, unfolding(crate::specs::InPlay::in_lexicon))]
 pub(crate) fn in_lexicon(
     nodes: &[u32],
     counts: &[u32],
     start: u32,
     word: &[u8],
     bytes: usize,
-) -> InLexicon
-    ensures { found_as result ≡ in_lexicon count_limit nodes.now counts.now start word.now bytes }
+) -> Result<InLexicon, PlayRefusal>
+    ensures found { found_as result ≡ in_lexicon count_limit nodes.now counts.now start word.now bytes }
+    ensures within { IfOk result (λ f. (f.number < f.total) × (f.total ≤ 8 * bytes)) }
 {
-    let words = start_count(nodes, counts, start);
-    match words {
-        StartCount::Words(total) => {
-            if bytes < (total as usize + 7) / 8 {
-                return InLexicon::TooFewBits;
-            }
-            let index = lookup::get_word_index(nodes, counts, start, word);
-            match index {
-                WordIndex::Number(number) => {
-                    if total <= number {
-                        return InLexicon::NoWord;
-                    }
-                    InLexicon::Number { number, total }
-                }
-                WordIndex::Absent => InLexicon::NoWord,
-                WordIndex::NotLent => InLexicon::NotLent,
-                WordIndex::OutOfRange => InLexicon::OutOfRange,
-            }
-        }
-        StartCount::NotLent => InLexicon::NotLent,
+    let total = start_count(nodes, counts, start)?;
+    if bytes < total.div_ceil(8) as usize {
+        return Err(PlayRefusal::TooFewBits);
     }
+    let found = lookup::get_word_index(nodes, counts, start, word)?;
+    let number = found.ok_or(PlayRefusal::NoWord)?;
+    if total <= number {
+        return Err(PlayRefusal::NoWord);
+    }
+    Ok(InLexicon { number, total })
 }

@@ -1,13 +1,14 @@
 -- The row of a state's checks past those of 4, and what feed does, by the facts that decide it.
 use Rattle.std.specs.Prelude.{◌≡◌, refl, List, [], ℕ, ◌+◌, ◌≤◌, ◌<◌, length}
 use Rattle.std.proofs.Math.Path.{ap}
-use Rattle.std.proofs.Common.{◌∙◌, lt-ltb, le-ltb}
+use Rattle.std.proofs.Common.{sym, ◌∙◌, ltb-false, lt-ltb, le-ltb}
 use Rattle.std.proofs.Math.Option.{Option, none, some}
 use Rattle.answers.specs.Answers.{Answer, refused, first_of}
-use Rattle.answers.specs.RowLaws.{row-refuses, row-passes, row_ends, rows_refuse, rows_pass}
+use Rattle.answers.specs.RowLaws.{row-refuses, row-passes, row_ends, row-passed, rows_refuse, rows_pass, rows-passed}
 use Rattle.graph.specs.Runs.{Graph}
 use Rattle.load.specs.Repacking.{misfit_answer}
 use Rattle.load.specs.Loading.{sound_row, kept_misfit, kept_row, state_row, feed_row, feeds, feed}
+use Rattle.load.proofs.StateLaws.{Sound, sound}
 use Rattle.load.specs.declared.repack.Misfit.{Misfit}
 use Rattle.load.specs.declared.loader.Loader.{Loader}
 
@@ -17,6 +18,14 @@ module _ (s : Loader) (lent_nodes : ℕ) (ok : first_of (sound_row s lent_nodes)
 
   pub state-passes : kept_misfit s.kept ≡ none → first_of (state_row s lent_nodes) ≡ none
   state-passes k = rows_pass (sound_row s lent_nodes) _ ok ∙ ap (λ o. first_of (kept_row o)) k ∙ row_ends
+
+-- what holds of a state and a piece that pass
+pub feed-passed : (s : Loader) (lent_nodes : ℕ) (piece : List ℕ) → first_of (feed_row s lent_nodes piece) ≡ none
+    → Sound s lent_nodes × (s.taken + length piece ≤ s.announced)
+feed-passed s lent_nodes piece e =
+    let state = rows-passed (state_row s lent_nodes) _ e in
+    let last = row-passed _ _ _ (sym (rows_pass (state_row s lent_nodes) _ state) ∙ e) in
+    (sound s lent_nodes (rows-passed (sound_row s lent_nodes) _ state), ltb-false s.announced (s.taken + length piece) last.0)
 
 -- ---- feed
 module _ (s : Loader) (nodes : Graph) (piece : List ℕ) where

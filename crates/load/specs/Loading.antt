@@ -1,5 +1,6 @@
 -- Loading a file: begin, feed and finish, each on every state and piece; from document 01, "Loading" and the rows begin, feed and finish.
-use Rattle.std.specs.Prelude.{Bool, true, false, ◌&&◌, ◌||◌, not, List, [], ◌∷◌, ◌++◌, ℕ, ◌+◌, ◌*◌, ◌/◌, ◌%◌, max, eqb, ltb, length, get_or, take, drop, set}
+use Rattle.std.specs.Prelude.{Bool, true, false, ◌||◌, not, List, [], ◌∷◌, ◌++◌, ℕ, ◌+◌, ◌*◌, ◌/◌, ◌%◌, max, eqb, ltb, length, get_or, take, drop, set, Option as Maybe, None, Some}
+use Rattle.std.specs.List.{list_all}
 use Rattle.std.proofs.Math.Option.{Option, none, some}
 use Rattle.std.proofs.lemmas.List.Edits.{sets}
 use Rattle.laws.specs.Cases.{is_some}
@@ -12,8 +13,6 @@ use Rattle.graph.specs.Checks.{nodes_row}
 use Rattle.endian.specs.Bytes.{whole_nodes, part_node}
 use Rattle.load.specs.Repacking.{first_misfit, fitting, misfit_refusal, misfit_answer}
 use Rattle.load.specs.declared.repack.Misfit.{Misfit}
-use Rattle.load.specs.declared.loader.KeptRefusal.{KeptRefusal}
-use Rattle.load.specs.declared.loader.KeptRefusal.TheVariants.{Nothing, DoesNotFit}
 use Rattle.load.specs.declared.loader.Loader.{Loader}
 
 -- ---- the state
@@ -30,7 +29,7 @@ holding announced layout taken part =
       taken = taken;
       held = places part;
       held_count = length part;
-      kept = Nothing;
+      kept = None;
     }
 
 -- "After refusal 6 on node i, the bytes taken are 4 × i, none are held"
@@ -42,7 +41,7 @@ stopped announced layout m =
       taken = 4 * m.node;
       held = places [];
       held_count = 0;
-      kept = DoesNotFit m;
+      kept = Some m;
     }
 
 -- "nothing taken, held or kept"
@@ -60,8 +59,7 @@ begin_row announced lent_nodes =
 
 -- "unused places 0"
 unfoldable pub zeros : List ℕ → Bool
-zeros [] = true
-zeros (b ∷ bs) = eqb b 0 && zeros bs
+zeros bs = list_all (λ b. eqb b 0) bs
 
 -- "4+ length that begin refuses for this buffer, taken above length, or held bytes not taken mod 4, or an unused place not 0"
 abbrev pub sound_row : Loader → ℕ → Row
@@ -73,9 +71,9 @@ sound_row s lent_nodes =
     ∷ []
 
 -- "a refusal 6 once met"
-abbrev pub kept_misfit : KeptRefusal → Option Misfit
-kept_misfit Nothing = none
-kept_misfit (DoesNotFit m) = some m
+abbrev pub kept_misfit : Maybe Misfit → Option Misfit
+kept_misfit None = none
+kept_misfit (Some m) = some m
 
 -- "then a kept 6": one more check where a misfit is kept
 abbrev pub kept_row : Option Misfit → Row

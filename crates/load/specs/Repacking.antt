@@ -1,18 +1,21 @@
 -- Nodes of one layout in another, up to the first that doesn't fit; from document 01, "Loading" and the row "repacking".
-use Rattle.std.specs.Prelude.{true, false, List, [], ◌∷◌, ℕ, suc}
+use Rattle.std.specs.Prelude.{◌≡◌, true, false, List, [], ◌∷◌, ℕ, suc, Result, Ok, Err}
 use Rattle.std.proofs.Math.Option.{Option, none, some}
 use Rattle.std.proofs.lemmas.List.Edits.{sets}
 use Rattle.answers.specs.Answers.{Answer, gives, Refusal, refusing, as_answer}
 use Rattle.node.specs.Nodes.{BitLayout, fields, tile, arc, fits, packed}
 use Rattle.endian.specs.Bytes.{whole_nodes, node_bytes}
 use Rattle.load.specs.declared.repack.Misfit.{Misfit}
-use Rattle.load.specs.declared.repack.Repacked.{Repacked}
-use Rattle.load.specs.declared.repack.Repacked.TheVariants.{Whole, DoesNotFit}
 
 abbrev pub misfit : ℕ → ℕ → ℕ → Misfit
 misfit node tile arc = record { node = node; tile = tile; arc_index = arc }
 
 module _ (old new : BitLayout) where
+  -- node i of a file, which is v, in the new layout: "6 node doesn't fit (carries node, tile, arc)"
+  abbrev pub NodeRepacked : ℕ → ℕ → Result ℕ Misfit → Type 0
+  NodeRepacked i v (Ok w) = (fits new (fields old v) ≡ true) × (w ≡ packed new (fields old v))
+  NodeRepacked i v (Err m) = (fits new (fields old v) ≡ false) × (m ≡ misfit i (tile old v) (arc old v))
+
   -- the first node that doesn't fit; i is the number of the first of them all
   unfoldable pub first_misfit : ℕ → List ℕ → Option Misfit
   first_misfit i [] = none
@@ -45,9 +48,9 @@ module _ (old new : BitLayout) (bytes : List ℕ) where
   repacked_bytes = sets bytes 0 (node_bytes (fitting old new (whole_nodes bytes)))
 
 -- the node that stopped a repacking, if any
-abbrev pub misfit_of : Repacked → Option Misfit
-misfit_of Whole = none
-misfit_of (DoesNotFit m) = some m
+abbrev pub misfit_of : {A : Type 0} → Result A Misfit → Option Misfit
+misfit_of (Ok a) = none
+misfit_of (Err m) = some m
 
-abbrev pub said_repack : Repacked → Answer
+abbrev pub said_repack : Result Unit Misfit → Answer
 said_repack r = misfit_answer (misfit_of r)

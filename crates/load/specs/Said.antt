@@ -1,49 +1,73 @@
 -- What the answers of begin, feed and finish say.
-use Rattle.std.specs.Prelude.{[], ◌∷◌}
-use Rattle.std.proofs.Math.Option.{Option, none, some}
-use Rattle.answers.specs.Answers.{Answer, gives, refused, or_else}
+use Rattle.std.specs.Prelude.{[], ◌∷◌, ℕ, Result, Ok, Err}
+use Rattle.std.proofs.Math.Option.{Option}
+use Rattle.answers.specs.Answers.{Answer, gives, Refusal, refusing, said_result, refusal_of}
 use Rattle.graph.specs.Runs.{Graph}
-use Rattle.load.specs.Repacking.{misfit_answer}
-use Rattle.load.specs.Loading.{Begins, Feeds, Finishes}
-use Rattle.load.specs.declared.loader.BeginAnswer.{BeginAnswer}
-use Rattle.load.specs.declared.loader.BeginAnswer.TheVariants.{Ready, NotWholeNodes, OverLimit, NodesTooShort}
-use Rattle.load.specs.declared.loader.FeedAnswer.{FeedAnswer}
-use Rattle.load.specs.declared.loader.FeedAnswer.TheVariants.{Taken, BadState as FedBadState, TooLong, DoesNotFit as FedMisfit}
-use Rattle.load.specs.declared.loader.Finished.{Finished}
-use Rattle.load.specs.declared.loader.Finished.TheVariants.{Nodes, BadState, DoesNotFit, Missing, ArcPastEnd, NoEnd}
+use Rattle.graph.specs.Checks.{nodes_why}
+use Rattle.load.specs.Repacking.{misfit_refusal}
+use Rattle.load.specs.Loading.{stopped, Begins, Feeds, Finishes}
+use Rattle.load.specs.declared.repack.Misfit.{Misfit}
+use Rattle.load.specs.declared.refusals.BeginRefusal.{BeginRefusal}
+use Rattle.load.specs.declared.refusals.BeginRefusal.TheVariants.{NotWholeNodes, OverLimit, NodesTooShort}
+use Rattle.load.specs.declared.refusals.StateRefusal.{StateRefusal}
+use Rattle.load.specs.declared.refusals.StateRefusal.TheVariants.{BadState, DoesNotFit}
+use Rattle.load.specs.declared.refusals.FeedRefusal.{FeedRefusal}
+use Rattle.load.specs.declared.refusals.FeedRefusal.TheVariants as Feed
+use Rattle.load.specs.declared.refusals.FinishRefusal.{FinishRefusal}
+use Rattle.load.specs.declared.refusals.FinishRefusal.TheVariants as Finish
+use Rattle.load.specs.declared.loader.Loader.{Loader}
 use Rattle.load.specs.declared.loader.Begun.{Begun}
 use Rattle.load.specs.declared.loader.Fed.{Fed}
 
 -- what begin refuses by
-abbrev pub begin_refusal : BeginAnswer → Option Answer
-begin_refusal Ready = none
-begin_refusal NotWholeNodes = some (refused 1 [])
-begin_refusal OverLimit = some (refused 2 [])
-begin_refusal NodesTooShort = some (refused 3 [])
+abbrev pub begin_why : BeginRefusal → Refusal
+begin_why NotWholeNodes = refusing 1 []
+begin_why OverLimit = refusing 2 []
+begin_why NodesTooShort = refusing 3 []
 
-abbrev pub said_begin : BeginAnswer → Answer
-said_begin r = or_else (begin_refusal r) (gives [])
+abbrev pub begin_refusal : Result Unit BeginRefusal → Option Answer
+begin_refusal r = refusal_of begin_why r
 
-abbrev pub said_feed : FeedAnswer → Answer
-said_feed Taken = gives []
-said_feed FedBadState = refused 4 []
-said_feed TooLong = refused 5 []
-said_feed (FedMisfit m) = misfit_answer (some m)
+abbrev pub said_begin : Result Unit BeginRefusal → Answer
+said_begin r = said_result (λ _. gives []) begin_why r
 
-abbrev pub said_finish : Finished → Answer
-said_finish (Nodes n) = gives (n ∷ [])
-said_finish BadState = refused 4 []
-said_finish (DoesNotFit m) = misfit_answer (some m)
-said_finish Missing = refused 7 []
-said_finish (ArcPastEnd r) = refused 8 (r ∷ [])
-said_finish NoEnd = refused 9 []
+-- what feed and finish refuse a state by
+abbrev pub state_why : StateRefusal → Refusal
+state_why BadState = refusing 4 []
+state_why (DoesNotFit m) = misfit_refusal m
+
+abbrev pub state_refusal : Result Unit StateRefusal → Option Answer
+state_refusal r = refusal_of state_why r
+
+abbrev pub feed_why : FeedRefusal → Refusal
+feed_why (Feed.State why) = state_why why
+feed_why Feed.TooLong = refusing 5 []
+
+abbrev pub said_feed : Result Unit FeedRefusal → Answer
+said_feed r = said_result (λ _. gives []) feed_why r
+
+abbrev pub finish_why : FinishRefusal → Refusal
+finish_why (Finish.State why) = state_why why
+finish_why Finish.Missing = refusing 7 []
+finish_why (Finish.Nodes why) = nodes_why why
+
+abbrev pub said_finish : Result ℕ FinishRefusal → Answer
+said_finish r = said_result (λ n. gives (n ∷ [])) finish_why r
 
 -- A call's result in the terms of its definition.
 abbrev pub begun_as : Begun → Begins
 begun_as r = record { answer = said_begin r.answer; state = r.loader }
 
-abbrev pub fed_as : Fed → Graph → Feeds
-fed_as r nodes = record { answer = said_feed r.answer; state = r.loader; nodes = nodes }
+abbrev pub feeds_as : Result Unit FeedRefusal → Loader → Graph → Feeds
+feeds_as r state nodes = record { answer = said_feed r; state = state; nodes = nodes }
 
-abbrev pub finished_as : Finished → Graph → Finishes
+abbrev pub fed_as : Fed → Graph → Feeds
+fed_as r nodes = feeds_as r.answer r.loader nodes
+
+abbrev pub finished_as : Result ℕ FinishRefusal → Graph → Finishes
 finished_as r nodes = record { answer = said_finish r; nodes = nodes }
+
+-- the state that a read piece leaves: the one read, or the one that keeps the node that stopped it
+abbrev pub left_by : Loader → Result Loader Misfit → Loader
+left_by s (Ok after) = after
+left_by s (Err m) = stopped s.announced s.layout m

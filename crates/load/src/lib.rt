@@ -3,7 +3,9 @@
 
 mod held;
 mod loader;
+mod refusals;
 mod repack;
 
-pub use loader::{BeginAnswer, Begun, Fed, FeedAnswer, Finished, KeptRefusal, Loader};
-pub use repack::{Misfit, Repacked, repack_in_place};
+pub use loader::{Begun, Fed, Loader};
+pub use refusals::{BeginRefusal, FeedRefusal, FinishRefusal, StateRefusal};
+pub use repack::{Misfit, repack_in_place};

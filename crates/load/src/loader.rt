@@ -3,296 +3,206 @@ ghost use Rattle.std.specs.Prelude.{◌≡◌, not, ◌+◌, ◌*◌, ◌/◌, �
 ghost use Rattle.std.proofs.Math.Option.{none};
 ghost use Rattle.laws.specs.Cases.{is_some};
 ghost use Rattle.answers.specs.Answers.{first_of};
-ghost use Rattle.load.specs.Loading.{begin_row, sound_row, begin, fresh_loader, stopped, state_after, nodes_after, held_then, feed, finish};
-ghost use Rattle.load.specs.Said.{begin_refusal, begun_as, fed_as, finished_as};
+ghost use Rattle.load.specs.Repacking.{misfit_of};
+ghost use Rattle.load.specs.Loading.{begin_row, sound_row, state_row, feed_row, begin, fresh_loader, stopped, misfit_in, state_after, nodes_after, held_then, feed, finish};
+ghost use Rattle.load.specs.Said.{begin_refusal, state_refusal, begun_as, feeds_as, fed_as, finished_as, left_by};
 
-use crate::repack::{Misfit, Repacked};
-use graph::NodesCheck;
-use node::{Layout, Packed};
+use crate::refusals::{BeginRefusal, FeedRefusal, FinishRefusal, StateRefusal};
+use crate::repack::Misfit;
+use node::Layout;
 
-#[derive(Clone, Copy)]
-pub enum BeginAnswer {
-    Ready,
-    NotWholeNodes,
-    OverLimit,
-    NodesTooShort,
-}
-
-#[derive(Clone, Copy)]
-pub enum FeedAnswer {
-    Taken,
-    BadState,
-    TooLong,
-    DoesNotFit(Misfit),
-}
-
-#[derive(Clone, Copy)]
-pub enum Finished {
-    Nodes(usize),
-    BadState,
-    DoesNotFit(Misfit),
-    Missing,
-    ArcPastEnd(u32),
-    NoEnd,
-}
-
-// The refusal that a load keeps once a node does not fit.
-#[derive(Clone, Copy)]
-pub enum KeptRefusal {
-    Nothing,
-    DoesNotFit(Misfit),
-}
-
-// The state of a load. The first held_count places of held are the bytes after the last whole node.
-#[derive(Clone, Copy)]
+// The state of a load. The first held_count places of held are the bytes after the last whole node: the C interface lends the state whole,
+// with whatever it holds, so it has an array and a count and no heap. It keeps the refusal of a node that does not fit.
+#[derive(Clone, Copy, Debug, PartialEq, Eq)]
 pub struct Loader {
     pub announced: usize,
     pub layout: Layout,
     pub taken: usize,
     pub held: [u8; 3],
     pub held_count: usize,
-    pub kept: KeptRefusal,
+    pub kept: Option<Misfit>,
 }
 
+// A refused begin gives a state too, so the state stands beside the answer.
 #[derive(Clone, Copy)]
 pub struct Begun {
-    pub answer: BeginAnswer,
+    pub answer: Result<(), BeginRefusal>,
     pub loader: Loader,
 }
 
+// So does a refused feed: "each feed hands a new one back".
 #[derive(Clone, Copy)]
 pub struct Fed {
-    pub answer: FeedAnswer,
+    pub answer: Result<(), FeedRefusal>,
     pub loader: Loader,
 }
 
-fn check_length(announced: usize, room: usize) -> BeginAnswer
+#[tactic(auto, unfolding(answers::specs::Answers::first_of))]
+fn check_length(announced: usize, room: usize) -> Result<(), BeginRefusal>
     ensures { begin_refusal result ≡ first_of (begin_row announced room) }
 {
-    if announced == 0 {
-        return BeginAnswer::NotWholeNodes;
-    }
-    if announced % 4 != 0 {
-        return BeginAnswer::NotWholeNodes;
+    if announced == 0 || announced % 4 != 0 {
+        return Err(BeginRefusal::NotWholeNodes);
     }
     if 67108864 < announced {
-        return BeginAnswer::OverLimit;
+        return Err(BeginRefusal::OverLimit);
     }
-    if room < announced / 4 {
-        return BeginAnswer::NodesTooShort;
+    if room < (announced / 4).max(2) {
+        return Err(BeginRefusal::NodesTooShort);
     }
-    if room < 2 {
-        return BeginAnswer::NodesTooShort;
-    }
-    BeginAnswer::Ready
+    Ok(())
 }
 
 impl Loader {
     // A file of so many bytes is announced. A refused load has length 0, so that it refuses every call after it.
+    #[tactic(auto, unfolding(crate::specs::Loading::begin))]
     pub fn begin(announced: usize, layout: Layout, nodes: &[u32]) -> Begun
         ensures { begun_as result ≡ begin announced layout (length nodes.now) }
     {
         let answer = check_length(announced, nodes.len());
-        match answer {
-            BeginAnswer::Ready => Begun {
-                answer,
-                loader: started(announced, layout),
-            },
-            _ => Begun {
-                answer,
-                loader: started(0, layout),
-            },
+        let length = if answer.is_ok() { announced } else { 0 };
+        Begun {
+            answer,
+            loader: Loader::fresh(length, layout),
         }
     }
 
-    // Whether begin takes this length for so many nodes, and the bytes taken and held can be those of a load.
-    fn is_sound(self, room: usize) -> bool
-        ensures { result ≡ not (is_some (first_of (sound_row self room))) }
+    #[tactic(auto, unfolding(crate::specs::Loading::holding))]
+    fn fresh(announced: usize, layout: Layout) -> Loader
+        ensures { result ≡ fresh_loader announced layout }
     {
-        let announced = self.announced;
-        let taken = self.taken;
-        let held = self.held;
-        let held_count = self.held_count;
-        match check_length(announced, room) {
-            BeginAnswer::Ready => {}
-            _ => {
-                return false;
-            }
+        Loader {
+            announced,
+            layout,
+            taken: 0,
+            held: [0; 3],
+            held_count: 0,
+            kept: None,
         }
-        if announced < taken {
-            return false;
+    }
+
+    // Whether begin takes this length for so many nodes, the bytes taken and held can be those of a load, and no node has stopped it.
+    #[tactic(auto, unfolding(answers::specs::Answers::first_of))]
+    fn check(self, room: usize) -> Result<(), StateRefusal>
+        ensures { state_refusal result ≡ first_of (state_row self room) }
+    {
+        if check_length(self.announced, room).is_err()
+            || self.announced < self.taken
+            || self.held_count != self.taken % 4
+            || !crate::held::unused_zero(self.held, self.held_count)
+        {
+            return Err(StateRefusal::BadState);
         }
-        if held_count != taken % 4 {
-            return false;
+        match self.kept {
+            Some(misfit) => Err(StateRefusal::DoesNotFit(misfit)),
+            None => Ok(()),
         }
-        crate::held::unused_zero(held, held_count)
     }
 
     // The next piece of the file, of any length.
     pub fn feed(mut self, piece: &[u8], nodes: &mut [u32]) -> Fed
         ensures { fed_as result nodes.new ≡ feed self nodes.old piece.now }
     {
-        if !self.is_sound(nodes.len()) {
-            return Fed {
-                answer: FeedAnswer::BadState,
-                loader: self,
-            };
+        let answer = self.take(piece, nodes);
+        Fed {
+            answer,
+            loader: self,
         }
-        let kept = self.kept;
-        if let KeptRefusal::DoesNotFit(misfit) = kept {
-            return Fed {
-                answer: FeedAnswer::DoesNotFit(misfit),
-                loader: self,
-            };
+    }
+
+    #[tactic(auto, unfolding(answers::specs::Answers::first_of, crate::specs::Loading::feed))]
+    fn take(&mut self, piece: &[u8], nodes: &mut [u32]) -> Result<(), FeedRefusal>
+        ensures { feeds_as result self.new nodes.new ≡ feed self.old nodes.old piece.now }
+    {
+        self.check(nodes.len())?;
+        if self.announced - self.taken < piece.len() {
+            return Err(FeedRefusal::TooLong);
         }
-        let announced = self.announced;
-        let taken = self.taken;
-        if announced - taken < piece.len() {
-            return Fed {
-                answer: FeedAnswer::TooLong,
-                loader: self,
-            };
-        }
-        self = read_piece(self, piece, nodes);
-        let stopped = self.kept;
-        match stopped {
-            KeptRefusal::Nothing => Fed {
-                answer: FeedAnswer::Taken,
-                loader: self,
-            },
-            KeptRefusal::DoesNotFit(misfit) => Fed {
-                answer: FeedAnswer::DoesNotFit(misfit),
-                loader: self,
-            },
+        match self.read(piece, nodes) {
+            Ok(after) => {
+                *self = after;
+                Ok(())
+            }
+            Err(misfit) => {
+                *self = self.stopped(misfit);
+                Err(FeedRefusal::State(StateRefusal::DoesNotFit(misfit)))
+            }
         }
     }
 
     // The end of the file: the number of its nodes, once they are found sound.
-    pub fn finish(self, nodes: &mut [u32]) -> Finished
+    #[tactic(auto, unfolding(answers::specs::Answers::first_of, crate::specs::Loading::finish))]
+    pub fn finish(self, nodes: &mut [u32]) -> Result<usize, FinishRefusal>
         ensures { finished_as result nodes.new ≡ finish self nodes.old }
     {
-        if !self.is_sound(nodes.len()) {
-            return Finished::BadState;
+        self.check(nodes.len())?;
+        if self.taken < self.announced {
+            return Err(FinishRefusal::Missing);
         }
-        let kept = self.kept;
-        if let KeptRefusal::DoesNotFit(misfit) = kept {
-            return Finished::DoesNotFit(misfit);
+        let n = self.announced / 4;
+        graph::check_nodes(&nodes[..n])?;
+        if n == 1 {
+            nodes[1] = nodes[0];
+            return Ok(2);
         }
-        let announced = self.announced;
-        let taken = self.taken;
-        if taken < announced {
-            return Finished::Missing;
-        }
-        let n = announced / 4;
-        match graph::check_nodes(&nodes[..n]) {
-            NodesCheck::ArcPastEnd(arc_index) => Finished::ArcPastEnd(arc_index),
-            NodesCheck::NoEnd => Finished::NoEnd,
-            NodesCheck::Sound => {
-                if n == 1 {
-                    nodes[1] = nodes[0];
-                    return Finished::Nodes(2);
-                }
-                Finished::Nodes(n)
-            }
+        Ok(n)
+    }
+
+    // The state that keeps a node that does not fit; later bytes are ignored.
+    #[tactic(auto, unfolding(crate::specs::Loading::stopped, crate::specs::Loading::holding))]
+    fn stopped(self, misfit: Misfit) -> Loader
+        requires { misfit.node < 4_294_967_296 }
+        ensures { result ≡ stopped self.announced self.layout misfit }
+    {
+        Loader {
+            taken: 4 * misfit.node,
+            kept: Some(misfit),
+            ..Loader::fresh(self.announced, self.layout)
         }
     }
-}
 
-fn started(announced: usize, layout: Layout) -> Loader
-    ensures { result ≡ fresh_loader announced layout }
-{
-    Loader {
-        announced,
-        layout,
-        taken: 0,
-        held: [0; 3],
-        held_count: 0,
-        kept: KeptRefusal::Nothing,
-    }
-}
-
-// The state that keeps a node that does not fit; later bytes are ignored.
-fn stopped_at(announced: usize, layout: Layout, misfit: Misfit) -> Loader
-    requires { misfit.node < 4_294_967_296 }
-    ensures { result ≡ stopped announced layout misfit }
-{
-    let taken = 4 * misfit.node;
-    Loader {
-        announced,
-        layout,
-        taken,
-        held: [0; 3],
-        held_count: 0,
-        kept: KeptRefusal::DoesNotFit(misfit),
-    }
-}
-
-// The state after the whole nodes of bytes, of which the first begins node k, with the bytes after them held.
-fn read_whole(announced: usize, layout: Layout, bytes: &[u8], nodes: &mut [u32], k: usize) -> Loader
-    requires { (k + length bytes.now / 4 ≤ length nodes.old) × (k + length bytes.now / 4 ≤ 16_777_216) }
-    ensures state { result ≡ state_after announced layout k bytes.now }
-    ensures written { nodes.new ≡ nodes_after layout k bytes.now nodes.old }
-{
-    match crate::repack::repack_into(nodes, k, bytes, layout) {
-        Repacked::DoesNotFit(misfit) => stopped_at(announced, layout, misfit),
-        Repacked::Whole => {
-            let held_count = bytes.len() % 4;
-            let cut = bytes.len() - held_count;
-            let held = crate::held::hold([0; 3], 0, &bytes[cut..]);
-            let taken = 4 * k + bytes.len();
-            Loader {
-                announced,
-                layout,
-                taken,
-                held,
+    // The state after a piece that is no longer than what is missing.
+    #[tactic(auto, unfolding(answers::specs::Answers::first_of))]
+    fn read(self, piece: &[u8], nodes: &mut [u32]) -> Result<Loader, Misfit>
+        requires { first_of (feed_row self (length nodes.old) piece.now) ≡ none }
+        ensures stop { misfit_of result ≡ misfit_in self.layout (self.taken / 4) (held_then self piece.now) }
+        ensures state { left_by self result ≡ state_after self.announced self.layout (self.taken / 4) (held_then self piece.now) }
+        ensures written { nodes.new ≡ nodes_after self.layout (self.taken / 4) (held_then self piece.now) nodes.old }
+    {
+        let k = self.taken / 4;
+        if self.held_count == 0 {
+            return self.read_whole(piece, nodes, k);
+        }
+        let held_count = self.held_count + piece.len();
+        if held_count < 4 {
+            return Ok(Loader {
+                taken: self.taken + piece.len(),
+                held: crate::held::hold(self.held, self.held_count, piece),
                 held_count,
-                kept: KeptRefusal::Nothing,
-            }
+                kept: None,
+                ..self
+            });
         }
+        let first = crate::held::joined_node(self.held, self.held_count, piece);
+        nodes[k] = crate::repack::repack_node(k, first, self.layout, Layout::Kbwg)?;
+        self.read_whole(&piece[4 - self.held_count..], nodes, k + 1)
     }
-}
 
-// The state after a piece that is no longer than what is missing.
-fn read_piece(state: Loader, piece: &[u8], nodes: &mut [u32]) -> Loader
-    requires { (first_of (sound_row state (length nodes.old)) ≡ none) × (state.taken + length piece.now ≤ state.announced) }
-    ensures state { result ≡ state_after state.announced state.layout (state.taken / 4) (held_then state piece.now) }
-    ensures written { nodes.new ≡ nodes_after state.layout (state.taken / 4) (held_then state piece.now) nodes.old }
-{
-    let announced = state.announced;
-    let layout = state.layout;
-    let taken = state.taken;
-    let held = state.held;
-    let held_count = state.held_count;
-    let k = taken / 4;
-    if held_count == 0 {
-        return read_whole(announced, layout, piece, nodes, k);
-    }
-    let joined_count = held_count + piece.len();
-    if joined_count < 4 {
-        let taken = taken + piece.len();
-        return Loader {
-            announced,
-            layout,
-            taken,
-            held: crate::held::hold(held, held_count, piece),
-            held_count: joined_count,
-            kept: KeptRefusal::Nothing,
-        };
-    }
-    let first = crate::held::joined_node(held, held_count, piece);
-    match node::repack_node(layout, Layout::Kbwg, first) {
-        Packed::Node(v) => {
-            nodes[k] = v;
-            let rest = 4 - held_count;
-            read_whole(announced, layout, &piece[rest..], nodes, k + 1)
-        }
-        Packed::DoesNotFit { tile, arc_index } => {
-            let misfit = Misfit {
-                node: k,
-                tile,
-                arc_index,
-            };
-            stopped_at(announced, layout, misfit)
-        }
+    // The state after the whole nodes of bytes, of which the first begins node k, with the bytes after them held.
+    fn read_whole(self, bytes: &[u8], nodes: &mut [u32], k: usize) -> Result<Loader, Misfit>
+        requires { (k + length bytes.now / 4 ≤ length nodes.old) × (k + length bytes.now / 4 ≤ 16_777_216) }
+        ensures stop { misfit_of result ≡ misfit_in self.layout k bytes.now }
+        ensures state { left_by self result ≡ state_after self.announced self.layout k bytes.now }
+        ensures written { nodes.new ≡ nodes_after self.layout k bytes.now nodes.old }
+    {
+        crate::repack::repack_into(nodes, k, bytes, self.layout)?;
+        let held_count = bytes.len() % 4;
+        Ok(Loader {
+            taken: 4 * k + bytes.len(),
+            held: crate::held::hold([0; 3], 0, &bytes[bytes.len() - held_count..]),
+            held_count,
+            kept: None,
+            ..self
+        })
     }
 }

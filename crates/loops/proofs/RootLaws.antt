@@ -1,8 +1,8 @@
 -- The loop over the roots: its invariant, each kind of turn, and what holds after the last.
 use mathlib.Core.Path.{◌≡◌, refl}
-use mathlib.Core.Logic.{◌≢◌, inl, inr, ⊎_elim}
+use mathlib.Core.Logic.{◌≢◌, inl, ⊎_elim}
 use mathlib.Core.List.{List}
-use Prim.Native.Nat.{ℕ, ◌+◌, ◌-◌, ◌*◌, ◌≤◌, ◌<◌}
+use Prim.Native.Nat.{ℕ, ◌+◌, ◌*◌, ◌≤◌, ◌<◌}
 use native.Mathlib.Nat.{not-suc-le-zero}
 use native.Mathlib.Omega.{arith}
 use borrow.Author.Count.{below_more}
@@ -10,29 +10,25 @@ use lib.ListN.{length}
 use Rattle.laws.specs.Cases.{below?}
 use Rattle.node.specs.Nodes.{kbwg}
 use Rattle.graph.specs.Runs.{Graph}
-use Rattle.graph.specs.Loops.{once, Loops}
+use Rattle.graph.specs.Loops.{once, Loops, LowestLoop}
+use Rattle.graph.specs.Counting.{Loopless}
 use Rattle.graph.specs.LoopLaws.{Reach-inside}
 use Rattle.graph.specs.Lent.{Kept, kept-all, kept_then}
 use Rattle.loops.specs.NodeMarks.{mark}
-use Rattle.loops.specs.Search.{LowestIs, SearchState, search_left, SearchStepped}
+use Rattle.loops.specs.Search.{SearchState, SearchStepped}
 use Rattle.loops.specs.declared.search.LoopSearch.{LoopSearch}
 
--- the nodes below root are met, and the search from one root ends before the next
+-- the nodes below root are met
 pub record SearchRoots (g : Graph) (c₀ w₀ c w : List ℕ) (root : ℕ) (s : LoopSearch) : Type 0 where
   pub state : SearchState g c w s
   pub met : (k : ℕ) → k < root → mark w k ≢ 0
-  pub within : root ≤ length g
-  pub idle : root ≡ length g → s.top ≡ 0
   pub counts-kept : Kept (length g) c₀ c
   pub work-kept : Kept (2 * length g) w₀ w
 
-abbrev pub roots_left : Graph → List ℕ → ℕ → LoopSearch → ℕ
-roots_left g w root s = search_left g w s.top + (length g - root)
-
--- before the first turn the marks are 0
-pub search-start : (g : Graph) (c w : List ℕ) → length g ≤ length c → 2 * length g ≤ length w → ((x : ℕ) → x < length g → mark w x ≡ 0)
-    → SearchRoots g c w c w 0 (record { size = 0; top = 0; low = length g })
-search-start g c w a b z =
+-- before the first root the marks are 0
+pub search-start : (g : Graph) (c w₀ w : List ℕ) → length g ≤ length c → 2 * length g ≤ length w → Kept (2 * length g) w₀ w
+    → ((x : ℕ) → x < length g → mark w x ≡ 0) → SearchRoots g c w₀ c w 0 (record { size = 0; top = 0; low = length g })
+search-start g c w₀ w a b k z =
     record {
       state = record {
         room = b;
@@ -51,55 +47,48 @@ search-start g c w a b z =
         tallied = omega arith;
       };
       met = λ j h. absurd (not-suc-le-zero h);
-      within = omega arith;
-      idle = λ _. refl;
       counts-kept = kept-all (length g) c;
-      work-kept = kept-all (2 * length g) w;
+      work-kept = k;
     }
 
 module _ (g : Graph) (c₀ w₀ c w : List ℕ) (root : ℕ) (s : LoopSearch) (R : SearchRoots g c₀ w₀ c w root s) where
   -- a step of the search
-  module _ (b : root < length g) (c' w' : List ℕ) (r : LoopSearch) (S : SearchStepped g c w c' w' s r) where
-    pub search-goes-on : SearchRoots g c₀ w₀ c' w' root r
-    search-goes-on =
+  module _ (c' w' : List ℕ) (r : LoopSearch) (S : SearchStepped g c w c' w' s r) where
+    pub search-goes-on : root ≤ length g → SearchRoots g c₀ w₀ c' w' root r
+    search-goes-on b =
         record {
           state = S.state;
           met = λ k h. S.met k (omega arith) (R.met k h);
-          within = R.within;
-          idle = λ z. absurd (omega arith);
           counts-kept = kept_then R.counts-kept S.counts-kept;
           work-kept = kept_then R.work-kept S.work-kept;
         }
 
-    pub search-less : roots_left g w' root r < roots_left g w root s
-    search-less = let l = S.less in omega arith
-
-  -- a root that is met already
-  pub search-next-root : root < length g → s.top ≡ 0 → mark w root ≢ 0 → SearchRoots g c₀ w₀ c w (root + 1) s
-  search-next-root b z n =
+  -- a root that is met
+  pub search-next-root : mark w root ≢ 0 → SearchRoots g c₀ w₀ c w (root + 1) s
+  search-next-root n =
       record {
         state = R.state;
         met = below_more (λ (k : ℕ). mark w k ≢ 0) root R.met n;
-        within = omega arith;
-        idle = λ _. z;
         counts-kept = R.counts-kept;
         work-kept = R.work-kept;
       }
 
   -- after the last root every node is met and none is open
-  pub search-end : length g ≤ root → LowestIs g s.low
-  search-end ended =
-      ⊎_elim
-      (λ e. inr ((λ x y. let h = Reach-inside kbwg y in left x y (omega arith)), e))
-      (λ l. inl (record { loops = l; least = λ x y. ⊎_elim (λ b. absurd (left x y b)) (λ b. b) (below? x s.low) }))
-      R.state.stack.low-loops
-    where
-      left : (x : ℕ) → Loops kbwg g x → x < s.low → ⊥
-      left x y l =
-          let h = Reach-inside kbwg y in
-          let w = R.within in
-          let t = R.idle (omega arith) in
-          ⊎_elim
-          (λ z. R.met x (omega arith) z)
-          (λ v. let b = R.state.stack.last v.0.place v.0.within v.1 in omega arith)
-          (R.state.stack.lower-left x y l)
+  module _ (ended : length g ≤ root) (idle : s.top ≡ 0) where
+    left : (x : ℕ) → Loops kbwg g x → x < s.low → ⊥
+    left x y l =
+        let h = Reach-inside kbwg y in
+        ⊎_elim
+        (λ z. R.met x (omega arith) z)
+        (λ v. let b = R.state.stack.last v.0.place v.0.within v.1 in omega arith)
+        (R.state.stack.lower-left x y l)
+
+    pub none-loops : length g ≤ s.low → Loopless g
+    none-loops h x y = let i = Reach-inside kbwg y in left x y (omega arith)
+
+    pub low-loops : s.low < length g → LowestLoop kbwg g s.low
+    low-loops h =
+        record {
+          loops = ⊎_elim (λ e. absurd (omega arith)) (λ l. l) R.state.stack.low-loops;
+          least = λ x y. ⊎_elim (λ b. absurd (left x y b)) (λ b. b) (below? x s.low);
+        }

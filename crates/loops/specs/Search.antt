@@ -1,5 +1,5 @@
 -- The search on the lent lists: what its functions need and answer.
-use Rattle.std.specs.Prelude.{◌≡◌, ◌≢◌, ◌⊎◌, List, ℕ, suc, ◌+◌, ◌-◌, ◌*◌, ◌≤◌, ◌<◌, min, length, set}
+use Rattle.std.specs.Prelude.{◌≡◌, ◌≢◌, ◌⊎◌, List, ℕ, suc, ◌+◌, ◌-◌, ◌*◌, ◌≤◌, ◌<◌, min, length, set, Option, Some, None}
 use Rattle.node.specs.Nodes.{kbwg}
 use Rattle.graph.specs.Runs.{Graph}
 use Rattle.graph.specs.Loops.{Step, LowestLoop}
@@ -10,9 +10,10 @@ use Rattle.loops.specs.Stack.{SearchStack}
 use Rattle.loops.specs.declared.next.NextMark.{NextMark}
 use Rattle.loops.specs.declared.search.LoopSearch.{LoopSearch}
 
--- the lowest node that loops; N where none does
-abbrev pub LowestIs : Graph → ℕ → Type 0
-LowestIs g r = LowestLoop kbwg g r ⊎ (Loopless g × (r ≡ length g))
+-- the lowest node that loops; none where none does
+abbrev pub LowestIs : Graph → Option ℕ → Type 0
+LowestIs g (Some r) = LowestLoop kbwg g r
+LowestIs g None = Loopless g
 
 -- ---- the node with the lowest mark of those that p leads to
 -- the mark where there is such a step, and done where there is none

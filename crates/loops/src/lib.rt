@@ -12,12 +12,11 @@ mod search;
 
 ghost use Rattle.std.specs.Prelude.{◌≡◌, ◌*◌, ◌≤◌, ◌<◌, length};
 ghost use Rattle.laws.specs.Cleared.{cleared};
-ghost use Rattle.graph.specs.ChecksLaws.{Fit};
 ghost use Rattle.graph.specs.Lent.{Kept};
 ghost use Rattle.loops.specs.NodeMarks.{node_pushed};
 ghost use Rattle.loops.specs.Search.{LowestIs};
 
-use base::clear;
+use graph::FitGraph;
 use search::{LoopSearch, meet, search_step};
 
 // The mark of a node that is done: the largest 32-bit number, which is no place of a stack. A mark is 32 bits, however wide a count is.
@@ -35,36 +34,29 @@ pub fn push(work: &mut [u32], n: usize, size: usize, q: usize)
     work[n + size] = q as u32;
 }
 
-// The lowest node that loops; N where none does. The graph must have passed counting's checks. The first N counts are 0 afterwards; what is in the
-// first 2 × N work numbers is free.
-pub fn lowest_loop(nodes: &[u32], counts: &mut [u32], work: &mut [u32]) -> usize
-    requires fit { Fit nodes.now }
-    requires nodes_in_bounds { length nodes.now ≤ length counts.old }
-    requires nodes_in_bounds_2 { 2 * length nodes.now ≤ length work.old }
-    ensures lowest { LowestIs nodes.now result }
-    ensures counts_cleared { counts.new ≡ cleared (length nodes.now) counts.old }
-    ensures work_kept { Kept (2 * length nodes.now) work.old work.new }
+// The lowest node that loops. The first N counts are 0 afterwards; what is in the first 2 × N work numbers is free.
+pub fn lowest_loop(g: FitGraph<'_>, counts: &mut [u32], work: &mut [u32]) -> Option<usize>
+    requires nodes_in_bounds { length g.nodes.now ≤ length counts.old }
+    requires nodes_in_bounds_2 { 2 * length g.nodes.now ≤ length work.old }
+    ensures lowest { LowestIs g.entry.nodes.now result }
+    ensures counts_cleared { counts.new ≡ cleared (length g.entry.nodes.now) counts.old }
+    ensures work_kept { Kept (2 * length g.entry.nodes.now) work.old work.new }
 {
-    let n = nodes.len();
-    clear(work, n);
-    let mut root: usize = 0;
+    let n = g.nodes.len();
+    work[..n].fill(0);
     let mut s = LoopSearch {
         size: 0,
         top: 0,
         low: n,
     };
-    while root < n {
-        let top = s.top;
-        if top == 0 {
-            if work[root] == 0 {
-                s = meet(counts, work, n, s, root);
-            } else {
-                root += 1;
+    for root in 0..n {
+        if work[root] == 0 {
+            s = meet(counts, work, n, s, root);
+            while s.top > 0 {
+                s = search_step(g, counts, work, s);
             }
-        } else {
-            s = search_step(nodes, counts, work, s);
         }
     }
-    clear(counts, n);
-    s.low
+    counts[..n].fill(0);
+    if s.low < n { Some(s.low) } else { None }
 }

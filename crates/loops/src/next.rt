@@ -1,14 +1,14 @@
 // Which of the nodes that a node leads to has the lowest mark.
 ghost use Rattle.std.specs.Prelude.{◌≡◌, true, false, ◌+◌, ◌≤◌, ◌<◌, length};
 ghost use Rattle.node.specs.Nodes.{kbwg, arc, is_end};
-ghost use Rattle.graph.specs.ChecksLaws.{Fit};
 ghost use Rattle.loops.specs.Search.{MarkIs, LowestNext};
 
 use crate::DONE;
+use graph::FitGraph;
 use node::Node24;
 
-// A node and its mark; with DONE as the mark, any node.
-#[derive(Clone, Copy)]
+// A node and its mark; with DONE as the mark, any node. No Option: a node that is done and no node count alike.
+#[derive(Clone, Copy, Debug, PartialEq, Eq)]
 pub struct NextMark {
     pub node: usize,
     pub mark: u32,
@@ -20,10 +20,7 @@ fn mark_by_arc(work: &[u32], node: u32) -> u32
     ensures { MarkIs work.now (arc kbwg node ≡ 0) (arc kbwg node) result }
 {
     let arc = Node24(node).arc_index() as usize;
-    if arc == 0 {
-        return DONE;
-    }
-    work[arc]
+    if arc == 0 { DONE } else { work[arc] }
 }
 
 // The mark of the node after node p in its run; DONE where p is its end.
@@ -32,29 +29,30 @@ fn mark_by_run(work: &[u32], node: u32, p: usize) -> u32
     ensures { MarkIs work.now (is_end kbwg node ≡ true) (p + 1) result }
 {
     if Node24(node).is_end() {
-        return DONE;
+        DONE
+    } else {
+        work[p + 1]
     }
-    work[p + 1]
 }
 
 // The node with the lowest mark of those that p leads to, and that mark; DONE where all are done or there are none.
-pub(crate) fn lowest_next(nodes: &[u32], work: &[u32], p: usize) -> NextMark
-    requires fit { Fit nodes.now }
-    requires p_in_bounds { p < length nodes.now }
-    requires nodes_in_bounds { length nodes.now ≤ length work.now }
-    ensures { LowestNext nodes.now work.now p result }
+pub(crate) fn lowest_next(g: FitGraph<'_>, work: &[u32], p: usize) -> NextMark
+    requires p_in_bounds { p < length g.nodes.now }
+    requires nodes_in_bounds { length g.nodes.now ≤ length work.now }
+    ensures { LowestNext g.entry.nodes.now work.now p result }
 {
-    let node = nodes[p];
+    let node = g.nodes[p];
     let by_arc = mark_by_arc(work, node);
     let by_run = mark_by_run(work, node, p);
     if by_run < by_arc {
-        return NextMark {
+        NextMark {
             node: p + 1,
             mark: by_run,
-        };
-    }
-    NextMark {
-        node: Node24(node).arc_index() as usize,
-        mark: by_arc,
+        }
+    } else {
+        NextMark {
+            node: Node24(node).arc_index() as usize,
+            mark: by_arc,
+        }
     }
 }

@@ -1,14 +1,15 @@
 // The steps of the search: a node is met, or the last open node is passed.
 ghost use Rattle.std.specs.Prelude.{ℕ, ◌*◌, ◌≤◌, ◌<◌, length};
-ghost use Rattle.graph.specs.ChecksLaws.{Fit};
 ghost use Rattle.loops.specs.NodeMarks.{stacked};
 ghost use Rattle.loops.specs.Search.{SearchState, SearchStepped, NodeMet, Released, LowIs};
 
 use crate::next::lowest_next;
 use crate::{DONE, push};
+use graph::FitGraph;
 
-// How many nodes are on the stack, the place of the last open one, and the lowest node found to loop, or N.
-#[derive(Clone, Copy)]
+// How many nodes are on the stack, the place of the last open one, and the lowest node found to loop, or N: above all nodes, so that it
+// compares with them.
+#[derive(Clone, Copy, Debug, PartialEq, Eq)]
 pub struct LoopSearch {
     pub size: usize,
     pub top: usize,
@@ -50,11 +51,9 @@ fn release(work: &mut [u32], n: usize, i: usize, j: usize)
     requires by_index { (k : ℕ) → k < j → stacked n work.old k < n }
     ensures { Released n work.old i j work.new }
 {
-    let mut k = i;
-    while k < j {
+    for k in i..j {
         let x = work[n + k] as usize;
         work[x] = DONE;
-        k += 1;
     }
 }
 
@@ -62,28 +61,24 @@ fn release(work: &mut [u32], n: usize, i: usize, j: usize)
 fn lower_loop(low: usize, p: usize, mark: u32) -> usize
     ensures { LowIs low p mark result }
 {
-    if mark == DONE {
-        return low;
-    }
-    if p < low { p } else { low }
+    if mark == DONE { low } else { low.min(p) }
 }
 
 // One step at the last open node: a node that it leads to is met, or it is passed.
 pub(crate) fn search_step(
-    nodes: &[u32],
+    g: FitGraph<'_>,
     counts: &mut [u32],
     work: &mut [u32],
     s: LoopSearch,
 ) -> LoopSearch
-    requires fit { Fit nodes.now }
-    requires search_state { SearchState nodes.now counts.old work.old s }
+    requires search_state { SearchState g.nodes.now counts.old work.old s }
     requires top_nonzero { 0 < s.top }
-    ensures { SearchStepped nodes.now counts.old work.old counts.new work.new s result }
+    ensures { SearchStepped g.entry.nodes.now counts.old work.old counts.new work.new s result }
 {
-    let n = nodes.len();
+    let n = g.nodes.len();
     let top = s.top;
     let p = work[n + (top - 1)] as usize;
-    let next = lowest_next(nodes, work, p);
+    let next = lowest_next(g, work, p);
     let mark = next.mark;
     if mark == 0 {
         return meet(counts, work, n, s, next.node);
@@ -93,15 +88,15 @@ pub(crate) fn search_step(
     if (mark as usize) < top {
         work[p] = mark;
         return LoopSearch {
-            size: s.size,
             top: before,
-            low: low,
+            low,
+            ..s
         };
     }
     release(work, n, top - 1, s.size);
     LoopSearch {
         size: top - 1,
         top: before,
-        low: low,
+        low,
     }
 }

@@ -1,24 +1,17 @@
 -- The header as it is written, field by field, and a field byte by byte.
 use mathlib.Core.Path.{◌≡◌, refl, sym, ap, ◌∙◌}
 use mathlib.Core.List.{List, [], ◌∷◌, ◌++◌, map}
-use Prim.Native.Nat.{ℕ, zero, suc, ◌+◌, ◌≤◌, ◌<◌}
+use Prim.Native.Nat.{ℕ, zero, suc, ◌+◌, ◌<◌}
 use native.Mathlib.Omega.{arith}
-use lib.ListN.{length, get_or, set, drop, replicate, length-map, get_or-map, get_or-eq_default}
+use lib.ListN.{length, get_or, set, drop, replicate}
 use lib.Seq.{sets, get_or-take}
 use Rattle.laws.specs.ListWrites.{sets_append, sets-next}
 use Rattle.endian.specs.Bytes.{to_bytes}
-use Rattle.windows1252.specs.Windows1252.{byte_of, byte_written}
+use Rattle.windows1252.specs.Windows1252.{byte_written}
 use Rattle.lxd_file.specs.File.{field, header}
 use Rattle.lxd_file.proofs.FileLaws.{length-field}
 
 -- ---- a text, byte by byte
-pub text-inside : (text : List ℕ) (i : ℕ) → byte_written (get_or text i 0) ≡ get_or (map byte_written text) i 0
-unfolding byte_of
-text-inside text i = sym (get_or-map byte_written text i 0)
-
-pub text-past : (text : List ℕ) (i : ℕ) → length text ≤ i → 0 ≡ get_or (map byte_written text) i 0
-text-past text i h = sym (get_or-eq_default (map byte_written text) 0 {n = i} (simp length-map h))
-
 zeros : (n i : ℕ) → get_or {A = ℕ} (replicate n 0) i 0 ≡ 0
 zeros zero i = refl
 zeros (suc n) zero = refl

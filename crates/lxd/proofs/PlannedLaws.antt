@@ -70,8 +70,8 @@ module _ {g : Graph} {labels w : List ℕ} {words : ℕ} {t : BlockTally} (h : P
       omega arith)
       (λ m. let b = h.held.runs.new p l m in omega arith))
 
-  pub lxd-ready : LxdReady g labels w
-  lxd-ready = record { fit = h.found.sound; labelled = h.found.labelled; room = let r = h.room in omega arith; child_fits = child_fits }
+  pub lxd-ready : LxdReady g w
+  lxd-ready = record { room = let r = h.room in omega arith; child_fits = child_fits }
 
   -- ---- the record's order
   pub order-fits : length g + t.blocks < length w

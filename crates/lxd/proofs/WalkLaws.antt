@@ -26,16 +26,19 @@ use Rattle.export.specs.Starts.{arcs_from, unlabelled}
 use Rattle.export.specs.Blocks.{met, total}
 use Rattle.export.specs.WrittenLaws.{refused_by, accepted-by}
 use Rattle.windows1252.specs.Windows1252.{byte_of, no_byte}
-use Rattle.survey.specs.Survey.{byteless, byteless_within, Surveys, SurveyIs}
+use Rattle.survey.specs.Survey.{byteless, byteless_within, Surveys}
 use Rattle.survey.specs.ReachLaws.{survey-byteless, survey-many, survey-count}
 use Rattle.survey.specs.declared.Findings.{Findings}
-use Rattle.survey.specs.declared.Surveyed.{Surveyed}
 use Rattle.block_record.specs.declared.BlockTally.{BlockTally}
 use Rattle.lxd_file.specs.File.{header, runs, reached, run_size, lxd_nodes, lxd_file}
 use Rattle.lxd_file.proofs.FileLaws.{length-header, length-file}
 use Rattle.lxd_file.specs.Row.{lxd_walk_row}
 use Rattle.lxd_file.proofs.RunsLaws.{reached-size}
-use Rattle.lxd_blocks.specs.RunsNumbered.{RunsNumbered}
+use Rattle.laws.specs.Cleared.{cleared, cleared-length, cleared_at}
+use Rattle.block_record.specs.Depths.{Below}
+use Rattle.block_record.specs.DepthsLaws.{depths-none}
+use Rattle.lxd_blocks.specs.NumberedLaws.{none-recorded}
+use Rattle.lxd_blocks.specs.RunsNumbered.{RunsNumbered, RunsRecorded}
 use Rattle.lxd_blocks.specs.declared.numbering.Walked.{Walked}
 use Rattle.lxd.specs.Said.{after_checks}
 use Rattle.lxd.specs.Planned.{ChecksPassed, Planned, nodes_written}
@@ -55,13 +58,6 @@ module _ (g : Graph) (labels : List ℕ) where
   all-have-bytes e = all_fail (byteless labels) (reached g) (λ v m. has-byte labels (tile kbwg v) e)
 
   -- ---- by the survey: 23 and 13
-  -- what it answers of the start, and finds
-  abbrev pub StartSurveyed : Surveyed → Type 0
-  StartSurveyed = SurveyIs g labels 64 (start_node g 0)
-
-  abbrev pub StartFindings : Findings → Type 0
-  StartFindings = Surveys g labels 64 (start_node g 0)
-
   module _ (f : Findings) (surveys : Surveys g labels 64 (start_node g 0) f) where
     pub byteless-label : some_of (byteless labels) (reached g) ≡ f.byteless
     unfolding runs
@@ -85,9 +81,10 @@ module _ (g : Graph) (labels : List ℕ) where
 
   -- ---- by the numbering: 22, 13 and 25
   -- what a survey would find, but for labels without a byte
-  pub surveys_too : {w₀ w o : List ℕ} {f : Walked} → RunsNumbered g w₀ w o true (start_node g 0) 64 f
+  pub surveys_too : {w₀ w o : List ℕ} {f : Walked} {p : ℕ} → p ≡ start_node g 0 → RunsNumbered g w₀ w o true p 64 f
       → Surveys g labels 64 (start_node g 0) (record { runs = f.runs; words = f.words; byteless = byteless_within g labels 64 (start_node g 0) })
-  surveys_too {f = f} n =
+  surveys_too {f = f} e m =
+      let n = rw e at m in
       record {
         deep = n.counted.depth 64 ∙ le-ltb 64 f.runs n.ends;
         runs = n.counted.depth;
@@ -100,16 +97,28 @@ module _ (g : Graph) (labels : List ℕ) where
     few_words = let l : count kbwg g (start_node g 0) < most = let e = h.counted in let f = h.few in omega arith in lt-leb _ _ l
 
   -- so the file can be written
-  pub numbered_plan : Fit g → unlabelled g labels ≡ false → some_of (byteless labels) (reached g) ≡ false → {w₀ w : List ℕ} {f : Walked}
-      → RunsNumbered g w₀ w (met eqb (arcs_from g) 64 [] (start_node g 0)) true (start_node g 0) 64 f
+  pub numbered_plan : Fit g → unlabelled g labels ≡ false → some_of (byteless labels) (reached g) ≡ false → {w₀ w : List ℕ} {f : Walked} {p : ℕ}
+      → p ≡ start_node g 0 → RunsNumbered g w₀ w (met eqb (arcs_from g) 64 [] p) true p 64 f
       → f.words ≢ most → length g + length g < length w → Planned g labels w f.words f.tally
   unfolding runs
-  numbered_plan sound labelled bytes n few room =
-      record { found = checks-passed _ (surveys_too n) sound labelled bytes few; room = room; held = n.held }
+  numbered_plan sound labelled bytes e n few room =
+      record { found = checks-passed _ (surveys_too e n) sound labelled bytes few; room = room; held = (rw e at n).held }
 
-pub many-nodes : (g : Graph) → 2 ^ 22 < 2 + total (run_size g) (met eqb (arcs_from g) 64 [] (start_node g 0)) → 2 ^ 22 < 2 + length (reached g)
+pub many-nodes : (g : Graph) {p : ℕ} → p ≡ start_node g 0 → 2 ^ 22 < 2 + total (run_size g) (met eqb (arcs_from g) 64 [] p)
+    → 2 ^ 22 < 2 + length (reached g)
 unfolding runs
-many-nodes g m = let e = reached-size g in omega arith
+many-nodes g i m = let n = rw i at m in let e = reached-size g in omega arith
+
+-- ---- the record that numbering begins with
+module _ (g : Graph) (w : List ℕ) (room : 8 * length g ≤ length w) {w' : List ℕ} (e : w' ≡ cleared (length g) w) where
+  pub emptied : (p : ℕ) → p < length g → get_or w' p 0 ≡ 0
+  emptied p h = ap (λ x. get_or x p 0) e ∙ cleared_at (length g) w p h
+
+  pub empty-recorded : {t : BlockTally} → t.blocks ≡ 0 → t.nodes ≡ 2 → RunsRecorded g w' t
+  empty-recorded a b = let l = ap length e ∙ cleared-length (length g) w (omega arith) in none-recorded g (omega arith) emptied a b
+
+  pub empty-below : (p : ℕ) → Below g w' p
+  empty-below p = (depths-none g w' emptied).1 p
 
 module _ (g : Graph) (labels title date lent : List ℕ) where
   abbrev file : List ℕ

@@ -1,35 +1,34 @@
 -- What the call's answers say, and what its checks refuse by.
-use Rattle.std.specs.Prelude.{◌≡◌, List, [], ◌∷◌, ℕ, length}
-use Rattle.std.proofs.Math.Option.{Option, none, some}
-use Rattle.answers.specs.Answers.{Answer, gives, refused, first_of}
+use Rattle.std.specs.Prelude.{◌≡◌, List, [], ◌∷◌, ℕ, length, Result}
+use Rattle.std.proofs.Math.Option.{Option, some}
+use Rattle.answers.specs.Answers.{Answer, gives, Refusal, refusing, as_answer, said_result, refusal_of, first_of}
 use Rattle.graph.specs.Runs.{Graph}
+use Rattle.graph.specs.Checks.{graph_why}
 use Rattle.export.specs.Written.{Written, written}
 use Rattle.lxd_file.specs.File.{lxd_file}
 use Rattle.lxd_file.specs.Row.{lxd_walk_row}
-use Rattle.lxd.specs.declared.Lxd.{Lxd}
-use Rattle.lxd.specs.declared.Lxd.TheVariants as L
-use Rattle.lxd.specs.declared.checks.LxdChecked.{LxdChecked}
-use Rattle.lxd.specs.declared.checks.LxdChecked.TheVariants.{Passed, Refused}
+use Rattle.lxd.specs.declared.LxdRefusal.{LxdRefusal}
+use Rattle.lxd.specs.declared.LxdRefusal.TheVariants as L
 
-abbrev pub said_lxd : Lxd → Answer
-said_lxd (L.Written n) = gives (n ∷ [])
-said_lxd L.WrongSize = refused 10 []
-said_lxd (L.ArcPastEnd r) = refused 8 (r ∷ [])
-said_lxd L.NoEnd = refused 9 []
-said_lxd L.TitleNotWindows1252 = refused 20 []
-said_lxd L.TitleTooLong = refused 19 []
-said_lxd L.DateNotWindows1252 = refused 20 []
-said_lxd L.DateTooLong = refused 19 []
-said_lxd L.NoLabel = refused 21 []
-said_lxd L.WorkTooShort = refused 11 []
-said_lxd L.ChainTooLong = refused 22 []
-said_lxd L.LetterNotWindows1252 = refused 23 []
-said_lxd L.TooManyWords = refused 13 []
-said_lxd L.TooManyNodes = refused 25 []
-said_lxd L.FileTooShort = refused 11 []
+abbrev pub lxd_refusal : LxdRefusal → Refusal
+lxd_refusal (L.Graph why) = graph_why why
+lxd_refusal L.TitleNotWindows1252 = refusing 20 []
+lxd_refusal L.TitleTooLong = refusing 19 []
+lxd_refusal L.DateNotWindows1252 = refusing 20 []
+lxd_refusal L.DateTooLong = refusing 19 []
+lxd_refusal L.NoLabel = refusing 21 []
+lxd_refusal L.WorkTooShort = refusing 11 []
+lxd_refusal L.ChainTooLong = refusing 22 []
+lxd_refusal L.LetterNotWindows1252 = refusing 23 []
+lxd_refusal L.TooManyWords = refusing 13 []
+lxd_refusal L.TooManyNodes = refusing 25 []
+lxd_refusal L.FileTooShort = refusing 11 []
+
+abbrev pub said_lxd : Result ℕ LxdRefusal → Answer
+said_lxd r = said_result (λ n. gives (n ∷ [])) lxd_refusal r
 
 -- the call's result in the terms of its definition
-abbrev pub lxd_written_as : Lxd → List ℕ → Written
+abbrev pub lxd_written_as : Result ℕ LxdRefusal → List ℕ → Written
 lxd_written_as r bytes = record { answer = said_lxd r; bytes = bytes }
 
 -- what it answers and leaves past the checks before the walk
@@ -37,9 +36,8 @@ abbrev pub after_checks : Graph → List ℕ → List ℕ → List ℕ → List 
 after_checks g labels title date lent = written (first_of (lxd_walk_row g labels title date (length lent))) (lxd_file g labels title date) lent
 
 -- its refusal, whatever the texts and the file are
-abbrev pub WalkRefuses : Graph → List ℕ → Lxd → Type 0
-WalkRefuses g labels r = (title date : List ℕ) (lent_file : ℕ) → first_of (lxd_walk_row g labels title date lent_file) ≡ some (said_lxd r)
+abbrev pub WalkRefuses : Graph → List ℕ → LxdRefusal → Type 0
+WalkRefuses g labels r = (title date : List ℕ) (lent_file : ℕ) → first_of (lxd_walk_row g labels title date lent_file) ≡ some (as_answer (lxd_refusal r))
 
-abbrev pub checked_refusal : LxdChecked → Option Answer
-checked_refusal Passed = none
-checked_refusal (Refused r) = some (said_lxd r)
+abbrev pub checked_refusal : {A : Type 0} → Result A LxdRefusal → Option Answer
+checked_refusal r = refusal_of lxd_refusal r

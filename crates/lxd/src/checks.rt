@@ -1,86 +1,54 @@
 // The checks before the walk.
-ghost use Rattle.std.specs.Prelude.{◌≡◌};
-ghost use Rattle.std.proofs.Math.Option.{none};
+ghost use Rattle.std.specs.Prelude.{◌≡◌, IfOk};
 ghost use Rattle.laws.specs.Lists.{some_of};
 ghost use Rattle.answers.specs.Answers.{first_of};
-ghost use Rattle.graph.specs.Checks.{graph_row};
 ghost use Rattle.windows1252.specs.Windows1252.{no_byte};
 ghost use Rattle.lxd_file.specs.Row.{lxd_checks};
 ghost use Rattle.lxd.specs.Said.{checked_refusal};
 
-use crate::Lxd;
+use crate::{LxdRefusal, Texts};
 use export::lacks_label;
-use graph::GraphCheck;
+use graph::check_graph;
+use survey::Labelled;
 use windows1252::no_byte;
-
-#[derive(Drop)]
-pub(crate) enum LxdChecked {
-    Passed,
-    Refused(Lxd),
-}
 
 // Whether some code point of a text has no byte.
 pub(crate) fn lacks_byte(text: &[u32]) -> bool
     ensures { result ≡ some_of no_byte text.now }
 {
-    let mut i: usize = 0;
-    while i < text.len() {
-        if no_byte(text[i]) {
-            return true;
-        }
-        i += 1;
-    }
-    false
+    text.iter().any(|c| no_byte(*c))
 }
 
-// The checks of the texts, the labels and a work list of so many numbers, for a graph that must have passed its own.
-fn check_lists(
-    nodes: &[u32],
-    labels: &[u32],
-    title: &[u32],
-    date: &[u32],
+// The checks of the graph, the texts, the labels and a work list of so many numbers; answers the graph with its labels.
+#[tactic(auto, unfolding(answers::specs::Answers::first_of))]
+pub(crate) fn check<'a>(
+    nodes: &'a [u32],
+    labels: &'a [u32],
+    texts: Texts<'_>,
     lent_work: usize,
-) -> LxdChecked
-    requires { first_of (graph_row nodes.now) ≡ none }
-    ensures { checked_refusal result
-        ≡ first_of (lxd_checks nodes.now labels.now title.now date.now lent_work) }
+) -> Result<Labelled<'a>, LxdRefusal>
+    ensures refused { checked_refusal result
+        ≡ first_of (lxd_checks nodes.now labels.now texts.entry.title.now texts.entry.date.now lent_work) }
+    ensures same { IfOk result (λ g. (g.graph.nodes.now ≡ nodes.now) × (g.labels.now ≡ labels.now)) }
 {
-    if lacks_byte(title) {
-        return LxdChecked::Refused(Lxd::TitleNotWindows1252);
+    let graph = check_graph(nodes)?;
+    if lacks_byte(texts.title) {
+        return Err(LxdRefusal::TitleNotWindows1252);
     }
-    if 31 < title.len() {
-        return LxdChecked::Refused(Lxd::TitleTooLong);
+    if 31 < texts.title.len() {
+        return Err(LxdRefusal::TitleTooLong);
     }
-    if lacks_byte(date) {
-        return LxdChecked::Refused(Lxd::DateNotWindows1252);
+    if lacks_byte(texts.date) {
+        return Err(LxdRefusal::DateNotWindows1252);
     }
-    if 19 < date.len() {
-        return LxdChecked::Refused(Lxd::DateTooLong);
+    if 19 < texts.date.len() {
+        return Err(LxdRefusal::DateTooLong);
     }
-    if lacks_label(nodes, labels) {
-        return LxdChecked::Refused(Lxd::NoLabel);
+    if lacks_label(graph.nodes, labels) {
+        return Err(LxdRefusal::NoLabel);
     }
-    if lent_work < 8 * nodes.len() {
-        return LxdChecked::Refused(Lxd::WorkTooShort);
+    if lent_work < 8 * graph.nodes.len() {
+        return Err(LxdRefusal::WorkTooShort);
     }
-    LxdChecked::Passed
-}
-
-// The checks of the graph, the texts, the labels and a work list of so many numbers.
-pub(crate) fn check(
-    nodes: &[u32],
-    labels: &[u32],
-    title: &[u32],
-    date: &[u32],
-    lent_work: usize,
-) -> LxdChecked
-    ensures { checked_refusal result
-        ≡ first_of (lxd_checks nodes.now labels.now title.now date.now lent_work) }
-{
-    match graph::check_graph(nodes) {
-        GraphCheck::Sound => check_lists(nodes, labels, title, date, lent_work),
-        GraphCheck::WrongSize => LxdChecked::Refused(Lxd::WrongSize),
-        GraphCheck::ArcPastEnd(arc_index) => LxdChecked::Refused(Lxd::ArcPastEnd(arc_index)),
-        GraphCheck::NoEnd => LxdChecked::Refused(Lxd::NoEnd),
-    }
+    Ok(Labelled { graph, labels })
 }

@@ -6,13 +6,14 @@ ghost use Rattle.lxd_file.specs.File.{lxd_nodes};
 ghost use Rattle.lxd.specs.Planned.{Planned, nodes_written};
 ghost use Rattle.lxd.specs.Said.{lxd_written_as, after_checks};
 
-use crate::Lxd;
 use crate::header::write_header;
-use block_record::BlockTally;
+use crate::{LxdRefusal, Texts};
 use endian::write_le_u32;
-use lxd_blocks::write_runs;
+use lxd_blocks::{Walked, write_runs};
+use survey::Labelled;
 
 // How many nodes the file has: with no words, 3.
+#[tactic(auto, unfolding(crate::specs::Planned::nodes_written))]
 fn node_count(words: u32, nodes: u32) -> u32
     ensures { result ≡ nodes_written words nodes }
 {
@@ -20,49 +21,38 @@ fn node_count(words: u32, nodes: u32) -> u32
 }
 
 // Writes the nodes to the bytes after the header, which must be there, from the record of the runs met from the start.
-fn write_nodes(
-    nodes: &[u32],
-    labels: &[u32],
-    work: &[u32],
-    words: u32,
-    t: BlockTally,
-    file: &mut [u8],
-)
-    requires planned { Planned nodes.now labels.now work.now words t }
-    requires labels_in_bounds { 64 + 4 * length (lxd_nodes nodes.now labels.now) ≤ length file.old }
-    ensures { file.new ≡ sets file.old 64 (node_bytes (lxd_nodes nodes.now labels.now)) }
+fn write_nodes(g: Labelled<'_>, work: &[u32], walked: Walked, file: &mut [u8])
+    requires planned { Planned g.graph.nodes.now g.labels.now work.now walked.words walked.tally }
+    requires labels_in_bounds { 64 + 4 * length (lxd_nodes g.graph.nodes.now g.labels.now) ≤ length file.old }
+    ensures { file.new ≡ sets file.old 64 (node_bytes (lxd_nodes g.entry.graph.nodes.now g.entry.labels.now)) }
 {
     write_le_u32(file, 64, 0x8A800000);
     write_le_u32(file, 68, 0x8A800002);
-    if words == 0 {
+    if walked.words == 0 {
         write_le_u32(file, 72, 0x8A800000);
         return;
     }
-    let blocks = t.blocks as usize;
-    write_runs(nodes, labels, work, blocks, file);
+    write_runs(g, work, walked.tally.blocks as usize, file);
 }
 
 // Writes the file where it fits, from the record of the runs met from the start.
 pub(crate) fn write_file(
-    nodes: &[u32],
-    labels: &[u32],
-    title: &[u32],
-    date: &[u32],
+    g: Labelled<'_>,
+    texts: Texts<'_>,
     work: &[u32],
-    words: u32,
-    t: BlockTally,
+    walked: Walked,
     file: &mut [u8],
-) -> Lxd
-    requires { Planned nodes.now labels.now work.now words t }
+) -> Result<usize, LxdRefusal>
+    requires { Planned g.graph.nodes.now g.labels.now work.now walked.words walked.tally }
     ensures { lxd_written_as result file.new
-        ≡ after_checks nodes.now labels.now title.now date.now file.old }
+        ≡ after_checks g.entry.graph.nodes.now g.entry.labels.now texts.entry.title.now texts.entry.date.now file.old }
 {
-    let count = node_count(words, t.nodes);
+    let count = node_count(walked.words, walked.tally.nodes);
     let long = 64 + 4 * (count as usize);
     if file.len() < long {
-        return Lxd::FileTooShort;
+        return Err(LxdRefusal::FileTooShort);
     }
-    write_header(file, count, title, date, words);
-    write_nodes(nodes, labels, work, words, t, file);
-    Lxd::Written(long)
+    write_header(file, count, texts, walked.words);
+    write_nodes(g, work, walked, file);
+    Ok(long)
 }

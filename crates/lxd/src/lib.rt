@@ -8,28 +8,27 @@ mod header;
 ghost use Rattle.std.specs.Prelude.{◌≡◌, false, ◌+◌, ◌*◌, ◌^◌, ◌≤◌, ◌<◌, length};
 ghost use Rattle.laws.specs.Lists.{some_of};
 ghost use Rattle.graph.specs.Runs.{start_node};
-ghost use Rattle.graph.specs.ChecksLaws.{Fit};
 ghost use Rattle.graph.specs.Lent.{WorkKept};
-ghost use Rattle.export.specs.Starts.{unlabelled};
 ghost use Rattle.survey.specs.Survey.{byteless, SurveyIs};
 ghost use Rattle.lxd_file.specs.File.{reached};
 ghost use Rattle.lxd_file.specs.Row.{lxd_checks, to_lxd};
-ghost use Rattle.lxd.specs.Said.{lxd_written_as, after_checks, WalkRefuses};
+ghost use Rattle.lxd.specs.Said.{lxd_refusal, lxd_written_as, after_checks, WalkRefuses};
+ghost use Rattle.lxd.specs.declared.LxdRefusal.TheVariants as L;
 
-use base::{MOST, clear};
+use answers::Refuses;
+use base::MOST;
 use block_record::BlockTally;
-use checks::{LxdChecked, check, lacks_byte};
+use checks::{check, lacks_byte};
 use file::write_file;
-use lxd_blocks::{RunNumbering, number_run};
+use graph::{FitGraph, GraphRefusal};
+use lxd_blocks::{WalkRefusal, number_run};
 use node::Node24;
-use survey::{Surveyed, survey};
+use survey::{Findings, Labelled, TooDeep, survey};
 
-#[derive(Clone, Copy)]
-pub enum Lxd {
-    Written(usize),
-    WrongSize,
-    ArcPastEnd(u32),
-    NoEnd,
+// Why no file is written.
+#[derive(Clone, Copy, Debug, PartialEq, Eq)]
+pub enum LxdRefusal {
+    Graph(GraphRefusal),
     TitleNotWindows1252,
     TitleTooLong,
     DateNotWindows1252,
@@ -43,117 +42,122 @@ pub enum Lxd {
     FileTooShort,
 }
 
-// The node where the words begin; node 0 must be lent.
-fn start_node(nodes: &[u32]) -> usize
-    requires { 0 < length nodes.now }
-    ensures { result ≡ start_node nodes.now 0 }
-{
-    Node24(nodes[0]).arc_index() as usize
-}
+impl Refuses for LxdRefusal {
+    ghost refusal = { lxd_refusal };
 
-// The survey from the node where the words begin. The graph must have passed 10, 8, 9 and 21, and the work list must be 8 × N long.
-fn survey_start(nodes: &[u32], labels: &[u32], work: &mut [u32]) -> Surveyed
-    requires fit { Fit nodes.now }
-    requires labels_value { unlabelled nodes.now labels.now ≡ false }
-    requires nodes_in_bounds { 8 * length nodes.now ≤ length work.old }
-    ensures { SurveyIs nodes.now labels.now 64 (start_node nodes.now 0) result }
-{
-    survey(nodes, labels, work, start_node(nodes))
-}
-
-// Why no file is written that has too many nodes: chains and words are asked before them. The graph must have passed 10, 8, 9 and 21, no
-// label that is reached may lack a byte, and the work list must be 8 × N long.
-fn refuse_too_many(nodes: &[u32], labels: &[u32], work: &mut [u32]) -> Lxd
-    requires fit { Fit nodes.now }
-    requires labels_value { unlabelled nodes.now labels.now ≡ false }
-    requires nodes_in_bounds { 8 * length nodes.now ≤ length work.old }
-    requires nodes_value { some_of (byteless labels.now) (reached nodes.now) ≡ false }
-    requires bound { 2 ^ 22 < 2 + length (reached nodes.now) }
-    ensures { WalkRefuses nodes.now labels.now result }
-{
-    let surveyed = survey_start(nodes, labels, work);
-    let Surveyed::Shallow(found) = surveyed else {
-        return Lxd::ChainTooLong;
-    };
-    if found.words == MOST {
-        return Lxd::TooManyWords;
+    fn number(&self) -> u32 {
+        match self {
+            LxdRefusal::Graph(why) => why.number(),
+            LxdRefusal::TitleNotWindows1252 | LxdRefusal::DateNotWindows1252 => 20,
+            LxdRefusal::TitleTooLong | LxdRefusal::DateTooLong => 19,
+            LxdRefusal::NoLabel => 21,
+            LxdRefusal::WorkTooShort | LxdRefusal::FileTooShort => 11,
+            LxdRefusal::ChainTooLong => 22,
+            LxdRefusal::LetterNotWindows1252 => 23,
+            LxdRefusal::TooManyWords => 13,
+            LxdRefusal::TooManyNodes => 25,
+        }
     }
-    Lxd::TooManyNodes
 }
 
-// Numbers the runs and writes the file. The graph must have passed 10, 8, 9 and 21, no label that is reached may lack a byte, and the
-// work list must be 8 × N long.
+impl From<GraphRefusal> for LxdRefusal {
+    ghost from_gives = { λ why e. e ≡ L.Graph why };
+
+    fn from(why: GraphRefusal) -> LxdRefusal {
+        LxdRefusal::Graph(why)
+    }
+}
+
+impl From<TooDeep> for LxdRefusal {
+    ghost from_gives = { λ why e. e ≡ L.ChainTooLong };
+
+    fn from(_why: TooDeep) -> LxdRefusal {
+        LxdRefusal::ChainTooLong
+    }
+}
+
+// What a file is called, and when it is from.
+#[derive(Clone, Copy)]
+pub(crate) struct Texts<'a> {
+    pub title: &'a [u32],
+    pub date: &'a [u32],
+}
+
+// The node where the words begin.
+fn start_node(g: FitGraph<'_>) -> usize
+    ensures start { result ≡ start_node g.entry.nodes.now 0 }
+    ensures inside { result < length g.entry.nodes.now }
+{
+    Node24(g.nodes[0]).arc_index() as usize
+}
+
+// The survey from the node where the words begin. The work list must be 8 × N long.
+fn survey_start(g: Labelled<'_>, work: &mut [u32]) -> Result<Findings, TooDeep>
+    requires nodes_in_bounds { 8 * length g.graph.nodes.now ≤ length work.old }
+    ensures { SurveyIs g.entry.graph.nodes.now g.entry.labels.now 64 (start_node g.entry.graph.nodes.now 0) result }
+{
+    survey(g, work, start_node(g.graph))
+}
+
+// Why no file is written that has too many nodes: chains and words are asked before them. No label that is reached may lack a byte, and
+// the work list must be 8 × N long.
+fn refuse_too_many(g: Labelled<'_>, work: &mut [u32]) -> LxdRefusal
+    requires nodes_in_bounds { 8 * length g.graph.nodes.now ≤ length work.old }
+    requires nodes_value { some_of (byteless g.labels.now) (reached g.graph.nodes.now) ≡ false }
+    requires bound { 2 ^ 22 < 2 + length (reached g.graph.nodes.now) }
+    ensures { WalkRefuses g.entry.graph.nodes.now g.entry.labels.now result }
+{
+    match survey_start(g, work) {
+        Err(deep) => LxdRefusal::from(deep),
+        Ok(found) if found.words == MOST => LxdRefusal::TooManyWords,
+        Ok(_) => LxdRefusal::TooManyNodes,
+    }
+}
+
+// Numbers the runs and writes the file. No label that is reached may lack a byte, and the work list must be 8 × N long.
 fn write_numbered(
-    nodes: &[u32],
-    labels: &[u32],
-    title: &[u32],
-    date: &[u32],
+    g: Labelled<'_>,
+    texts: Texts<'_>,
     work: &mut [u32],
     file: &mut [u8],
-) -> Lxd
-    requires fit { Fit nodes.now }
-    requires labels_value { unlabelled nodes.now labels.now ≡ false }
-    requires nodes_in_bounds { 8 * length nodes.now ≤ length work.old }
-    requires nodes_value { some_of (byteless labels.now) (reached nodes.now) ≡ false }
+) -> Result<usize, LxdRefusal>
+    requires nodes_in_bounds { 8 * length g.graph.nodes.now ≤ length work.old }
+    requires nodes_value { some_of (byteless g.labels.now) (reached g.graph.nodes.now) ≡ false }
     ensures { lxd_written_as result file.new
-        ≡ after_checks nodes.now labels.now title.now date.now file.old }
+        ≡ after_checks g.entry.graph.nodes.now g.entry.labels.now texts.entry.title.now texts.entry.date.now file.old }
 {
-    clear(work, nodes.len());
+    work[..g.graph.nodes.len()].fill(0);
     let none = BlockTally {
         blocks: 0,
         nodes: 2,
     };
-    let numbered = number_run(nodes, work, start_node(nodes), none, 64);
-    match numbered {
-        RunNumbering::TooDeep => Lxd::ChainTooLong,
-        RunNumbering::TooMany => refuse_too_many(nodes, labels, work),
-        RunNumbering::Done(walked) => {
-            if walked.words == MOST {
-                return Lxd::TooManyWords;
-            }
-            write_file(
-                nodes,
-                labels,
-                title,
-                date,
-                work,
-                walked.words,
-                walked.tally,
-                file,
-            )
-        }
+    match number_run(g.graph, work, start_node(g.graph), none, 64) {
+        Ok(walked) if walked.words == MOST => Err(LxdRefusal::TooManyWords),
+        Ok(walked) => write_file(g, texts, work, walked, file),
+        Err(WalkRefusal::TooDeep) => Err(LxdRefusal::ChainTooLong),
+        Err(WalkRefusal::TooMany) => Err(refuse_too_many(g, work)),
     }
 }
 
-// Writes the file. Only where some label has no byte are the labels that are reached looked at, by the survey. The graph must have passed
-// 10, 8, 9 and 21, and the work list must be 8 × N long.
+// Writes the file. Only where some label has no byte are the labels that are reached looked at, by the survey. The work list must be
+// 8 × N long.
 fn write_checked(
-    nodes: &[u32],
-    labels: &[u32],
-    title: &[u32],
-    date: &[u32],
+    g: Labelled<'_>,
+    texts: Texts<'_>,
     work: &mut [u32],
     file: &mut [u8],
-) -> Lxd
-    requires fit { Fit nodes.now }
-    requires labels_value { unlabelled nodes.now labels.now ≡ false }
-    requires nodes_in_bounds { 8 * length nodes.now ≤ length work.old }
+) -> Result<usize, LxdRefusal>
+    requires nodes_in_bounds { 8 * length g.graph.nodes.now ≤ length work.old }
     ensures { lxd_written_as result file.new
-        ≡ after_checks nodes.now labels.now title.now date.now file.old }
+        ≡ after_checks g.entry.graph.nodes.now g.entry.labels.now texts.entry.title.now texts.entry.date.now file.old }
 {
-    if lacks_byte(labels) {
-        let surveyed = survey_start(nodes, labels, work);
-        let Surveyed::Shallow(found) = surveyed else {
-            return Lxd::ChainTooLong;
-        };
-        if found.byteless {
-            return Lxd::LetterNotWindows1252;
-        }
+    if lacks_byte(g.labels) && survey_start(g, work)?.byteless {
+        return Err(LxdRefusal::LetterNotWindows1252);
     }
-    write_numbered(nodes, labels, title, date, work, file)
+    write_numbered(g, texts, work, file)
 }
 
-// Writes the LXD file of the words from node 0's arc.
+// Writes the LXD file of the words from node 0's arc, and answers its length.
 pub fn to_lxd(
     nodes: &[u32],
     labels: &[u32],
@@ -161,18 +165,14 @@ pub fn to_lxd(
     date: &[u32],
     work: &mut [u32],
     file: &mut [u8],
-) -> Lxd
+) -> Result<usize, LxdRefusal>
     ensures written { lxd_written_as result file.new
         ≡ to_lxd nodes.now labels.now title.now date.now (length work.old) file.old }
     ensures free { WorkKept (lxd_checks nodes.now labels.now title.now date.now (length work.old))
         (8 * length nodes.now) work.old work.new }
 {
-    let checked = check(nodes, labels, title, date, work.len());
-    match checked {
-        LxdChecked::Refused(answer) => answer,
-        LxdChecked::Passed => {
-            let free = 8 * nodes.len();
-            write_checked(nodes, labels, title, date, &mut work[..free], file)
-        }
-    }
+    let texts = Texts { title, date };
+    let g = check(nodes, labels, texts, work.len())?;
+    let free = 8 * nodes.len();
+    write_checked(g, texts, &mut work[..free], file)
 }

@@ -1,5 +1,5 @@
 -- What the walk knows of numbered runs: as it reads the entries of one, and as it changes them, where the others stay as they were.
-use mathlib.Core.Path.{◌≡◌, refl, sym, ◌∙◌}
+use mathlib.Core.Path.{◌≡◌, refl, ◌∙◌}
 use mathlib.Core.Logic.{◌≢◌}
 use mathlib.Core.Bool.{true}
 use mathlib.Core.List.{List}
@@ -8,7 +8,7 @@ use native.Mathlib.Omega.{arith}
 use lib.Dec.{eqb}
 use lib.ListN.{length, get_or, set, length-set}
 use lib.Seq.{get_or-set_same, get_or-set_other}
-use borrow.Author.Tests.{eqb-true, eqb-false, eq-eqb, ne_eqb, lt-ltb, le-ltb}
+use borrow.Author.Tests.{eqb-true, eqb-false}
 use Rattle.laws.specs.Cases.{split}
 use Rattle.graph.specs.Runs.{Graph}
 use Rattle.block_record.specs.declared.BlockTally.{BlockTally}
@@ -16,22 +16,7 @@ use Rattle.block_record.specs.Record.{block_pushed}
 use Rattle.block_record.specs.Depths.{depth_at, NoneBut, NoneLeft}
 use Rattle.block_record.specs.DepthsLaws.{none-left-followed, left-past, opened-but}
 use Rattle.survey.specs.RunCounted.{RunCounted}
-use Rattle.lxd_blocks.specs.RunsNumbered.{words_at, looked_up, Known}
-use Rattle.lxd_blocks.specs.declared.numbering.RunNumbering.TheVariants.{Done, TooDeep}
-
--- ---- the entries of a run, read with its chain first
-module _ (n : ℕ) (w : List ℕ) (p : ℕ) (t : BlockTally) (left : ℕ) {d : ℕ} (read : d ≡ get_or w (depth_at n p) 0) where
-  pub looked_followed : d ≡ 0 → TooDeep ≡ looked_up n w p t left
-  looked_followed z = rw (eq-eqb _ _ (sym read ∙ z), looked_up)
-
-  pub looked_deep : d ≢ 0 → left < d → TooDeep ≡ looked_up n w p t left
-  looked_deep s h =
-      rw (ne_eqb (get_or w (depth_at n p) 0) 0 (λ z. s (read ∙ z)), lt-ltb left (get_or w (depth_at n p) 0) (omega arith), looked_up)
-
-  pub looked_known : {x : ℕ} → d ≢ 0 → d ≤ left → x ≡ get_or w (words_at n p) 0
-      → Done (record { tally = t; runs = d; words = x }) ≡ looked_up n w p t left
-  looked_known s h e =
-      rw (read, e, ne_eqb (get_or w (depth_at n p) 0) 0 (λ z. s (read ∙ z)), le-ltb left (get_or w (depth_at n p) 0) (omega arith), looked_up)
+use Rattle.lxd_blocks.specs.RunsNumbered.{words_at, Known}
 
 -- ---- the entries of one run changed
 module _ (g : Graph) where

@@ -3,22 +3,23 @@ use mathlib.Core.Path.{◌≡◌, refl, sym, ap, ◌∙◌, subst}
 use mathlib.Core.Logic.{◌≢◌}
 use mathlib.Core.Bool.{true, false, ◌&&◌, not}
 use mathlib.Core.List.{List, [], ◌∷◌, ◌++◌, map, Memᴰ}
-use Prim.Native.Nat.{ℕ, suc, ◌+◌, ◌-◌, ◌*◌, ◌^◌, ◌≤◌, ◌<◌, max}
+use Prim.Native.Nat.{ℕ, suc, ◌+◌, ◌-◌, ◌*◌, ◌^◌, ◌≤◌, ◌<◌}
 use native.Mathlib.Omega.{arith}
 use lib.Dec.{eqb, ltb}
-use lib.ListN.{length, get_or, set}
+use lib.ListN.{length, get_or, set, length-set, drop, drop_of_length-le}
+use Rattle.std.proofs.Common.{add-one, drop-cons}
 use borrow.Author.Tests.{eqb-true, eqb-false, eq-eqb, ne_eqb, ltb-false}
 use Rattle.laws.specs.Cases.{split, and_left, and_right}
 use Rattle.laws.specs.Lists.{filtered, member}
-use Rattle.node.specs.Nodes.{kbwg, arc, is_end}
-use Rattle.graph.specs.Runs.{Graph, node}
+use Rattle.node.specs.Nodes.{kbwg, arc}
+use Rattle.graph.specs.Runs.{Graph}
 use Rattle.export.specs.Starts.{run_of, has_arc, arcs_from, deeper}
-use Rattle.export.specs.RunOfLaws.{run_ends, run-goes-on}
 use Rattle.export.specs.Blocks.{each, met, met_by, total}
 use Rattle.block_record.specs.Record.{order_in, Pushed}
 use Rattle.block_record.specs.RecordLaws.{holds-room, met-old, met-new, met-by-none, met-by-arc, total_snoc, all-total, fresh_of, stale_of, push-holds}
 use Rattle.block_record.specs.declared.BlockTally.{BlockTally}
-use Rattle.export.specs.ChainLaws.{arc-from}
+use Rattle.graph.specs.ChecksLaws.{Closed}
+use Rattle.export.specs.ChainLaws.{arc-from, arcs-inside}
 use Rattle.block_record.specs.Depths.{depth_at, Below, NoneBut}
 use Rattle.block_record.specs.DepthsLaws.{loop-deep, below-arc, deep-by-arc}
 use Rattle.lxd_file.specs.File.{run_size}
@@ -26,10 +27,11 @@ use Rattle.survey.specs.RunCounted.{counted_none}
 use Rattle.lxd_blocks.specs.RunsNumbered.{words_at, node_passed, run_closed, looked_up, RunsHeld, Known, RunsRecorded, RunsNumbered, NumberedAs}
 use Rattle.lxd_blocks.proofs.HeldLaws.{held_as, held-here, held-past}
 use Rattle.lxd_blocks.specs.declared.numbering.Walked.{Walked}
-use Rattle.lxd_blocks.specs.declared.numbering.RunNumbering.{RunNumbering}
-use Rattle.lxd_blocks.proofs.RunLaws.{run-first}
+use Rattle.lxd_blocks.specs.declared.numbering.WalkRefusal.{WalkRefusal}
+use Rattle.lxd_blocks.specs.declared.numbering.WalkRefusal.TheVariants.{TooDeep, TooMany}
+use Rattle.std.specs.Prelude.{Result, Err}
 use Rattle.lxd_blocks.proofs.RunCountedLaws.{Passing, passing-starts, passing-node, passing-all}
-use Rattle.lxd_blocks.proofs.KnownLaws.{ended-known, ended-followed}
+use Rattle.lxd_blocks.proofs.KnownLaws.{begun-known, begun-followed, ended-known, ended-followed}
 
 module _ (g : Graph) where
   -- the runs met from the arcs of nodes, with so many runs left in the chain
@@ -70,11 +72,11 @@ module _ (g : Graph) where
           ends = ltb-false _ _ d;
         })))
 
-    pub known-run : {r : RunNumbering} (q : ℕ) → q < length g → get_or w q 0 ≢ 0 → Below g w q → r ≡ looked_up (length g) w q t left
+    pub known-run : {r : Result Walked WalkRefusal} (q : ℕ) → q < length g → get_or w q 0 ≢ 0 → Below g w q → r ≡ looked_up (length g) w q t left
         → NumberedAs g w w (met eqb (arcs_from g) left here q) true q left r
     known-run q l n b e = subst (NumberedAs g w w (met eqb (arcs_from g) left here q) true q left) (sym e) (known-answer q l n b)
 
-  pub arc-run : (w₀ w o : List ℕ) (left v : ℕ) (r : RunNumbering) {q : ℕ} → q ≡ arc kbwg v → q ≢ 0
+  pub arc-run : (w₀ w o : List ℕ) (left v : ℕ) (r : Result Walked WalkRefusal) {q : ℕ} → q ≡ arc kbwg v → q ≢ 0
       → NumberedAs g w₀ w (met eqb (arcs_from g) left o q) true q left r
       → NumberedAs g w₀ w (met_by (arcs_from g) left o (arc kbwg v)) (has_arc v) (arc kbwg v) left r
   arc-run w₀ w o left v r {q} e n h = rw (← e, met-by-arc (arcs_from g) left o q n, ne_eqb q 0 n) h
@@ -114,106 +116,119 @@ module _ (g : Graph) where
       (λ e. rw (e, filtered) (ap (λ x. walk left x vs) (sym (met-by-none (arcs_from g) left o (arc kbwg v) (eqb-true _ _ e)))))
       (λ e. rw (e, filtered) (ap (λ x. walk left x vs) (sym (met-by-arc (arcs_from g) left o (arc kbwg v) (eqb-false _ _ e)))))
 
-  -- the runs met before node `at` of the run from p are held, and what is left gives what is met from all its nodes after those of o;
-  -- w₀ is the work list as p was numbered
-  pub record Along (left : ℕ) (o : List ℕ) (p : ℕ) (w₀ w : List ℕ) (f : Walked) (at : ℕ) : Type 0 where
-    pub inside : at < length g
+  -- the runs met before the nodes vs at the end of the run from p are held, and what is left to meet gives m; w₀ is the work list as p is
+  -- asked for
+  pub record Along (left p : ℕ) (w₀ w m : List ℕ) (f : Walked) (vs : List ℕ) : Type 0 where
+    pub size : length w ≡ length w₀
     pub held : RunsHeld g w f.tally (order_in (length g) w f.tally)
-    pub rest : walk left (order_in (length g) w f.tally) (run_of g at) ≡ walk left o (run_of g p)
-    pub own : (v : ℕ) → Memᴰ v (run_of g at) → Memᴰ v (run_of g p)
+    pub rest : walk left (order_in (length g) w f.tally) vs ≡ m
+    pub own : (v : ℕ) → Memᴰ v vs → Memᴰ v (run_of g p)
     pub known : Known g w
     pub followed : NoneBut g p w₀ w
-    pub passing : Passing g p f.runs f.words (run_of g at)
+    pub passing : Passing g p f.runs f.words vs
     pub ends : f.runs ≤ left
 
-  pub along-starts : {left p : ℕ} {w : List ℕ} {t : BlockTally} → p < length g → RunsHeld g w t (order_in (length g) w t) → Known g w
-      → Along left (order_in (length g) w t) p w w (record { tally = t; runs = 0; words = 0 }) p
-  along-starts {p = p} l h k =
+  -- p numbered, with no chain yet
+  pub along-starts : {w w₁ w₂ : List ℕ} {t t₁ : BlockTally} {left s : ℕ} (p : ℕ) → RunsRecorded g w t → p < length g → get_or w p 0 ≡ 0
+      → left ≢ 0 → s ≡ run_size g p → s ≤ 2 ^ 22 - t.nodes → Pushed (length g) w p t s w₁ t₁ → w₂ ≡ set w₁ (depth_at (length g) p) 0
+      → Along (left - 1) p w w₂ (met eqb (arcs_from g) left (order_in (length g) w t) p) (record { tally = t₁; runs = 0; words = 0 }) (run_of g p)
+  along-starts {w} {w₁} {w₂} {t} {t₁} {left} p r l new n e d a i =
+      let few = blocks-left r.held p l new in
+      let put = i ∙ ap (λ (x : List ℕ). set x (depth_at (length g) p) 0) a.list in
+      let pushed : RunsHeld g w₂ t₁ (order_in (length g) w t ++ p ∷ []) =
+      subst (λ x. RunsHeld g x t₁ (order_in (length g) w t ++ p ∷ [])) (sym i)
+      (held-past g (depth_at (length g) p) 0 (omega arith) (run_pushed r.held p l new w₁ t₁ _ r.room e d a)) in
       record {
-        inside = l;
-        held = h;
-        rest = refl;
+        size = ap length put ∙ simp length-set;
+        held = held-here g pushed;
+        rest = run-met r.held p l new left (order_in (length g) w₂ t₁) n pushed.runs.order;
         own = λ v m. m;
-        known = k;
-        followed = λ q m n f. f;
+        known = subst (Known g) (sym put) (begun-known g w p l r.room t few r.known);
+        followed = subst (NoneBut g p w) (sym put) (begun-followed g w p l r.room t few);
         passing = passing-starts g p;
         ends = omega arith;
       }
 
-  module _ {left : ℕ} {o : List ℕ} {p : ℕ} {w₀ w : List ℕ} {f : Walked} {at : ℕ} (k : Along left o p w₀ w f at) where
+  -- the node at hand and those after it, or none
+  module _ {left p : ℕ} {w₀ w m : List ℕ} {f : Walked} (vs : List ℕ) (i : ℕ) (k : Along left p w₀ w m f (drop i vs)) where
+    pub along-here : i < length vs → Along left p w₀ w m f (get_or vs i 0 ∷ drop (i + 1) vs)
+    along-here h = let e : drop i vs ≡ get_or vs i 0 ∷ drop (i + 1) vs = rw (add-one, drop-cons vs i 0) in subst (Along left p w₀ w m f) e k
+
+    pub along-done : length vs ≤ i → Along left p w₀ w m f []
+    along-done h = subst (Along left p w₀ w m f) (drop_of_length-le vs h) k
+
+  module _ {left p : ℕ} {w₀ w m : List ℕ} {f : Walked} {v : ℕ} {vs : List ℕ} (k : Along left p w₀ w m f (v ∷ vs)) where
     abbrev seen : List ℕ
     seen = order_in (length g) w f.tally
 
-    abbrev v : ℕ
-    v = node g at
-
     abbrev next : List ℕ
-    next = met_by (arcs_from g) left (order_in (length g) w f.tally) (arc kbwg (node g at))
+    next = met_by (arcs_from g) left (order_in (length g) w f.tally) (arc kbwg v)
+
+    pub along-recorded : 4 * length g ≤ length w₀ → RunsRecorded g w f.tally
+    along-recorded r = let s = k.size in record { room = omega arith; held = k.held; known = k.known }
 
     -- ---- what the arc of the node at hand leads to
     arc-own : has_arc v ≡ true → Memᴰ (arc kbwg v) (arcs_from g p)
-    arc-own has = let r = run-first g at k.inside in arc-from g p v (k.own v (subst (Memᴰ v) (sym r.1) (Memᴰ.head refl))) has
+    arc-own has = arc-from g p v (k.own v (Memᴰ.head refl)) has
+
+    pub along-inside : Closed g → p < length g → arc kbwg v < length g
+    along-inside c l =
+        split (eqb (arc kbwg v) 0)
+        (λ z. let e = eqb-true _ _ z in omega arith)
+        (λ z. arcs-inside g c p (arc kbwg v) (arc-own (ap not z)))
 
     -- below p, and with it below what was followed when p was entered
-    pub along-below : (was : List ℕ) → NoneBut g p was w₀ → Below g was p → has_arc v ≡ true → Below g w (arc kbwg v)
-    along-below was n b has = below-arc g was w p (arc kbwg v) b (λ q l m f. n q l m (k.followed q l m f)) (arc-own has)
+    pub along-below : Below g w₀ p → has_arc v ≡ true → Below g w (arc kbwg v)
+    along-below b has = below-arc g w₀ w p (arc kbwg v) b k.followed (arc-own has)
 
-    pub along-deep : has_arc v && deeper g left (arc kbwg v) ≡ true → deeper g (suc left) p ≡ true
+    -- ---- why it is refused
+    along-deep : has_arc v && deeper g left (arc kbwg v) ≡ true → deeper g (suc left) p ≡ true
     along-deep d = deep-by-arc g left p (arc kbwg v) (arc-own (and_left (has_arc v) _ d)) (and_right (has_arc v) _ d)
 
-    pub along_over : 2 ^ 22 < 2 + total (run_size g) next → 2 ^ 22 < 2 + total (run_size g) (walk left o (run_of g p))
+    along_over : 2 ^ 22 < 2 + total (run_size g) next → 2 ^ 22 < 2 + total (run_size g) m
     along_over h =
-        let r = run-first g at k.inside in
-        let e = ap (walk left seen) r.1 ∙ walk-node left seen v r.0 in
-        let m = all-total (run_size g) (arcs_from g) left next (map (arc kbwg) (filtered has_arc r.0)) in
-        subst (λ x. 2 ^ 22 < 2 + total (run_size g) x) (sym e ∙ k.rest) (omega arith)
+        let n = all-total (run_size g) (arcs_from g) left next (map (arc kbwg) (filtered has_arc vs)) in
+        subst (λ x. 2 ^ 22 < 2 + total (run_size g) x) (sym (walk-node left seen v vs) ∙ k.rest) (omega arith)
+
+    pub along-refused : (w' : List ℕ) {turns : ℕ} (e : WalkRefusal) → suc left ≡ turns
+        → NumberedAs g w w' next (has_arc v) (arc kbwg v) left (Err e) → NumberedAs g w₀ w' m true p turns (Err e)
+    along-refused w' TooDeep i d = rw (← i) (along-deep d)
+    along-refused w' TooMany i h = along_over h
 
     -- ---- past it
-    module _ {w' : List ℕ} {child : Walked} (c : RunsNumbered g w w' next (has_arc v) (arc kbwg v) left child) where
-      still : NoneBut g p w₀ w'
-      still q l n x = k.followed q l n (c.followed q l x)
+    pub along-goes : {w' : List ℕ} {child sum : Walked} → RunsNumbered g w w' next (has_arc v) (arc kbwg v) left child → sum ≡ node_passed v f child
+        → length w' ≡ length w → Along left p w₀ w' m sum vs
+    along-goes {w'} {child} {sum} c i z =
+        let a = k.ends in
+        let b = c.ends in
+        subst (λ x. Along left p w₀ w' m x vs) (sym i)
+        (record {
+          size = z ∙ k.size;
+          held = held-here g c.held;
+          rest = ap (λ x. walk left x vs) c.held.runs.order ∙ sym (walk-node left seen v vs) ∙ k.rest;
+          own = λ u n. k.own u (Memᴰ.tail n);
+          known = c.known;
+          followed = λ q l n x. k.followed q l n (c.followed q l x);
+          passing = passing-node g k.passing c.counted;
+          ends = omega arith;
+        })
 
-      within : max f.runs child.runs ≤ left
-      within = let a = k.ends in let b = c.ends in omega arith
+  -- all nodes passed, and what is found is kept
+  module _ {left p : ℕ} {w₀ w m : List ℕ} {f : Walked} (k : Along left p w₀ w m f []) (l : p < length g) (room : 4 * length g ≤ length w) where
+    kept_whole : RunsNumbered g w₀ (set (set w (depth_at (length g) p) (f.runs + 1)) (words_at (length g) p) f.words) m true p (suc left) (run_closed f)
+    kept_whole =
+        let found = passing-all g k.passing in
+        let some : f.runs + 1 ≢ 0 = λ z. omega arith in
+        record {
+          held = held-past g (words_at (length g) p) f.words (omega arith)
+              (held-past g (depth_at (length g) p) (f.runs + 1) (omega arith) (held_as g k.rest k.held));
+          known = ended-known g w p l room (f.runs + 1) f.words some found k.known;
+          followed = ended-followed g w p l room (f.runs + 1) f.words some w₀ k.followed;
+          counted = found;
+          ends = let a = k.ends in omega arith;
+        }
 
-      pub along-goes : {sum : Walked} → sum ≡ node_passed v f child → is_end kbwg v ≡ false → suc at < length g → Along left o p w₀ w' sum (at + 1)
-      along-goes i e l =
-          let more = run-goes-on g at k.inside e in
-          subst (λ x. Along left o p w₀ w' x (at + 1)) (sym i)
-          (record {
-            inside = omega arith;
-            held = held-here g c.held;
-            rest = ap (λ x. walk left x (run_of g (at + 1))) c.held.runs.order
-                ∙ sym (ap (walk left seen) more ∙ walk-node left seen v (run_of g (at + 1))) ∙ k.rest;
-            own = λ u m. k.own u (subst (Memᴰ u) (sym more) (Memᴰ.tail m));
-            known = c.known;
-            followed = still;
-            passing = passing-node g (subst (Passing g p f.runs f.words) more k.passing) c.counted;
-            ends = within;
-          })
-
-      -- the last node passed, and what is found is kept
-      module _ (e : is_end kbwg v ≡ true) (was : List ℕ) (b : NoneBut g p was w₀) (l : p < length g) (room : 4 * length g ≤ length w') where
-        abbrev whole : Walked
-        whole = run_closed (node_passed v f child)
-
-        kept_whole : RunsNumbered g was (set (set w' (depth_at (length g) p) whole.runs) (words_at (length g) p) whole.words)
-            (walk left o (run_of g p)) true p (suc left) whole
-        kept_whole =
-            let last = run_ends g at k.inside e in
-            let found = passing-all g (passing-node g (subst (Passing g p f.runs f.words) last k.passing) c.counted) in
-            let order = sym (ap (walk left seen) last ∙ walk-node left seen v []) ∙ k.rest in
-            let some : whole.runs ≢ 0 = λ z. omega arith in
-            record {
-              held = held-past g (words_at (length g) p) whole.words (omega arith)
-                  (held-past g (depth_at (length g) p) whole.runs (omega arith) (held_as g order c.held));
-              known = ended-known g w' p l room whole.runs whole.words some found c.known;
-              followed = ended-followed g w' p l room whole.runs whole.words some was (λ q m n x. b q m n (still q m n x));
-              counted = found;
-              ends = let a = within in omega arith;
-            }
-
-        pub along-ends : {sum r : Walked} {w'' o' : List ℕ} {turns : ℕ} → sum ≡ node_passed v f child
-            → (r ≡ run_closed sum) × (w'' ≡ set (set w' (depth_at (length g) p) (run_closed sum).runs) (words_at (length g) p) sum.words)
-            → walk left o (run_of g p) ≡ o' → suc left ≡ turns → RunsNumbered g was w'' o' true p turns r
-        along-ends i j x y = rw (j.0, j.1, i, ← x, ← y) kept_whole
+    pub along-ends : {r : Walked} {w' : List ℕ} {turns : ℕ} → suc left ≡ turns
+        → (r ≡ run_closed f) × (w' ≡ set (set w (depth_at (length g) p) (run_closed f).runs) (words_at (length g) p) f.words)
+        → RunsNumbered g w₀ w' m true p turns r
+    along-ends i j = rw (j.0, j.1, ← i) kept_whole

@@ -1,6 +1,6 @@
 -- The file's nodes as they are written one by one: a child by its entry in the record, and the nodes of all runs in the record's order.
 use mathlib.Core.Path.{◌≡◌, refl, sym, ap, ◌∙◌, subst}
-use mathlib.Core.Bool.{Bool, true, false}
+use mathlib.Core.Bool.{true, false}
 use mathlib.Core.List.Memᴰ
 use mathlib.Core.List.{List, [], ◌∷◌, ◌++◌, map, append_assoc, map-append, Memᴰ}
 use Prim.Native.Nat.{ℕ, suc, ◌+◌, ◌≤◌, ◌<◌}
@@ -13,21 +13,13 @@ use Rattle.laws.specs.Members.{at_in}
 use Rattle.endian.specs.Bytes.{to_bytes, node_bytes}
 use Rattle.endian.proofs.BytesLaws.{numbers_append}
 use Rattle.endian.specs.Putting.{Putting, put-start, put_next, put-done}
-use Rattle.node.specs.Nodes.{kbwg, tile, arc, accepts, is_end, values, packed}
+use Rattle.node.specs.Nodes.{kbwg, is_end}
 use Rattle.graph.specs.Runs.{Graph, node}
 use Rattle.export.specs.Starts.{run_of}
 use Rattle.export.specs.RunOfLaws.{run_ends, run-goes-on}
-use Rattle.block_record.specs.Record.{child_in, blocks_in}
-use Rattle.lxd_file.specs.File.{lxd, letter}
+use Rattle.block_record.specs.Record.{blocks_in}
 use Rattle.lxd_blocks.specs.Placed.{node_in, bytes_in, order_bytes}
 use Rattle.lxd_blocks.proofs.RunLaws.{run-first}
-
--- ---- a node, by its parts
-module _ (labels w : List ℕ) (v : ℕ) where
-  pub node-packed : {t k : ℕ} {a e : Bool} → t ≡ letter labels (tile kbwg v) → a ≡ accepts kbwg v → e ≡ is_end kbwg v
-      → k ≡ child_in w (arc kbwg v) → packed lxd (values t a e k) ≡ node_in labels w v
-  unfolding node_in
-  node-packed h i j m = rw (h, i, j, m)
 
 module _ (g : Graph) (labels w : List ℕ) where
   -- the bytes of a run

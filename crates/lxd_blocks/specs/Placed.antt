@@ -1,10 +1,9 @@
 -- The file's nodes by the record of places.
-use Rattle.std.specs.Prelude.{◌≡◌, false, List, map, ℕ, ◌^◌, ◌≤◌, ◌<◌, length}
+use Rattle.std.specs.Prelude.{List, map, ℕ, ◌^◌, ◌≤◌, ◌<◌, length}
 use Rattle.laws.specs.Lists.{join_all}
 use Rattle.endian.specs.Bytes.{node_bytes}
 use Rattle.graph.specs.Runs.{Graph}
-use Rattle.graph.specs.ChecksLaws.{Fit}
-use Rattle.export.specs.Starts.{run_of, unlabelled}
+use Rattle.export.specs.Starts.{run_of}
 use Rattle.block_record.specs.Record.{child_in}
 use Rattle.lxd_file.specs.File.{node_by}
 
@@ -16,14 +15,11 @@ module _ (labels w : List ℕ) where
   abbrev pub bytes_in : List ℕ → List ℕ
   bytes_in vs = node_bytes (map node_in vs)
 
-module _ (g : Graph) (labels w : List ℕ) where
-  -- the bytes of runs one after the other
-  abbrev pub order_bytes : List ℕ → List ℕ
-  order_bytes ps = bytes_in labels w (join_all (map (run_of g) ps))
+-- the bytes of runs one after the other
+abbrev pub order_bytes : Graph → List ℕ → List ℕ → List ℕ → List ℕ
+order_bytes g labels w ps = bytes_in labels w (join_all (map (run_of g) ps))
 
-  -- what writing reads
-  pub record LxdReady : Type 0 where
-    pub fit : Fit g
-    pub labelled : unlabelled g labels ≡ false
-    pub room : length g ≤ length w
-    pub child_fits : (p : ℕ) → p < length g → child_in w p < 2 ^ 22
+-- what writing reads of the record
+pub record LxdReady (g : Graph) (w : List ℕ) : Type 0 where
+  pub room : length g ≤ length w
+  pub child_fits : (p : ℕ) → p < length g → child_in w p < 2 ^ 22

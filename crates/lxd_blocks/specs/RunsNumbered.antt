@@ -1,20 +1,18 @@
 -- The record of runs as it grows: "a run takes consecutive places when first met" (document 01); and what the walk finds of each run on
 -- its way back, for the checks 22 and 13.
-use Rattle.std.specs.Prelude.{◌≡◌, ◌≢◌, Bool, true, false, ◌&&◌, List, ℕ, ◌+◌, ◌*◌, ◌^◌, ◌≤◌, ◌<◌, min, max, eqb, ltb, length, get_or}
-use Rattle.base.specs.Numbers.{flag, most}
-use Rattle.node.specs.Nodes.{kbwg, accepts}
+use Rattle.std.specs.Prelude.{◌≡◌, ◌≢◌, Bool, true, false, ◌&&◌, List, ℕ, ◌+◌, ◌*◌, ◌^◌, ◌≤◌, ◌<◌, min, max, eqb, ltb, length, get_or, Result, Ok, Err}
+use Rattle.base.specs.Numbers.{most}
 use Rattle.graph.specs.Runs.{Graph}
-use Rattle.graph.specs.ChecksLaws.{Fit}
 use Rattle.export.specs.Starts.{deeper}
 use Rattle.export.specs.Blocks.{total}
 use Rattle.block_record.specs.Record.{order_in, HoldsBlocks}
 use Rattle.block_record.specs.Depths.{depth_at, NoneLeft}
-use Rattle.survey.specs.RunCounted.{RunCounted}
+use Rattle.survey.specs.RunCounted.{RunCounted, words_through}
 use Rattle.block_record.specs.declared.BlockTally.{BlockTally}
 use Rattle.lxd_file.specs.File.{run_size}
 use Rattle.lxd_blocks.specs.declared.numbering.Walked.{Walked}
-use Rattle.lxd_blocks.specs.declared.numbering.RunNumbering.{RunNumbering}
-use Rattle.lxd_blocks.specs.declared.numbering.RunNumbering.TheVariants.{Done, TooDeep, TooMany}
+use Rattle.lxd_blocks.specs.declared.numbering.WalkRefusal.{WalkRefusal}
+use Rattle.lxd_blocks.specs.declared.numbering.WalkRefusal.TheVariants.{TooDeep, TooMany}
 
 -- the entry for the words of p, of n nodes
 abbrev pub words_at : ℕ → ℕ → ℕ
@@ -26,7 +24,7 @@ node_passed v before child =
     record {
       tally = child.tally;
       runs = max before.runs child.runs;
-      words = min (before.words + min (flag (accepts kbwg v) + child.words) most) most;
+      words = min (before.words + words_through v child.words) most;
     }
 
 -- and of the whole run, which is one run more
@@ -34,13 +32,13 @@ abbrev pub run_closed : Walked → Walked
 run_closed f = record { tally = f.tally; runs = f.runs + 1; words = f.words }
 
 -- the answer by the entries of a numbered run; while its arcs are being followed there is no end to its chains
-abbrev pub looked_up : ℕ → List ℕ → ℕ → BlockTally → ℕ → RunNumbering
+abbrev pub looked_up : ℕ → List ℕ → ℕ → BlockTally → ℕ → Result Walked WalkRefusal
 looked_up n w p t left =
     elim (eqb (get_or w (depth_at n p) 0) 0) [
-      | true ↦ TooDeep
+      | true ↦ Err TooDeep
       | false ↦ elim (ltb left (get_or w (depth_at n p) 0)) [
-        | true ↦ TooDeep
-        | false ↦ Done (record { tally = t; runs = get_or w (depth_at n p) 0; words = get_or w (words_at n p) 0 })
+        | true ↦ Err TooDeep
+        | false ↦ Ok (record { tally = t; runs = get_or w (depth_at n p) 0; words = get_or w (words_at n p) 0 })
       ]
     ]
 
@@ -58,7 +56,6 @@ module _ (g : Graph) where
 
   -- what numbering begins with
   pub record RunsRecorded (w : List ℕ) (t : BlockTally) : Type 0 where
-    pub fit : Fit g
     pub room : 4 * length g ≤ length w
     pub held : RunsHeld w t (order_in (length g) w t)
     pub known : Known w
@@ -72,7 +69,7 @@ module _ (g : Graph) where
     pub ends : f.runs ≤ left
 
   -- what it answers
-  abbrev pub NumberedAs : List ℕ → List ℕ → List ℕ → Bool → ℕ → ℕ → RunNumbering → Type 0
-  NumberedAs w₀ w o there q left (Done f) = RunsNumbered w₀ w o there q left f
-  NumberedAs w₀ w o there q left TooDeep = there && deeper g left q ≡ true
-  NumberedAs w₀ w o there q left TooMany = 2 ^ 22 < 2 + total (run_size g) o
+  abbrev pub NumberedAs : List ℕ → List ℕ → List ℕ → Bool → ℕ → ℕ → Result Walked WalkRefusal → Type 0
+  NumberedAs w₀ w o there q left (Ok f) = RunsNumbered w₀ w o there q left f
+  NumberedAs w₀ w o there q left (Err TooDeep) = there && deeper g left q ≡ true
+  NumberedAs w₀ w o there q left (Err TooMany) = 2 ^ 22 < 2 + total (run_size g) o

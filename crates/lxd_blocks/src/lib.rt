@@ -5,4 +5,4 @@ mod nodes;
 mod numbering;
 
 pub use nodes::write_runs;
-pub use numbering::{RunNumbering, Walked, number_run};
+pub use numbering::{WalkRefusal, Walked, number_run};

@@ -4,17 +4,16 @@
 ghost use Rattle.std.specs.Prelude.{◌≡◌, true, ◌*◌, ◌≤◌, ◌<◌, eqb, length, get_or, set};
 ghost use Rattle.base.specs.Numbers.{most};
 ghost use Rattle.node.specs.Nodes.{kbwg, arc};
-ghost use Rattle.graph.specs.ChecksLaws.{Fit};
 ghost use Rattle.export.specs.Blocks.{met, met_by};
 ghost use Rattle.block_record.specs.Record.{order_in};
-ghost use Rattle.export.specs.Starts.{has_arc, arcs_from};
+ghost use Rattle.export.specs.Starts.{run_of, has_arc, arcs_from};
 ghost use Rattle.block_record.specs.Depths.{depth_at, Below};
-ghost use Rattle.lxd_file.specs.File.{run_size};
 ghost use Rattle.lxd_blocks.specs.RunsNumbered.{words_at, node_passed, run_closed, looked_up, RunsRecorded, NumberedAs};
 
-use base::{bit, capped_sum, larger};
-use block_record::{BlockTally, Place, depth_of, keep_depth, place_of, push_block};
+use block_record::{BlockTally, depth_of, keep_depth, place_of, push_block};
+use graph::FitGraph;
 use node::Node24;
+use survey::words_through;
 
 // As many nodes as a child of 22 bits can number.
 const MOST_NODES: u32 = 4194304;
@@ -28,77 +27,59 @@ pub struct Walked {
     pub words: u32,
 }
 
-// The runs numbered, or a chain too long, or too many nodes.
-#[derive(Clone, Copy)]
-pub enum RunNumbering {
-    Done(Walked),
+// Why the walk stops.
+#[derive(Clone, Copy, Debug, PartialEq, Eq)]
+pub enum WalkRefusal {
     TooDeep,
     TooMany,
 }
 
-// How many nodes the run from p has; p must be a node.
-fn run_length(nodes: &[u32], p: usize) -> u32
-    requires fit { Fit nodes.now }
-    requires p_in_bounds { p < length nodes.now }
-    ensures { result ≡ run_size nodes.now p }
+// The nodes of the run from p, which must be a node.
+fn run_from<'a>(g: FitGraph<'a>, p: usize) -> &'a [u32]
+    requires { p < length g.nodes.now }
+    ensures { result.now ≡ run_of g.entry.nodes.now p }
 {
-    let mut at = p;
-    let mut passed: u32 = 1;
-    loop {
-        if Node24(nodes[at]).is_end() {
-            return passed;
-        }
-        at += 1;
-        passed += 1;
+    let mut last = p;
+    // A run ends by a bit of its last node, so no range says how many nodes it has.
+    while !Node24(g.nodes[last]).is_end() {
+        last += 1;
     }
-}
-
-// The words kept for the run from p; the work list must have an entry for them.
-fn words_of(n: usize, work: &[u32], p: usize) -> u32
-    requires { (p < n) × (4 * n ≤ length work.now) }
-    ensures { result ≡ get_or work.now (words_at n p) 0 }
-{
-    work[3 * n + p]
-}
-
-// Keeps the words of the run from p; the work list must have an entry for them.
-fn keep_words(n: usize, work: &mut [u32], p: usize, words: u32)
-    requires { (p < n) × (4 * n ≤ length work.old) }
-    ensures { work.new ≡ set work.old (words_at n p) words }
-{
-    work[3 * n + p] = words;
+    &g.nodes[p..last + 1]
 }
 
 // What is known of a run's nodes up to one of them, by what was known before it and what its arc leads to.
 fn pass_node(node: u32, before: Walked, child: Walked) -> Walked
     ensures { result ≡ node_passed node before child }
 {
-    let own = capped_sum(bit(Node24(node).accepts()), child.words);
-    let tally = child.tally;
     Walked {
-        tally: tally,
-        runs: larger(before.runs, child.runs),
-        words: capped_sum(before.words, own),
+        tally: child.tally,
+        runs: before.runs.max(child.runs),
+        words: before
+            .words
+            .saturating_add(words_through(node, child.words)),
     }
 }
 
 // What is known of a run that is numbered already. While its arcs are being followed its chain is not known: an arc back to it
 // closes a loop.
-fn look_up(n: usize, work: &[u32], p: usize, t: BlockTally, chain_left: u32) -> RunNumbering
+fn look_up(
+    n: usize,
+    work: &[u32],
+    p: usize,
+    t: BlockTally,
+    chain_left: u32,
+) -> Result<Walked, WalkRefusal>
     requires { (p < n) × (4 * n ≤ length work.now) }
     ensures { result ≡ looked_up n work.now p t chain_left }
 {
     let runs = depth_of(n, work, p);
-    if runs == 0 {
-        return RunNumbering::TooDeep;
+    if runs == 0 || chain_left < runs {
+        return Err(WalkRefusal::TooDeep);
     }
-    if chain_left < runs {
-        return RunNumbering::TooDeep;
-    }
-    RunNumbering::Done(Walked {
+    Ok(Walked {
         tally: t,
-        runs: runs,
-        words: words_of(n, work, p),
+        runs,
+        words: work[3 * n + p],
     })
 }
 
@@ -109,13 +90,8 @@ fn close_run(n: usize, work: &mut [u32], p: usize, sum: Walked) -> Walked
 {
     let runs = sum.runs + 1;
     keep_depth(n, work, p, runs);
-    keep_words(n, work, p, sum.words);
-    let tally = sum.tally;
-    Walked {
-        tally: tally,
-        runs: runs,
-        words: sum.words,
-    }
+    work[3 * n + p] = sum.words;
+    Walked { runs, ..sum }
 }
 
 // Numbers the run that a node's arc leads to and what is met from it, unless the arc is 0 or its run is numbered already. The arc must
@@ -123,58 +99,58 @@ fn close_run(n: usize, work: &mut [u32], p: usize, sum: Walked) -> Walked
 // followed: every chain from it must go on one from each of them.
 #[cycle(number_arc_number_run)]
 fn number_arc(
-    nodes: &[u32],
+    g: FitGraph<'_>,
     work: &mut [u32],
     node: u32,
     t: BlockTally,
     chain_left: u32,
-) -> RunNumbering
-    requires runs_recorded { RunsRecorded nodes.now work.old t }
-    requires node_in_bounds { arc kbwg node < length nodes.now }
-    requires below { has_arc node ≡ true → Below nodes.now work.old (arc kbwg node) }
-    ensures { NumberedAs nodes.now work.old work.new
-        (met_by (arcs_from nodes.now) chain_left (order_in (length nodes.now) work.old t) (arc kbwg node))
+) -> Result<Walked, WalkRefusal>
+    requires runs_recorded { RunsRecorded g.nodes.now work.old t }
+    requires node_in_bounds { arc kbwg node < length g.nodes.now }
+    requires below { has_arc node ≡ true → Below g.nodes.now work.old (arc kbwg node) }
+    ensures { NumberedAs g.entry.nodes.now work.old work.new
+        (met_by (arcs_from g.entry.nodes.now) chain_left (order_in (length g.entry.nodes.now) work.old t) (arc kbwg node))
         (has_arc node) (arc kbwg node) chain_left result }
 {
     let child = Node24(node).arc_index() as usize;
     if child == 0 {
-        return RunNumbering::Done(Walked {
+        return Ok(Walked {
             tally: t,
             runs: 0,
             words: 0,
         });
     }
-    let place = place_of(work, child);
-    let Place::Numbered(_) = place else {
-        return number_run(nodes, work, child, t, chain_left);
-    };
-    look_up(nodes.len(), work, child, t, chain_left)
+    match place_of(work, child) {
+        None => number_run(g, work, child, t, chain_left),
+        Some(_) => look_up(g.nodes.len(), work, child, t, chain_left),
+    }
 }
 
 // Numbers the run from p, a node that must not be numbered yet, and what its arcs lead to, by a record that must be that of the runs met
 // so far; p must be below the runs whose arcs are being followed. Stops as soon as a chain is too long or the file has over 2^22 nodes.
 #[cycle(number_arc_number_run)]
 pub fn number_run(
-    nodes: &[u32],
+    g: FitGraph<'_>,
     work: &mut [u32],
     p: usize,
     t: BlockTally,
     chain_left: u32,
-) -> RunNumbering
-    requires runs_recorded { RunsRecorded nodes.now work.old t }
-    requires p_in_bounds { p < length nodes.now }
+) -> Result<Walked, WalkRefusal>
+    requires runs_recorded { RunsRecorded g.nodes.now work.old t }
+    requires p_in_bounds { p < length g.nodes.now }
     requires p_value { get_or work.old p 0 ≡ 0 }
-    requires below { Below nodes.now work.old p }
-    ensures { NumberedAs nodes.now work.old work.new
-        (met eqb (arcs_from nodes.now) chain_left (order_in (length nodes.now) work.old t) p) true p chain_left result }
+    requires below { Below g.nodes.now work.old p }
+    ensures { NumberedAs g.entry.nodes.now work.old work.new
+        (met eqb (arcs_from g.entry.nodes.now) chain_left (order_in (length g.entry.nodes.now) work.old t) p) true p chain_left result }
 {
     if chain_left == 0 {
-        return RunNumbering::TooDeep;
+        return Err(WalkRefusal::TooDeep);
     }
-    let n = nodes.len();
-    let size = run_length(nodes, p);
+    let n = g.nodes.len();
+    let run = run_from(g, p);
+    let size = run.len() as u32;
     if MOST_NODES - t.nodes < size {
-        return RunNumbering::TooMany;
+        return Err(WalkRefusal::TooMany);
     }
     let pushed = push_block(n, work, p, t, size);
     keep_depth(n, work, p, 0);
@@ -183,20 +159,9 @@ pub fn number_run(
         runs: 0,
         words: 0,
     };
-    let mut at = p;
-    loop {
-        let node = nodes[at];
-        let numbered = number_arc(nodes, work, node, sum.tally, chain_left - 1);
-        let next = match numbered {
-            RunNumbering::Done(next) => next,
-            RunNumbering::TooDeep => return RunNumbering::TooDeep,
-            RunNumbering::TooMany => return RunNumbering::TooMany,
-        };
-        sum = pass_node(node, sum, next);
-        if Node24(node).is_end() {
-            break;
-        }
-        at += 1;
+    for node in run {
+        let child = number_arc(g, work, *node, sum.tally, chain_left - 1)?;
+        sum = pass_node(*node, sum, child);
     }
-    RunNumbering::Done(close_run(n, work, p, sum))
+    Ok(close_run(n, work, p, sum))
 }

@@ -78,6 +78,7 @@ impl Node22 {
         }
     }
 
+    #[tactic(auto, unfolding(crate::specs::Said::pack_answer, crate::specs::Nodes::fits))]
     pub fn pack(fields: Fields) -> Result<u32, DoesNotFit>
         ensures { said_node result ≡ pack_answer kwg (values_of fields) }
     {
@@ -142,6 +143,7 @@ impl Node24 {
         }
     }
 
+    #[tactic(auto, unfolding(crate::specs::Said::pack_answer, crate::specs::Nodes::fits))]
     pub fn pack(fields: Fields) -> Result<u32, DoesNotFit>
         ensures { said_node result ≡ pack_answer kbwg (values_of fields) }
     {

@@ -7,9 +7,9 @@ use Prim.Native.Nat.{ℕ, ◌<◌}
 use native.Mathlib.Omega.{arith}
 use lib.Dec.{leb}
 use borrow.Author.Tests.{leb-false}
-use lib.ListN.{length, get_or, take, drop, take-append-drop}
+use lib.ListN.{length, take, drop, take-append-drop}
 use Rattle.laws.specs.Lists.{some_of, all_mem, all_members}
-use Rattle.laws.specs.Members.{at_in, in_drop, none_of}
+use Rattle.laws.specs.Members.{in_drop, none_of}
 use Rattle.graph.specs.Words.{Word}
 use Rattle.page.specs.Rows.{label_of}
 use Rattle.page.specs.Page.{outside}
@@ -25,22 +25,14 @@ unshown labels t = outside (label_of labels t)
 
 module _ (labels : List ℕ) (tiles : Word) where
   module _ (passed : some_of (lacks_label labels) tiles ≡ false) where
-    there : (t : ℕ) → Memᴰ t tiles → t < length labels
+    pub there : (t : ℕ) → Memᴰ t tiles → t < length labels
     there t m = let h = leb-false (length labels) t (none_of (lacks_label labels) tiles passed t m) in omega arith
-
-    pub label-there : (i : ℕ) → i < length tiles → get_or tiles i 0 < length labels
-    label-there i h = there (get_or tiles i 0) (at_in tiles i 0 h)
 
     pub all-labelled : some_of (unshown labels) tiles ≡ false → Labelled labels tiles
     all-labelled e =
         all_members _ tiles (λ t m.
         let shown = inside (label_of labels t) (none_of (unshown labels) tiles e t m) in
         (there t m, omega (arith, shown.1)))
-
-  -- the tile at a place
-  pub label_at : Labelled labels tiles → (i : ℕ) → i < length tiles
-      → (get_or tiles i 0 < length labels) × (label_of labels (get_or tiles i 0) < 256)
-  label_at l i h = all_mem _ tiles (get_or tiles i 0) l (at_in tiles i 0 h)
 
   -- a part of them
   pub part-labelled : (from n : ℕ) → Labelled labels tiles → Labelled labels (take n (drop from tiles))

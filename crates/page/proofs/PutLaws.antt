@@ -2,13 +2,11 @@
 use mathlib.Core.Path.{◌≡◌, refl, sym, ap, ◌∙◌, subst}
 use mathlib.Core.Logic.{inl}
 use mathlib.Core.List.{List, [], ◌∷◌, ◌++◌, map, append_assoc}
-use Prim.Native.Nat.{ℕ, zero, suc, ◌+◌, ◌-◌, ◌*◌, ◌<◌, ◌≤◌}
+use Prim.Native.Nat.{ℕ, zero, suc, ◌+◌, ◌-◌, ◌*◌, ◌≤◌}
 use native.Mathlib.Nat.{zero-mul, suc-mul}
-use native.Mathlib.Numerals.{add-one}
 use native.Mathlib.Omega.{arith}
-use lib.ListN.{length, get_or, set, drop, replicate, length-append, length-map, length-replicate, replicate-append-replicate, drop_of_length-le}
-use lib.Seq.{drop-cons, sets, set-set, append_snoc}
-use Rattle.graph.specs.Words.{Word}
+use lib.ListN.{length, set, replicate, length-append, length-map, length-replicate, replicate-append-replicate}
+use lib.Seq.{sets, set-set, append_snoc}
 use Rattle.laws.specs.Lists.{join_all, join_append}
 use Rattle.laws.specs.ListWrites.{sets_append, sets-apart}
 use Rattle.decimal.specs.Decimal.{decimal}
@@ -18,24 +16,9 @@ use Rattle.page.specs.Rows.{number_column, word_column, row_of, blank_row, page_
 use Rattle.page.specs.RowsLaws.{HasRoom, left-length, right-length}
 
 -- ---- blanks
-pub blanks-next : (end i : ℕ) → i < end → blanks (end - i) ≡ (blank ∷ []) ++ blanks (end - (i + 1))
-blanks-next end i h = let e : end - i ≡ suc (end - (i + 1)) = omega arith in rw e
-
-pub blanks-done : (end i : ℕ) → end ≤ i → blanks (end - i) ≡ []
-blanks-done end i h = let e : end - i ≡ 0 = omega arith in rw e
-
 blanks-parts : (m n k : ℕ) (q : List ℕ) → m + n ≡ k → blanks k ++ q ≡ blanks m ++ (blanks n ++ q)
 blanks-parts m n k q e =
     ap (λ i. blanks i ++ q) (sym e) ∙ ap (◌++ q) (sym (replicate-append-replicate m n blank)) ∙ append_assoc (blanks m) (blanks n) q
-
--- ---- labels
-module _ (labels : List ℕ) (tiles : Word) (i : ℕ) where
-  pub labels_next : i < length tiles
-      → map (label_of labels) (drop i tiles) ≡ (label_of labels (get_or tiles i 0) ∷ []) ++ map (label_of labels) (drop (i + 1) tiles)
-  labels_next h = rw (drop-cons tiles i 0 h, add-one)
-
-  pub labels-done : length tiles ≤ i → map (label_of labels) (drop i tiles) ≡ []
-  labels-done h = rw (drop_of_length-le tiles h)
 
 -- ---- bytes put over some of those that were put
 sets_over : (b b' q l : List ℕ) (i : ℕ) → length b ≡ length b' → sets (sets l i (b ++ q)) i b' ≡ sets l i (b' ++ q)

@@ -14,11 +14,12 @@ use Rattle.lookup.specs.Steps.{Try, on, stop, ◌>>=◌}
 use Rattle.lookup.specs.Walks.{word_by_index}
 use Rattle.page.specs.Rows.{Widths, ShownWord, page_widths, word_rows, tile_room}
 use Rattle.page.specs.Shown.{shown_by, shown_at, shown_from}
-use Rattle.page.specs.Held.{held_word, held, held_tiles, found_try}
-use Rattle.page.specs.Said.{RowsHeld}
-use Rattle.page.specs.declared.walking.RowFound.{RowFound}
-use Rattle.page.specs.declared.walking.RowFound.TheVariants as F
-use Rattle.page.specs.declared.walking.RowsWalked.TheVariants as W
+use Rattle.std.specs.Prelude.{Result, Ok, Err, Option as Maybe, None, Some}
+use Rattle.answers.specs.Answers.{as_answer}
+use Rattle.lookup.specs.Refusals.{lookup_refusal}
+use Rattle.lookup.specs.declared.refusals.LookupRefusal.{LookupRefusal}
+use Rattle.page.specs.Held.{held_word, held, held_tiles, IsHeld}
+use Rattle.page.specs.Said.{found_try}
 
 -- ---- one word more is held
 module _ (columns : ℕ) where
@@ -158,7 +159,7 @@ module _ {k : Walks} {tiles sizes : List ℕ} {row count : ℕ} (so : SoFar k ti
   numbers-end h = ends (nothing_wide k (word_rows - row) (k.first + row) h)
 
 -- ---- the next row's number is walked, into the columns after the tiles that are held
-pub record Found (k : Walks) (tiles sizes : List ℕ) (row count : ℕ) (after : List ℕ) (r : RowFound) : Type 0 where
+pub record Found (k : Walks) (tiles sizes : List ℕ) (row count : ℕ) (after : List ℕ) (r : Result (Maybe ℕ) LookupRefusal) : Type 0 where
   pub so : SoFar k tiles sizes row count
   pub here : row < word_rows
   pub narrow : k.first + row ≤ k.widths.greatest
@@ -166,7 +167,7 @@ pub record Found (k : Walks) (tiles sizes : List ℕ) (row count : ℕ) (after :
   pub found : found_try (k.first + row) r after ≡ row_shown k (k.first + row)
 
 module _ {k : Walks} {tiles sizes : List ℕ} {row count : ℕ} {after : List ℕ} where
-  module _ {r : RowFound} (f : Found k tiles sizes row count after r) where
+  module _ {r : Result (Maybe ℕ) LookupRefusal} (f : Found k tiles sizes row count after r) where
     -- the tiles after them, and all tiles then
     abbrev rest : List ℕ
     rest = drop (count + k.widths.word - count) (drop count tiles)
@@ -205,7 +206,7 @@ module _ {k : Walks} {tiles sizes : List ℕ} {row count : ℕ} {after : List �
         ∙ shown-step k (word_rows - (row + 1)) (k.first + row) (k.first + (row + 1)) number f.narrow _ f.found
 
   -- one word more
-  module _ {size : ℕ} (f : Found k tiles sizes row count after (F.Word size)) where
+  module _ {size : ℕ} (f : Found k tiles sizes row count after (Ok (Some size))) where
     abbrev shown : ℕ
     shown = min size k.widths.word
 
@@ -259,28 +260,29 @@ abbrev pub page_walks : List ℕ → List ℕ → ℕ → ℕ → Walks
 page_walks nodes counts p first = record { widths = page_widths; nodes = nodes; counts = counts; p = p; first = first }
 
 module _ {nodes counts : List ℕ} {p first : ℕ} {tiles sizes : List ℕ} {row count : ℕ} where
-  -- all walks are done
-  pub all-walked : (so : SoFar (page_walks nodes counts p first) tiles sizes row count) → first + row ≤ page_widths.greatest + 1
-      → on (words so) ≡ walks_all (page_walks nodes counts p first) → RowsHeld nodes counts p first tiles sizes (W.Words row count)
-  all-walked so h e = record { sizes-are = so.sizes-are; walked = e; fit = (rows_fit so, room so, so.tally, h) }
+  -- what is held stands as it must
+  pub fit : SoFar (page_walks nodes counts p first) tiles sizes row count → first + row ≤ page_widths.greatest + 1
+      → IsHeld first (take count tiles) (take row sizes)
+  fit so h =
+      record {
+        rows = omega (arith, so.rows, rows-held so);
+        tally = so.tally ∙ sym (length-take-le count tiles (room so));
+        narrow = omega (arith, h, rows-held so);
+      }
 
-  -- or the last walk found no word
   module _ {after : List ℕ} where
-    pub blank-found : (f : Found (page_walks nodes counts p first) tiles sizes row count after F.Blank)
-        → RowsHeld nodes counts p first (tiles' f) sizes (W.Words row count)
-    blank-found f =
-        let so = f.so in
-        let fits : count ≤ length (tiles' f) = omega (arith, tiles-long f, room so, so.sizes-are.0) in
-        record {
-          sizes-are = (tiles-long f, so.sizes-are.1);
-          walked = ap (λ l. on (held page_widths.word first l (take row sizes))) (front f) ∙ ends so (next f);
-          fit = (rows_fit so, fits, so.tally, omega (arith, f.narrow));
-        }
+    -- the last walk found no word
+    module _ (f : Found (page_walks nodes counts p first) tiles sizes row count after (Ok None)) where
+      pub front-long : length (take count (tiles' f)) ≡ count
+      front-long = ap length (front f) ∙ tiles-held f
 
-    pub not-lent-found : (f : Found (page_walks nodes counts p first) tiles sizes row count after F.NotLent)
-        → RowsHeld nodes counts p first (tiles' f) sizes W.NotLent
-    not-lent-found f = record { sizes-are = (tiles-long f, f.so.sizes-are.1); walked = whole_by f.so (next f); fit = tt }
+      pub blank-fit : IsHeld first (take count (tiles' f)) (take row sizes)
+      blank-fit = rw (front f) (fit f.so (omega (arith, f.narrow)))
 
-    pub out_of_range_found : (f : Found (page_walks nodes counts p first) tiles sizes row count after F.OutOfRange)
-        → RowsHeld nodes counts p first (tiles' f) sizes W.OutOfRange
-    out_of_range_found f = record { sizes-are = (tiles-long f, f.so.sizes-are.1); walked = whole_by f.so (next f); fit = tt }
+      pub blank-found : on (held page_widths.word first (take count (tiles' f)) (take row sizes)) ≡ walks_all (page_walks nodes counts p first)
+      blank-found = ap (λ l. on (held page_widths.word first l (take row sizes))) (front f) ∙ ends f.so (next f)
+
+    -- or is refused
+    pub refused-found : {why : LookupRefusal} → Found (page_walks nodes counts p first) tiles sizes row count after (Err why)
+        → stop (as_answer (lookup_refusal why)) ≡ walks_all (page_walks nodes counts p first)
+    refused-found f = whole_by f.so (next f)

@@ -10,22 +10,22 @@ use Rattle.answers.specs.Answers.{Answer}
 use Rattle.graph.specs.Words.{Word}
 use Rattle.lookup.specs.Said.{said_word, WordPut}
 use Rattle.lookup.specs.WalkedLaws.{WalkLeaves, tiles-front}
-use Rattle.lookup.specs.declared.by_number.WordByIndex.{WordByIndex}
-use Rattle.lookup.specs.declared.by_number.WordByIndex.TheVariants as T
+use Rattle.std.specs.Prelude.{Result, Ok, Err, Option as Maybe, None, Some}
+use Rattle.lookup.specs.declared.refusals.LookupRefusal.{LookupRefusal}
+use Rattle.lookup.specs.declared.refusals.WordRefusal.{WordRefusal}
+use Rattle.lookup.specs.declared.refusals.WordRefusal.TheVariants as W
 use Rattle.page.specs.Shown.{shown_by}
-use Rattle.page.specs.Held.{held_word, found_try}
-use Rattle.page.specs.Said.{RowPut}
-use Rattle.page.specs.declared.walking.RowFound.{RowFound}
-use Rattle.page.specs.declared.walking.RowFound.TheVariants as F
+use Rattle.page.specs.Held.{held_word}
+use Rattle.page.specs.Said.{RowPut, found_try}
 
 -- a walk with room for so many tiles, and what it leaves in a buffer of that length
-pub record Walked (columns : ℕ) (walk : Word × Answer) (before after : List ℕ) (r : WordByIndex) : Type 0 where
+pub record Walked (columns : ℕ) (walk : Word × Answer) (before after : List ℕ) (r : Result (Maybe ℕ) WordRefusal) : Type 0 where
   pub leaves : WalkLeaves columns 0 walk
   pub put : WordPut walk before after r
   pub size : length before ≡ columns
 
-module _ {columns : ℕ} {walk : Word × Answer} {before after : List ℕ} {r : WordByIndex} (w : Walked columns walk before after r) where
-  answered : {v : WordByIndex} → r ≡ v → walk.1 ≡ said_word v
+module _ {columns : ℕ} {walk : Word × Answer} {before after : List ℕ} {r : Result (Maybe ℕ) WordRefusal} (w : Walked columns walk before after r) where
+  answered : {v : Result (Maybe ℕ) WordRefusal} → r ≡ v → walk.1 ≡ said_word v
   answered e = sym w.put.answer ∙ ap said_word e
 
   long : length after ≡ columns
@@ -41,26 +41,18 @@ module _ {columns : ℕ} {walk : Word × Answer} {before after : List ℕ} {r : 
       let front = tiles-front w.put (min tiles columns) e in
       rw (long, front)
 
-  row_put : {n : ℕ} {f : RowFound} → found_try n f after ≡ shown_by n walk → RowPut n walk before after f
+  row_put : {n : ℕ} {f : Result (Maybe ℕ) LookupRefusal} → found_try n f after ≡ shown_by n walk → RowPut n walk before after f
   row_put e = record { size = long ∙ sym w.size; found = e; tiles = w.put.front }
 
   module _ {n : ℕ} where
-    pub row-found : (count : ℕ) → r ≡ T.Tiles count → RowPut n walk before after (F.Word count)
-    row-found count e =
+    pub row-found : (found : Maybe ℕ) → r ≡ Ok found → RowPut n walk before after (Ok found)
+    row-found (Some count) e =
         let c = w.leaves.given count (answered e) in
         let few = le-ltb columns count (omega (arith, c, w.leaves.fits)) in
         row_put (rw (answered e, held-is n count (omega (arith, c, w.leaves.fits)), few))
+    row-found None e = row_put (rw (answered e))
 
-    pub row-full : r ≡ T.BufferFull → RowPut n walk before after (F.Word (suc columns))
+    pub row-full : r ≡ Err W.BufferFull → RowPut n walk before after (Ok (Some (suc columns)))
     row-full e =
         let more = lt-ltb columns (suc columns) (omega arith) in
         row_put (rw (answered e, held-is n (suc columns) (omega (arith, w.leaves.full (answered e))), more))
-
-    pub row-blank : r ≡ T.Absent → RowPut n walk before after F.Blank
-    row-blank e = row_put (rw (answered e))
-
-    pub row-not-lent : r ≡ T.NotLent → RowPut n walk before after F.NotLent
-    row-not-lent e = row_put (rw (answered e))
-
-    pub row-out_of_range : r ≡ T.OutOfRange → RowPut n walk before after F.OutOfRange
-    row-out_of_range e = row_put (rw (answered e))

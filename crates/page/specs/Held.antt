@@ -1,15 +1,8 @@
 -- What the code holds of the words that it has found: their tiles one after the other, and for each its size, that is how many tiles it
 -- has, or one more than there are columns where it has more than that.
-use Rattle.std.specs.Prelude.{List, [], ◌∷◌, map, ℕ, suc, ◌+◌, min, ltb, length, take, drop}
-use Rattle.std.proofs.Math.Option.{Option, none, some}
+use Rattle.std.specs.Prelude.{◌≡◌, List, [], ◌∷◌, map, ℕ, suc, ◌+◌, ◌≤◌, min, ltb, length, take, drop}
 use Rattle.laws.specs.Lists.{join_all}
-use Rattle.answers.specs.Answers.{refused}
-use Rattle.lookup.specs.Steps.{Try, on, stop}
-use Rattle.page.specs.Rows.{Widths, ShownWord, row_of}
-use Rattle.page.specs.declared.walking.RowFound.{RowFound}
-use Rattle.page.specs.declared.walking.RowFound.TheVariants as F
-use Rattle.page.specs.declared.walking.RowsWalked.{RowsWalked}
-use Rattle.page.specs.declared.walking.RowsWalked.TheVariants as W
+use Rattle.page.specs.Rows.{Widths, ShownWord, page_widths, word_rows, row_of}
 
 -- a word with the number and the size, whose tiles are the first of those left
 abbrev pub held_word : ℕ → ℕ → List ℕ → ℕ → ShownWord
@@ -29,15 +22,8 @@ held_tiles columns (s ∷ sizes) = min s columns + held_tiles columns sizes
 abbrev pub held_rows : Widths → List ℕ → ℕ → List ℕ → List ℕ → List ℕ
 held_rows w labels n tiles sizes = join_all (map (row_of w labels) (held w.word n tiles sizes))
 
--- what one walk found, its word in a buffer as long as there are columns
-abbrev pub found_try : ℕ → RowFound → List ℕ → Try (Option ShownWord)
-found_try n (F.Word size) buffer = on (some (held_word (length buffer) n buffer size))
-found_try n F.Blank buffer = on none
-found_try n F.NotLent buffer = stop (refused 14 [])
-found_try n F.OutOfRange buffer = stop (refused 15 [])
-
--- what the walks of all rows found
-abbrev pub walked_try : ℕ → ℕ → RowsWalked → List ℕ → List ℕ → Try (List ShownWord)
-walked_try columns first (W.Words rows count) tiles sizes = on (held columns first (take count tiles) (take rows sizes))
-walked_try columns first W.NotLent tiles sizes = stop (refused 14 [])
-walked_try columns first W.OutOfRange tiles sizes = stop (refused 15 [])
+-- A row for each size, the tiles that the sizes say, and no number that is too large.
+pub record IsHeld (first : ℕ) (tiles sizes : List ℕ) : Type 0 where
+  pub rows : length sizes ≤ word_rows
+  pub tally : held_tiles page_widths.word sizes ≡ length tiles
+  pub narrow : first + length sizes ≤ page_widths.greatest + 1

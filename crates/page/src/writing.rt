@@ -1,12 +1,13 @@
 // The bytes of a page.
 ghost use Rattle.std.specs.Prelude.{◌≡◌, map, ◌++◌, ◌+◌, ◌≤◌, length, drop};
 ghost use Rattle.endian.specs.Puts.{Puts};
-ghost use Rattle.page.specs.Rows.{page_widths, row_length, page_length, word_rows, blanks, more_mark, label_of, row_of, page_text};
-ghost use Rattle.page.specs.Held.{held, held_tiles, held_rows};
-ghost use Rattle.page.specs.Said.{Labelled};
+ghost use Rattle.page.specs.Rows.{page_widths, row_length, page_length, blanks, more_mark, label_of, row_of, page_text};
+ghost use Rattle.page.specs.Held.{held_rows};
+ghost use Rattle.page.specs.Said.{Labelled, held_by};
 
 use crate::PAGE;
 use crate::checks::label_of;
+use crate::held::Held;
 use crate::walking::{COLUMNS, shown_tiles};
 use decimal::put_digits;
 use endian::{put_byte, write_bytes};
@@ -27,12 +28,9 @@ fn put_blanks(count: usize, out: &mut [u8], at: usize) -> usize
     requires { at + count ≤ length out.old }
     ensures { Puts (blanks count) out.old at out.new result }
 {
-    let mut i = 0;
-    while i < count {
-        out[at + i] = b' ';
-        i += 1;
-    }
-    at + i
+    let end = at + count;
+    out[at..end].fill(b' ');
+    end
 }
 
 // The tiles must have labels that are bytes.
@@ -41,12 +39,10 @@ fn put_labels(tiles: &[u8], labels: &[u32], out: &mut [u8], at: usize) -> usize
     requires labelled { Labelled labels.now tiles.now }
     ensures { Puts (map (label_of labels.now) tiles.now) out.old at out.new result }
 {
-    let mut i = 0;
-    while i < tiles.len() {
-        out[at + i] = label_of(tiles[i], labels) as u8;
-        i += 1;
+    for (i, &tile) in tiles.iter().enumerate() {
+        out[at + i] = label_of(tile, labels) as u8;
     }
-    at + i
+    at + tiles.len()
 }
 
 fn more_mark(more: bool) -> u8
@@ -76,61 +72,39 @@ fn put_row(
     end
 }
 
-// The rows of the words that are held; the sizes must be those of the tiles, which must have labels that are bytes, and no number may be
-// too large.
-fn put_rows(
-    first: u32,
-    tiles: &[u8],
-    sizes: &[usize],
-    labels: &[u32],
-    out: &mut [u8],
-    at: usize,
-) -> usize
-    requires sizes_in_bounds { at + length (held_rows page_widths labels.now first tiles.now sizes.now) ≤ length out.old }
-    requires sizes_value { (held_tiles page_widths.word sizes.now ≡ length tiles.now) × (first + length sizes.now ≤ page_widths.greatest + 1) }
-    requires labelled { Labelled labels.now tiles.now }
-    ensures { Puts (held_rows page_widths labels.now first tiles.now sizes.now) out.old at
+// The rows of the words that are held, whose tiles must have labels that are bytes.
+fn put_rows(words: Held<'_>, labels: &[u32], out: &mut [u8], at: usize) -> usize
+    requires room { at + length (held_rows page_widths labels.now words.first words.tiles.now words.sizes.now) ≤ length out.old }
+    requires labelled { Labelled labels.now words.tiles.now }
+    ensures { Puts (held_rows page_widths labels.now words.entry.first words.entry.tiles.now words.entry.sizes.now) out.old at
         out.new result }
 {
     let mut at = at;
-    let mut row = 0;
     let mut from = 0;
-    while row < sizes.len() {
-        let size = sizes[row];
+    for (row, &size) in words.sizes.iter().enumerate() {
         let end = from + shown_tiles(size);
         at = put_row(
-            first + row as u32,
-            &tiles[from..end],
+            words.first + row as u32,
+            &words.tiles[from..end],
             COLUMNS < size,
             labels,
             out,
             at,
         );
         from = end;
-        row += 1;
     }
     at
 }
 
 // Writes the whole page: the title, the words that are held, and blank rows.
-pub(crate) fn write_words(
-    first: u32,
-    tiles: &[u8],
-    sizes: &[usize],
-    labels: &[u32],
-    title: &[u8],
-    page: &mut [u8],
-)
-    requires title_len_bound { (length title.now ≤ row_length page_widths) × (page_length page_widths ≤ length page.old) }
-    requires sizes_len_bound { (length sizes.now ≤ word_rows) × (first + length sizes.now ≤ page_widths.greatest + 1) }
-    requires sizes_value { held_tiles page_widths.word sizes.now ≡ length tiles.now }
-    requires labelled { Labelled labels.now tiles.now }
+pub(crate) fn write_words(words: Held<'_>, labels: &[u32], title: &[u8], page: &mut [u8])
+    requires lengths { (length title.now ≤ row_length page_widths) × (page_length page_widths ≤ length page.old) }
+    requires labelled { Labelled labels.now words.tiles.now }
     ensures { page.new
-        ≡ page_text page_widths labels.now title.now (held page_widths.word first tiles.now sizes.now)
-        ++ drop (page_length page_widths) page.old }
+        ≡ page_text page_widths labels.now title.now (held_by words.entry) ++ drop (page_length page_widths) page.old }
 {
     write_bytes(page, 0, title);
     let rows = put_blanks(ROW - title.len(), page, title.len());
-    let end = put_rows(first, tiles, sizes, labels, page, rows);
+    let end = put_rows(words, labels, page, rows);
     put_blanks(PAGE - end, page, end);
 }

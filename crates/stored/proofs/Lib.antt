@@ -1,4 +1,3 @@
 -- What the proofs of several functions use.
 pub mod SameLaws
 pub mod InputLaws
-pub mod PartLaws

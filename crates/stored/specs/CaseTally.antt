@@ -1,12 +1,12 @@
 -- What the contracts on the tally cite: the tally of nothing, and a tally after a line or a verdict.
-use Rattle.std.specs.Prelude.{ℕ, ◌+◌, ◌^◌, get_or, set, replicate, ltb, List, [], ◌++◌, codes, decimal}
+use Rattle.std.specs.Prelude.{ℕ, ◌+◌, ◌-◌, ◌^◌, min, get_or, set, replicate, ltb, List, [], ◌++◌, codes, decimal}
 use Rattle.stored.specs.Inputs.{pick}
 use Rattle.stored.specs.declared.answers.Verdict.{Verdict}
 use Rattle.stored.specs.declared.tally.CaseTally.{CaseTally}
 
--- a count stays at the highest number, 2 ^ 64 - 1
+-- a count stays at the highest number
 abbrev pub one_more_capped : ℕ → ℕ
-one_more_capped count = pick (ltb (count + 1) (2 ^ 64)) (count + 1) count
+one_more_capped count = min (count + 1) (2 ^ 64 - 1)
 
 -- at the first line, with nothing counted of any of the 32 calls
 abbrev pub new_tally : CaseTally

@@ -34,6 +34,10 @@ with_digit value byte =
 abbrev pub first_part : ℕ → Part
 first_part byte = pick (eqb byte 35) Part.Comment (with_digit 0 byte)
 
+-- how many numbers there are once one more is kept, where there is room for it
+abbrev pub count_kept : ℕ → ℕ → ℕ
+count_kept room count = pick (ltb count room) (count + 1) count
+
 -- after a number and a blank, where there is room for the number
 abbrev pub after_blank : ℕ → ℕ → Line
 after_blank room count = pick (ltb count room) (partial_line (count + 1) Blank) (partial_line count Spoilt)

@@ -5,17 +5,13 @@
 mod answers;
 mod inputs;
 mod lines;
+mod numbers;
 mod parts;
 mod tally;
 
-pub use answers::{
-    Verdict, same_numbers, same_sizes_then_bytes, same_then_bytes, same_then_numbers,
-    same_then_words, same_words, starts_with, verdict_of,
-};
-pub use inputs::{Count, bytes_in, words_in};
-pub use lines::{Ended, Line, ROOM, add_byte, empty, end, is_empty};
-pub use parts::{
-    byte_at, bytes_from, bytes_to, numbers_from, numbers_to, sizes_to, word_at, words_from,
-    words_to,
-};
+pub use answers::{Verdict, same, same_then, starts_with, verdict_of};
+pub use inputs::list_in;
+pub use lines::{Ended, Line, ROOM};
+pub use numbers::{Input, Number};
+pub use parts::{byte_at, list_from, list_to, word_at};
 pub use tally::{CALLS, CaseTally, print_cases};

@@ -1,7 +1,7 @@
 // What the lines so far came to.
 ghost use Rattle.std.specs.Prelude.{◌≡◌, ◌<◌, codes};
 ghost use Rattle.console.specs.Printing.{Prints};
-ghost use Rattle.stored.specs.CaseTally.{one_more_capped, new_tally, with_next_line, with_malformed, with_difference, with_case, with_verdict, line_said, malformed_said, differs_said, verdict_said, findings_said, number_said};
+ghost use Rattle.stored.specs.CaseTally.{new_tally, with_next_line, with_malformed, with_difference, with_case, with_verdict, line_said, malformed_said, differs_said, verdict_said, findings_said, number_said};
 
 use crate::answers::Verdict;
 use console::Output;
@@ -10,7 +10,7 @@ use std::io::Write;
 // One more than the highest number that a call may have.
 pub const CALLS: usize = 32;
 
-#[derive(Clone, Copy)]
+#[derive(Clone, Copy, Debug, PartialEq, Eq)]
 pub struct CaseTally {
     // The number of the line that is being read.
     line: u64,
@@ -32,58 +32,53 @@ impl CaseTally {
         }
     }
 
-    pub fn begin_line(mut self) -> CaseTally
-        ensures { result ≡ with_next_line self }
+    pub fn begin_line(&mut self)
+        ensures { self.new ≡ with_next_line self.old }
     {
-        self.line = one_more(self.line);
-        self
+        self.line = self.line.saturating_add(1);
     }
 
-    pub fn malformed<W: Write>(mut self, output: &mut Output<W>) -> CaseTally
-        ensures tally { result ≡ with_malformed self }
-        ensures printed { Prints W.contents output.old output.new (malformed_said self.line) }
+    pub fn malformed<W: Write>(&mut self, output: &mut Output<W>)
+        ensures tally { self.new ≡ with_malformed self.old }
+        ensures printed { Prints W.contents output.old output.new (malformed_said self.old.line) }
     {
-        self.malformed = one_more(self.malformed);
+        self.malformed = self.malformed.saturating_add(1);
         report(output, self.line, b" malformed\n");
-        self
     }
 
     // A call that has no place in the tally makes its line malformed, so that no case goes uncounted.
-    pub fn with_verdict<W: Write>(
-        self,
-        output: &mut Output<W>,
-        call: u64,
-        verdict: Verdict,
-    ) -> CaseTally
-        ensures tally { result ≡ with_verdict call verdict self }
-        ensures printed { Prints W.contents output.old output.new (verdict_said call verdict self.line) }
+    pub fn verdict<W: Write>(&mut self, output: &mut Output<W>, call: u64, verdict: Verdict)
+        ensures tally { self.new ≡ with_verdict call verdict self.old }
+        ensures printed { Prints W.contents output.old output.new (verdict_said call verdict self.old.line) }
     {
         let call = call as usize;
         if CALLS <= call {
-            return self.malformed(output);
+            self.malformed(output);
+            return;
         }
         match verdict {
             Verdict::Same => self.case(call),
-            Verdict::Different => self.with_difference(output).case(call),
+            Verdict::Different => {
+                self.difference(output);
+                self.case(call);
+            }
             Verdict::Malformed => self.malformed(output),
         }
     }
 
-    fn case(mut self, call: usize) -> CaseTally
+    fn case(&mut self, call: usize)
         requires { call < CALLS }
-        ensures { result ≡ with_case call self }
+        ensures { self.new ≡ with_case call self.old }
     {
-        self.cases[call] = one_more(self.cases[call]);
-        self
+        self.cases[call] = self.cases[call].saturating_add(1);
     }
 
-    fn with_difference<W: Write>(mut self, output: &mut Output<W>) -> CaseTally
-        ensures tally { result ≡ with_difference self }
-        ensures printed { Prints W.contents output.old output.new (differs_said self.line) }
+    fn difference<W: Write>(&mut self, output: &mut Output<W>)
+        ensures tally { self.new ≡ with_difference self.old }
+        ensures printed { Prints W.contents output.old output.new (differs_said self.old.line) }
     {
-        self.differences = one_more(self.differences);
+        self.differences = self.differences.saturating_add(1);
         report(output, self.line, b" differs\n");
-        self
     }
 
     pub fn print_findings<W: Write>(self, output: &mut Output<W>)
@@ -112,11 +107,4 @@ fn print_number<W: Write>(output: &mut Output<W>, before: &[u8], number: u64, af
     output.print(before);
     output.print_number(number);
     output.print(after);
-}
-
-// A count that stands at the highest number stays there: it never wraps to none.
-fn one_more(count: u64) -> u64
-    ensures { result ≡ one_more_capped count }
-{
-    if count < u64::MAX { count + 1 } else { count }
 }

@@ -1,13 +1,14 @@
 -- What the survey knows of a run. The idea: it is right where it is right for the run that the first node's arc leads to and for the
 -- rest of the run; and a chain from a node of a run is one from every node before it in the run.
 use mathlib.Core.Path.{◌≡◌, refl, sym, ap₂, ◌∙◌}
-use mathlib.Core.Bool.{Bool, true, false, ◌&&◌, ◌||◌, not, or-true, or_assoc}
+use mathlib.Core.Bool.{true, false, ◌&&◌, ◌||◌, not, or-true, or_assoc}
 use mathlib.Core.List.{List}
 use Prim.Native.Nat.{ℕ, zero, suc, ◌+◌, ◌≤◌, ◌<◌, min, max}
 use native.Mathlib.Omega.{arith}
 use lib.Dec.{ltb}
-use borrow.Author.Tests.{ltb-false, lt-ltb, le-ltb}
+use borrow.Author.Tests.{lt-ltb}
 use lib.ListN.{length, length-append}
+use Rattle.std.proofs.lemmas.Bool.{false≢true}
 use Rattle.laws.specs.Cases.{split}
 use Rattle.laws.specs.Tests.{ltb-max, ltb-suc}
 use Rattle.base.specs.Numbers.{most}
@@ -19,10 +20,10 @@ use Rattle.export.specs.Starts.{run_of, has_arc, deeper}
 use Rattle.export.specs.RunOfLaws.{run_ends, run-goes-on, some-run}
 use Rattle.survey.specs.ByArc.{where_there, counted-by-arc}
 use Rattle.survey.specs.RunCounted.{counted_none}
-use Rattle.survey.specs.Survey.{byteless, byteless_within, SurveyIs, no_run, FindingsOf, node_joined, if_shallow, SurveyAnswers}
+use Rattle.survey.specs.Survey.{byteless, byteless_within, no_run, FindingsOf, node_joined, SurveyAnswers}
 use Rattle.survey.specs.declared.Findings.{Findings}
-use Rattle.survey.specs.declared.Surveyed.{Surveyed}
-use Rattle.survey.specs.declared.Surveyed.TheVariants.{Shallow, TooDeep}
+use Rattle.survey.specs.declared.TooDeep.{TooDeep}
+use Rattle.std.specs.Prelude.{Result, Ok, Err, IsErr}
 
 -- ---- a run by its first node and the rest
 module _ (g : Graph) (i : ℕ) (h : i < length g) where
@@ -71,30 +72,9 @@ module _ (g : Graph) (labels : List ℕ) where
           ∙ sym (some-run g i h (λ v. byteless labels v || (has_arc v && byteless_within g labels k (arc kbwg v))))
 
   -- ---- what the survey answers, with so many runs left in the chain
-  pub answers_if_shallow : (there : Bool) (q left : ℕ) (s : Findings) → FindingsOf g labels there q s
-      → SurveyAnswers g labels there q left (if_shallow s left)
-  answers_if_shallow there q left s a =
-      split (ltb left s.runs)
-      (λ t. rw (t, SurveyAnswers) (a.counted.depth left ∙ t))
-      (λ t. rw (t, SurveyAnswers) (a, ltb-false left s.runs t))
-
-  pub answers-survey : (k p : ℕ) (r : Surveyed) → SurveyAnswers g labels true p k r → SurveyIs g labels k p r
-  answers-survey k p (Shallow s) a =
-      record {
-        deep = a.0.counted.depth k ∙ le-ltb k s.runs a.1;
-        runs = a.0.counted.depth;
-        words = a.0.counted.words_are k a.1;
-        byteless = a.0.byteless k a.1;
-      }
-  answers-survey k p TooDeep a = a
-
-  -- by the case of the answer
-  module _ (there : Bool) (q left : ℕ) (r : Surveyed) where
-    pub answers-found : (s : Findings) → r ≡ Shallow s → SurveyAnswers g labels there q left r → FindingsOf g labels there q s × (s.runs ≤ left)
-    answers-found s e a = rw e at a
-
-    pub answers-deep : r ≡ TooDeep → SurveyAnswers g labels there q left r → there && deeper g left q ≡ true
-    answers-deep e a = rw e at a
+  pub answers-deep : (q left : ℕ) (r : Result Findings TooDeep) → IsErr r → deeper g left q ≡ true → SurveyAnswers g labels true q left r
+  answers-deep q left (Ok s) i d = absurd (false≢true i)
+  answers-deep q left (Err e) i d = d
 
 -- ---- more runs in a chain than are left
 module _ (g : Graph) where

@@ -1,18 +1,16 @@
 -- What the LXD writer's survey of a graph finds: what decides the checks 22, 23 and 13 of document 01, by the definitions that the row
 -- uses, and the tables in which it is kept.
-use Rattle.std.specs.Prelude.{◌≡◌, Bool, true, false, ◌&&◌, ◌||◌, List, ℕ, zero, suc, ◌+◌, ◌*◌, ◌≤◌, ◌<◌, min, max, eqb, ltb, length, get_or, set}
+use Rattle.std.specs.Prelude.{◌≡◌, Bool, true, false, ◌&&◌, ◌||◌, List, ℕ, zero, suc, ◌+◌, ◌*◌, ◌≤◌, ◌<◌, min, max, eqb, ltb, length, get_or, set, Result, Ok, Err}
 use Rattle.laws.specs.Lists.{some_of}
 use Rattle.base.specs.Numbers.{most, flag}
-use Rattle.node.specs.Nodes.{kbwg, tile, arc, accepts, is_end}
+use Rattle.node.specs.Nodes.{kbwg, tile, arc, is_end}
 use Rattle.graph.specs.Runs.{Graph, node}
 use Rattle.graph.specs.Words.{words_within}
-use Rattle.graph.specs.ChecksLaws.{Fit}
-use Rattle.export.specs.Starts.{run_of, has_arc, unlabelled, deeper}
+use Rattle.export.specs.Starts.{run_of, has_arc, deeper}
 use Rattle.windows1252.specs.Windows1252.{no_byte}
-use Rattle.survey.specs.RunCounted.{RunCounted}
+use Rattle.survey.specs.RunCounted.{RunCounted, words_through}
 use Rattle.survey.specs.declared.Findings.{Findings}
-use Rattle.survey.specs.declared.Surveyed.{Surveyed}
-use Rattle.survey.specs.declared.Surveyed.TheVariants.{Shallow, TooDeep}
+use Rattle.survey.specs.declared.TooDeep.{TooDeep}
 
 -- the label of a node has no byte
 abbrev pub byteless : List ℕ → ℕ → Bool
@@ -32,9 +30,9 @@ pub record Surveys (g : Graph) (labels : List ℕ) (k p : ℕ) (s : Findings) : 
   pub byteless : s.byteless ≡ byteless_within g labels k p
 
 -- what the survey answers of p: its findings, or that a chain from p has more than k runs
-abbrev pub SurveyIs : Graph → List ℕ → ℕ → ℕ → Surveyed → Type 0
-SurveyIs g labels k p (Shallow s) = Surveys g labels k p s
-SurveyIs g labels k p TooDeep = deeper g k p ≡ true
+abbrev pub SurveyIs : Graph → List ℕ → ℕ → ℕ → Result Findings TooDeep → Type 0
+SurveyIs g labels k p (Ok s) = Surveys g labels k p s
+SurveyIs g labels k p (Err e) = deeper g k p ≡ true
 
 -- ---- what is known of a run
 -- of no run
@@ -51,18 +49,18 @@ abbrev pub node_joined : List ℕ → ℕ → Findings → Findings → Findings
 node_joined labels v child rest =
     record {
       runs = max (child.runs + 1) rest.runs;
-      words = min (min (flag (accepts kbwg v) + child.words) most + rest.words) most;
+      words = min (words_through v child.words + rest.words) most;
       byteless = byteless labels v || (child.byteless || rest.byteless);
     }
 
 -- a run, with so many runs left in the chain
-abbrev pub if_shallow : Findings → ℕ → Surveyed
-if_shallow s left = elim (ltb left s.runs) [ true ↦ TooDeep | false ↦ Shallow s ]
+abbrev pub if_shallow : Findings → ℕ → Result Findings TooDeep
+if_shallow s left = elim (ltb left s.runs) [ true ↦ Err (record {}) | false ↦ Ok s ]
 
 -- what is answered of q, if there is a run, with so many runs left in the chain
-abbrev pub SurveyAnswers : Graph → List ℕ → Bool → ℕ → ℕ → Surveyed → Type 0
-SurveyAnswers g labels there q left (Shallow s) = FindingsOf g labels there q s × (s.runs ≤ left)
-SurveyAnswers g labels there q left TooDeep = there && deeper g left q ≡ true
+abbrev pub SurveyAnswers : Graph → List ℕ → Bool → ℕ → ℕ → Result Findings TooDeep → Type 0
+SurveyAnswers g labels there q left (Ok s) = FindingsOf g labels there q s × (s.runs ≤ left)
+SurveyAnswers g labels there q left (Err e) = there && deeper g left q ≡ true
 
 -- ---- the tables
 -- the entry of q in three tables of n numbers
@@ -79,8 +77,6 @@ findings_after g w i = elim (is_end kbwg (node g i)) [ true ↦ no_run | false �
 
 -- an entry with runs is right
 pub record SurveyTables (g : Graph) (labels w : List ℕ) : Type 0 where
-  pub fit : Fit g
-  pub labelled : unlabelled g labels ≡ false
   pub room : 3 * length g ≤ length w
   pub right : (q : ℕ) → q < length g → (get_or w q 0 ≡ 0 → ⊥) → FindingsOf g labels true q (findings_at (length g) w q)
 

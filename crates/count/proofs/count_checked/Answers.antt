@@ -1,161 +1,81 @@
--- `count_checked` meets its contract: the walk's answer, the search for the lowest loop and the scan for the limit say which case of counting holds.
-use native.Mathlib.Omega.{arith}
-use mathlib.Core.Path.{◌≡◌, sym, subst}
-use mathlib.Core.Bool.{Bool, true, false}
-use mathlib.Core.Logic.{⊎_elim}
-use mathlib.Core.List.{List}
-use Prim.Native.Nat.{ℕ, ◌*◌, ◌≤◌}
-use lib.ListN.{length}
-use Rattle.answers.specs.Answers.{Answer}
+-- `count_checked` meets its contract: the marks are cleared, the walk counts or meets a loop, and then the counts are looked at.
+use Rattle.std.proofs.Common.{◌≡◌, sym, ◌∙◌, ◌++◌, ◌*◌, ◌≤◌, length, drop, arith, rules}
+use Rattle.std.proofs.Math.Option.{none}
+use Rattle.laws.specs.Cases.{is_none}
+use Rattle.laws.specs.Cleared.{cleared}
+use Rattle.answers.specs.Answers.{first_of}
 use Rattle.node.specs.Nodes.{kbwg}
-use Rattle.graph.specs.Loops.{LowestLoop}
-use Rattle.graph.specs.LoopLaws.{Reach-inside}
-use Rattle.graph.specs.ChecksLaws.{Fit}
-use Rattle.graph.specs.Counting.{IsCounted, count_limit}
+use Rattle.graph.specs.Checks.{graph_row}
+use Rattle.graph.specs.ChecksLaws.{fit-holds}
+use Rattle.graph.specs.Counting.{count_row, count_limit}
 use Rattle.graph.specs.Lent.{Kept, kept_then}
-use Rattle.loops.specs.NodeMarksLaws.{cleared-work, marks-zero}
-use Rattle.count.specs.CountWalk.{WalkedIs, ReachesIs}
-use Rattle.count.proofs.Rows.{counts-room, work-room, row-fit}
-use Rattle.count.proofs.Results.{count-start, loop-answer, many-answer, all-answer}
+use Rattle.graph.specs.LoopLaws.{Reach-inside}
+use Rattle.graph.specs.Loops.{LowestLoop}
+use Rattle.loops.specs.NodeMarksLaws.{cleared-work}
+use Rattle.count.specs.CountWalk.{LoopFound, AllDone}
+use Rattle.count.proofs.Rows.{row-clear}
+use Rattle.count.proofs.Results.{walk-stopped, walk-ended, loop-answer, many-answer, all-answer}
 use Rattle.count.proofs.count_checked.Goals as goal
-use Rattle.count.proofs.count_checked.Goals.{After-clear, After-lowest_loop, After-reaches_limit, After-walk, Else-walk, Start, Then-walk}
+use Rattle.count.proofs.count_checked.Goals.{Start, After-fill, After-unwrap-node, Else-is_err}
 
-module _ (s : Start) where
-  abbrev nodes : List ℕ
-  nodes = s.args.nodes.now
+clear : (s : Start) → first_of (count_row s.args.g.nodes.now (length s.args.counts.now) (length s.args.work.now)) ≡ none
+clear s = row-clear _ _ _ (is_none (first_of (graph_row s.args.g.nodes.now)) s.args.g.fit) s.requires.counts_long s.requires.work_long
 
-  abbrev lent : List ℕ
-  lent = s.args.counts.now
+marks-cleared : (c : After-fill) → Kept (2 * length c.args.g.nodes.now) c.args.work.now (c.fill.new.self ++ drop (length c.args.g.nodes.now) c.args.work.now)
+marks-cleared c =
+    let n = length c.args.g.nodes.now in
+    let e : c.fill.new.self ++ drop n c.args.work.now ≡ cleared n c.args.work.now = search rules in
+    cleared-work n c.args.work.now _ c.requires.work_long e
 
-  counts-fit : length nodes ≤ length lent
-  counts-fit = counts-room nodes _ (length s.args.work.now) s.requires
+-- the walk met a loop, and the search finds the lowest node that loops
+module _ (c : After-unwrap-node) where
+  met : LoopFound c.args.g.nodes.now c.args.counts.now (c.fill.new.self ++ drop (length c.args.g.nodes.now) c.args.work.now) c.walk.new.counts c.walk.new.work
+  met = walk-stopped count_limit c.walk.result (sym c.if-is_err.true ∙ c.is_err.ensures.value) c.walk.ensures
 
-  work-fits : 2 * length nodes ≤ length s.args.work.now
-  work-fits = work-room nodes (length lent) _ s.requires
-
-  sound : Fit nodes
-  sound = row-fit nodes (length lent) (length s.args.work.now) s.requires
-
--- the marks are cleared, and the rest of the work list stays
-module _ (c : After-clear) where
-  abbrev asked : Start
-  asked = (goal.at.After-clear c).Start
-
-  marks-cleared : Kept (2 * length (nodes asked)) asked.args.work.now c.clear.new.work
-  marks-cleared = cleared-work _ _ _ (work-fits asked) c.clear.ensures
-
--- what the walk answers, and leaves of the lists
-module _ (c : After-walk) where
-  abbrev begun : After-clear
-  begun = (goal.at.After-walk c).After-clear
-
-  abbrev start : Start
-  start = (goal.at.After-walk c).Start
-
-  abbrev after : List ℕ
-  after = c.walk.new.counts
-
-  abbrev work-after : List ℕ
-  work-after = c.walk.new.work
-
-  abbrev Walked : Bool → Type 0
-  Walked = WalkedIs count_limit (nodes start) (lent start) begun.clear.new.work after work-after
-
-  walked : {r : Bool} → c.walk.result ≡ r → Walked r
-  walked e = subst Walked e c.walk.ensures
-
-  still-fit : length (nodes start) ≤ length after
-  still-fit = let h = counts-fit start in let e = c.walk.auto.counts in omega arith
-
-  work-still-fits : 2 * length (nodes start) ≤ length work-after
-  work-still-fits =
-      let h = work-fits start in
-      let e = c.walk.auto.work in
-      let d = (marks-cleared begun).size in
-      omega arith
-
-  -- a list of counts that equals another is counted as that one
-  counted-as : {a : Answer} {x y : List ℕ} → x ≡ y
-      → IsCounted count_limit (nodes start) (lent start) (length start.args.work.now) a y
-      → IsCounted count_limit (nodes start) (lent start) (length start.args.work.now) a x
-  counted-as {a} e = subst (IsCounted count_limit (nodes start) (lent start) (length start.args.work.now) a) (sym e)
-
--- it met a loop
-module _ (c : Then-walk) where
-  abbrev looping : After-walk
-  looping = (goal.at.Then-walk c).After-walk
-
-  loop-met : Walked looping true
-  loop-met = walked looping c.if-walk.true
-
--- and the search finds the lowest node that loops
-module _ (c : After-lowest_loop) where
-  abbrev met : Then-walk
-  met = (goal.at.After-lowest_loop c).Then-walk
-
-  abbrev found : After-walk
-  found = (goal.at.After-lowest_loop c).After-walk
-
-  lowest : LowestLoop kbwg (nodes (start found)) c.lowest_loop.result
-  lowest = ⊎_elim (λ l. l) (λ n. absurd (n.0 _ (loop-met met).loops)) c.lowest_loop.ensures.lowest
-
--- it counted every node
-module _ (c : Else-walk) where
-  abbrev finished : After-walk
-  finished = (goal.at.Else-walk c).After-walk
-
-  all_done : Walked finished false
-  all_done = walked finished c.if-walk.false
-
--- and the counts are scanned for the limit
-module _ (c : After-reaches_limit) where
-  abbrev told : Else-walk
-  told = (goal.at.After-reaches_limit c).Else-walk
-
-  reached : {r : Bool} → c.reaches_limit.result ≡ r → ReachesIs count_limit (after (finished told)) (length (nodes (start (finished told)))) r
-  reached e = subst (ReachesIs count_limit (after (finished told)) (length (nodes (start (finished told))))) e c.reaches_limit.ensures
-
-pub clear-requires : goal.clear-requires
-clear-requires c = let r = work-fits (goal.at.clear-requires c).Start in omega arith
-
-pub walk-requires : goal.walk-requires
-walk-requires c =
-    let k = (goal.at.walk-requires c).After-clear in
-    let r = work-fits (asked k) in
-    let e = (marks-cleared k).size in
-    record { fit = sound (asked k); count_walk = count-start count_limit _ _ _ (omega arith) (counts-fit (asked k)) (marks-zero _ _ _ r k.clear.ensures) }
-
-pub lowest_loop-requires : goal.lowest_loop-requires
-lowest_loop-requires c = let w = looping (goal.at.lowest_loop-requires c).Then-walk in record { fit = sound (start w); nodes_in_bounds = still-fit w; nodes_in_bounds_2 = work-still-fits w }
+  lowest : LowestLoop kbwg c.args.g.nodes.now c.unwrap-node.result
+  lowest = rw c.unwrap-node.ensures at c.lowest_loop.ensures.lowest
 
 pub overflow_cast-result : goal.overflow_cast-result
 overflow_cast-result c =
-    let b = (goal.at.overflow_cast-result c).After-lowest_loop in
-    let h = Reach-inside kbwg (lowest b).loops in
-    let f = (sound (start (found b))).most in
+    let h = Reach-inside kbwg (lowest c).loops in
+    let f : length c.args.g.nodes.now ≤ 16777216 = (fit-holds _ c.args.g.fit).most in
     omega arith
 
-pub returns-then-walk : goal.returns-then-walk
-returns-then-walk c =
-    let b = (goal.at.returns-then-walk c).After-lowest_loop in
-    let loop = loop-met (met b) in record { counted = counted-as (found b) b.lowest_loop.ensures.counts_cleared (loop-answer count_limit _ _ _ _ _ _ (start (found b)).requires _ (lowest b) loop); free = kept_then (marks-cleared (begun (found b))) (kept_then loop.work-kept b.lowest_loop.ensures.work_kept) }
+pub returns-then-is_err-clause-counted : goal.returns-then-is_err-clause-counted
+returns-then-is_err-clause-counted c =
+    let s = (goal.at.returns-then-is_err-clause-counted c).Start in
+    rw c.lowest_loop.ensures.counts_cleared (loop-answer count_limit _ _ _ _ _ _ (clear s) _ (lowest c) (met c))
 
-pub reaches_limit-requires : goal.reaches_limit-requires
-reaches_limit-requires c = still-fit (finished c)
+pub returns-then-is_err-clause-free : goal.returns-then-is_err-clause-free
+returns-then-is_err-clause-free c =
+    let f = (goal.at.returns-then-is_err-clause-free c).After-fill in
+    kept_then (marks-cleared f) (kept_then (met c).work-kept c.lowest_loop.ensures.work_kept)
 
-pub clear-requires-then-reaches_limit : goal.clear-requires-then-reaches_limit
-clear-requires-then-reaches_limit c = still-fit (finished (told (goal.at.clear-requires-then-reaches_limit c).After-reaches_limit))
+-- it counted every node
+all-done : (c : Else-is_err)
+    → AllDone count_limit c.args.g.nodes.now c.args.counts.now (c.fill.new.self ++ drop (length c.args.g.nodes.now) c.args.work.now) c.walk.new.counts c.walk.new.work
+all-done c = walk-ended count_limit c.walk.result (sym c.if-is_err.false ∙ c.is_err.ensures.value) c.walk.ensures
 
-pub returns-then-reaches_limit : goal.returns-then-reaches_limit
-returns-then-reaches_limit c =
-    let b = told (goal.at.returns-then-reaches_limit c).After-reaches_limit in
-    let all = all_done b in record {
-      counted = counted-as (finished b) c.clear-then-reaches_limit.ensures
-          (many-answer count_limit _ _ _ _ _ _ (start (finished b)).requires all (reached (goal.at.returns-then-reaches_limit c).After-reaches_limit c.if-reaches_limit.true));
-      free = kept_then (marks-cleared (begun (finished b))) all.work-kept;
-    }
+pub returns-then-reaches_limit-clause-counted : goal.returns-then-reaches_limit-clause-counted
+returns-then-reaches_limit-clause-counted c =
+    let s = (goal.at.returns-then-reaches_limit-clause-counted c).Start in
+    let A = all-done (goal.at.returns-then-reaches_limit-clause-counted c).Else-is_err in
+    let n = length c.args.g.nodes.now in
+    let e : c.fill-then-reaches_limit.new.self ++ drop n c.walk.new.counts ≡ cleared n c.walk.new.counts = search rules in
+    rw e (many-answer count_limit _ _ _ _ _ _ (clear s) A (sym c.reaches_limit.ensures ∙ c.if-reaches_limit.true))
 
-pub returns : goal.returns
-returns c =
-    let b = told (goal.at.returns c).After-reaches_limit in
-    let all = all_done b in record { counted = all-answer count_limit _ _ _ _ _ _ (start (finished b)).requires all (reached (goal.at.returns c).After-reaches_limit c.if-reaches_limit.false); free = kept_then (marks-cleared (begun (finished b))) all.work-kept }
+pub returns-then-reaches_limit-clause-free : goal.returns-then-reaches_limit-clause-free
+returns-then-reaches_limit-clause-free c =
+    let at = goal.at.returns-then-reaches_limit-clause-free c in
+    kept_then (marks-cleared at.After-fill) (all-done at.Else-is_err).work-kept
+
+pub returns-clause-counted : goal.returns-clause-counted
+returns-clause-counted c =
+    let s = (goal.at.returns-clause-counted c).Start in
+    let A = all-done (goal.at.returns-clause-counted c).Else-is_err in
+    all-answer count_limit _ _ _ _ _ _ (clear s) A (sym c.reaches_limit.ensures ∙ c.if-reaches_limit.false)
+
+pub returns-clause-free : goal.returns-clause-free
+returns-clause-free c =
+    let at = goal.at.returns-clause-free c in
+    kept_then (marks-cleared at.After-fill) (all-done at.Else-is_err).work-kept

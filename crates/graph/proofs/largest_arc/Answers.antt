@@ -3,7 +3,7 @@ use Rattle.std.proofs.Common.{◌≡◌, sym, ap, ◌∙◌, max, ◌+◌, lengt
 use Rattle.std.proofs.Math.Nat.{zero-max}
 use Rattle.node.specs.Nodes.{kbwg}
 use Rattle.graph.specs.Runs.{largest_arc}
-use Rattle.graph.proofs.CheckRows.{largest_from, largest-next, largest-done}
+use Rattle.graph.proofs.AlongNodes.{largest_from, largest-next, largest-done}
 use Rattle.graph.proofs.largest_arc.Goals as goal
 
 pub loop-v-init : goal.loop-v-init

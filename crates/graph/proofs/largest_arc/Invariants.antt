@@ -2,7 +2,7 @@
 use Rattle.std.proofs.Common.{◌≡◌}
 use Rattle.node.specs.Nodes.{kbwg}
 use Rattle.graph.specs.Runs.{largest_arc}
-use Rattle.graph.proofs.CheckRows.{largest_from}
+use Rattle.graph.proofs.AlongNodes.{largest_from}
 use Rattle.graph.proofs.largest_arc.Given as goal
 
 abbrev pub invariant-loop-v : goal.invariant-loop-v

@@ -2,7 +2,7 @@
 use Rattle.std.proofs.Common.{ap, ◌∙◌, arith}
 use Rattle.node.specs.Nodes.{kbwg, is_end}
 use Rattle.graph.specs.ChecksLaws.{last_of}
-use Rattle.graph.proofs.CheckRows.{last_none}
+use Rattle.graph.proofs.AlongNodes.{last_none}
 use Rattle.graph.proofs.last_ends.Goals as goal
 
 pub returns-in-Some : goal.returns-in-Some

@@ -1,118 +1,89 @@
--- `lowest_loop` meets its contract: the roots passed are met, and whenever none is open the next root is looked at.
-use native.Mathlib.Omega.{arith}
-use mathlib.Core.Path.{◌∙◌}
-use mathlib.Core.List.{List}
-use Prim.Native.Nat.{ℕ, ◌*◌, ◌<◌}
-use lib.ListN.{length}
-use Rattle.graph.specs.ChecksLaws.{Fit}
-use Rattle.graph.specs.Lent.{Kept, kept_then, cleared_of_kept}
-use Rattle.loops.specs.NodeMarksLaws.{cleared-work, marks-zero}
-use Rattle.loops.specs.Search.{SearchState, SearchStepped}
-use Rattle.loops.proofs.SearchLaws.{top_le, size_le, stack-room, meet-step}
-use Rattle.loops.proofs.RootLaws.{search-start, search-goes-on, search-less, search-next-root, search-end}
+-- `lowest_loop` meets its contract: the roots passed are met, and none is open when the next root is looked at.
+use Rattle.std.proofs.Common.{◌≡◌, ◌≢◌, refl, ◌∙◌, ◌++◌, length, drop, arith, rules}
+use Rattle.graph.specs.ChecksLaws.{fit-holds}
+use Rattle.graph.specs.Lent.{cleared_of_kept}
+use Rattle.laws.specs.Cleared.{cleared}
+use Rattle.loops.specs.NodeMarksLaws.{cleared-work, marks-zero, pushed-mark}
+use Rattle.loops.specs.NodeMarks.{mark}
+use Rattle.loops.specs.Search.{SearchStepped}
+use Rattle.loops.proofs.SearchLaws.{stack-room, meet-step}
+use Rattle.loops.proofs.RootLaws.{search-start, search-goes-on, search-next-root, none-loops, low-loops}
 use Rattle.loops.proofs.lowest_loop.Goals as goal
-use Rattle.loops.proofs.lowest_loop.Goals.{After-clear, After-clear-2, After-meet-s, After-search_step-s, At-loop-root, In-loop-root, Start, Then-work-root-eq0}
-
-module _ (c : After-clear) where
-  abbrev start : Start
-  start = (goal.at.After-clear c).Start
-
-  abbrev nodes : List ℕ
-  nodes = start.args.nodes.now
-
-  marks-cleared : Kept (2 * length nodes) start.args.work.now c.clear.new.work
-  marks-cleared = cleared-work _ _ _ start.requires.nodes_in_bounds_2 c.clear.ensures
-
--- a turn of the loop
-module _ (l : At-loop-root) where
-  abbrev begun : After-clear
-  begun = (goal.at.At-loop-root l).After-clear
-
-  fit : Fit (nodes begun)
-  fit = (start begun).requires.fit
-
-  good : SearchState (nodes begun) l.loop-root.counts l.loop-root.work l.loop-root.s
-  good = l.loop-root.invariant.state
-
-pub clear-requires : goal.clear-requires
-clear-requires c = let r = c.requires.nodes_in_bounds_2 in omega arith
+use Rattle.loops.proofs.lowest_loop.Goals.{After-meet-s, then-work-root-eq0+else-loop-s-test, else-work-root-eq0}
 
 pub loop-root-init : goal.loop-root-init
 loop-root-init c =
-    let k = (goal.at.loop-root-init c).After-clear in
-    let r = (start k).requires.nodes_in_bounds_2 in
-    let e = (marks-cleared k).size in
-    search-start _ _ _ (start k).requires.nodes_in_bounds (omega arith) (marks-zero _ _ _ r k.clear.ensures)
+    let w = c.args.work.now in
+    let n = length c.args.g.nodes.now in
+    let e : c.fill.new.self ++ drop n w ≡ cleared n w = search rules in
+    let k = cleared-work n w _ c.requires.nodes_in_bounds_2 e in
+    let r = k.size in
+    (search-start _ _ _ _ c.requires.nodes_in_bounds (omega (arith, c.requires.nodes_in_bounds_2)) k (marks-zero n w _ c.requires.nodes_in_bounds_2 e), refl)
 
-pub offset_bounds-work-root : goal.offset_bounds-work-root
-offset_bounds-work-root c = let f = (fit (goal.at.offset_bounds-work-root c).At-loop-root).most in omega arith
+pub meet-s-requires-clause-n_bound : goal.meet-s-requires-clause-n_bound
+meet-s-requires-clause-n_bound c = (fit-holds _ c.args.g.fit).most
 
-pub bounds-work-root : goal.bounds-work-root
-bounds-work-root c = let r = (good (goal.at.bounds-work-root c).At-loop-root).room in omega arith
+pub meet-s-requires-clause-size_lt_n : goal.meet-s-requires-clause-size_lt_n
+meet-s-requires-clause-size_lt_n c =
+    stack-room _ _ _ _ (fit-holds _ c.args.g.fit) c.loop-root.invariant.0.state _ c.loop-root-test.true c.if-work-root-eq0.true
 
--- a new root
-module _ (c : Then-work-root-eq0) where
-  abbrev turn : At-loop-root
-  turn = (goal.at.Then-work-root-eq0 c).At-loop-root
-
-  inside : turn.loop-root.root < length (nodes (begun turn))
-  inside = c.loop-root-test.true
-
-pub meet-s-requires : goal.meet-s-requires
-meet-s-requires c =
-    let m = (goal.at.meet-s-requires c).Then-work-root-eq0 in
-    let five_nodes = good (turn m) in
-    let t = top_le _ _ _ _ (fit (turn m)) five_nodes in
-    let l = size_le _ _ _ _ (fit (turn m)) five_nodes in
-    record { q_lt_n = inside m; size_lt_n = stack-room _ _ _ _ (fit (turn m)) five_nodes _ (inside m) m.if-work-root-eq0.true; top_le_n = omega arith; n_bound = (fit (turn m)).most; n_in_bounds = five_nodes.room-counts; n_in_bounds_2 = five_nodes.room }
-
--- it goes on the stack, from no other node
-met : (c : After-meet-s)
-    → let l = turn (goal.at.After-meet-s c).Then-work-root-eq0 in
-    SearchStepped (nodes (begun l)) l.loop-root.counts l.loop-root.work c.meet-s.new.counts c.meet-s.new.work l.loop-root.s c.meet-s.result
+-- a root goes on the stack, from no other node
+met : (c : After-meet-s) → SearchStepped c.args.g.nodes.now c.loop-root.counts c.loop-root.work c.meet-s.new.counts c.meet-s.new.work c.loop-root.s c.meet-s.result
 met c =
-    let m = (goal.at.After-meet-s c).Then-work-root-eq0 in
-    let z = m.if-top-eq0.true in
-    meet-step _ _ _ _ (fit (turn m)) (good (turn m)) _ (inside m) m.if-work-root-eq0.true (λ i y. absurd (omega arith)) _ _ _ c.meet-s.ensures
+    let z = c.loop-root.invariant.1 in
+    meet-step _ _ _ _ (fit-holds _ c.args.g.fit) c.loop-root.invariant.0.state _ c.loop-root-test.true c.if-work-root-eq0.true
+    (λ i y. absurd (omega arith)) _ _ _ c.meet-s.ensures
 
-pub loop-root-smaller-then-work-root-eq0 : goal.loop-root-smaller-then-work-root-eq0
-loop-root-smaller-then-work-root-eq0 c = let k = (goal.at.loop-root-smaller-then-work-root-eq0 c).After-meet-s in let m = (goal.at.After-meet-s k).Then-work-root-eq0 in search-less _ _ _ _ _ _ _ (turn m).loop-root.invariant (inside m) _ _ _ (met k)
+root-met : (c : After-meet-s) → mark c.meet-s.new.work c.loop-root.root ≢ 0
+root-met c =
+    λ z.
+    let S = c.loop-root.invariant.0.state in
+    let b = stack-room _ _ _ _ (fit-holds _ c.args.g.fit) S _ c.loop-root-test.true c.if-work-root-eq0.true in
+    let p = pushed-mark _ c.loop-root.work _ _ S.room c.loop-root-test.true b in
+    let y = rw c.meet-s.ensures.work-is at z in
+    omega arith
 
-pub loop-root-preserved-then-work-root-eq0 : goal.loop-root-preserved-then-work-root-eq0
-loop-root-preserved-then-work-root-eq0 c = let k = (goal.at.loop-root-preserved-then-work-root-eq0 c).After-meet-s in let m = (goal.at.After-meet-s k).Then-work-root-eq0 in search-goes-on _ _ _ _ _ _ _ (turn m).loop-root.invariant (inside m) _ _ _ (met k)
+pub loop-s-init : goal.loop-s-init
+loop-s-init c =
+    let m = (goal.at.loop-s-init c).After-meet-s in
+    let b = c.loop-root-test.true in
+    (search-goes-on _ _ _ _ _ _ _ c.loop-root.invariant.0 _ _ _ (met m) (omega arith), root-met m)
 
-pub loop-root-smaller-else-work-root-eq0 : goal.loop-root-smaller-else-work-root-eq0
-loop-root-smaller-else-work-root-eq0 c = let b = c.loop-root-test.true in omega arith
-
-pub loop-root-preserved-else-work-root-eq0 : goal.loop-root-preserved-else-work-root-eq0
-loop-root-preserved-else-work-root-eq0 c =
-    search-next-root _ _ _ _ _ _ _ c.loop-root.invariant c.loop-root-test.true c.if-top-eq0.true c.if-work-root-eq0.false
-
-pub search_step-s-requires : goal.search_step-s-requires
-search_step-s-requires c = let l = (goal.at.search_step-s-requires c).At-loop-root in let n = c.if-top-eq0.false in record { fit = fit l; search_state = good l; top_nonzero = omega (arith, n) }
-
--- a step of the search
-abbrev going : After-search_step-s → In-loop-root
-going c = (goal.at.After-search_step-s c).In-loop-root
-
-pub loop-root-smaller : goal.loop-root-smaller
-loop-root-smaller c =
-    let k = (goal.at.loop-root-smaller c).After-search_step-s in
-    search-less _ _ _ _ _ _ _ (going k).loop-root.invariant (going k).loop-root-test.true _ _ _ k.search_step-s.ensures
+pub loop-s-preserved : goal.loop-s-preserved
+loop-s-preserved c =
+    let S = c.search_step-s.ensures in
+    let b = c.loop-root-test.true in
+    (search-goes-on _ _ _ _ _ _ _ c.loop-s.invariant.0 _ _ _ S (omega arith), S.met _ b c.loop-s.invariant.1)
 
 pub loop-root-preserved : goal.loop-root-preserved
 loop-root-preserved c =
-    let k = (goal.at.loop-root-preserved c).After-search_step-s in
-    search-goes-on _ _ _ _ _ _ _ (going k).loop-root.invariant (going k).loop-root-test.true _ _ _ k.search_step-s.ensures
+    elim c.if-work-root-eq0.branch [
+      | then-work-root-eq0+else-loop-s-test w ↦
+          rw (w.s-is, w.work-is, w.counts-is) (search-next-root _ _ _ _ _ _ _ w.loop-s.invariant.0 w.loop-s.invariant.1, omega arith)
+      | else-work-root-eq0 w ↦
+          rw (w.s-is, w.work-is, w.counts-is) (search-next-root _ _ _ _ _ _ _ c.loop-root.invariant.0 w.if-work-root-eq0.false, c.loop-root.invariant.1)
+    ]
 
-pub clear-requires-2 : goal.clear-requires-2
-clear-requires-2 c = (good (goal.at.clear-requires-2 c).At-loop-root).room-counts
+pub returns-then-s-n-clause-lowest : goal.returns-then-s-n-clause-lowest
+returns-then-s-n-clause-lowest c = low-loops _ _ _ _ _ _ _ c.loop-root.invariant.0 c.loop-root-test.false c.loop-root.invariant.1 c.if-s-n.true
 
--- no root is left
-abbrev over : After-clear-2 → At-loop-root
-over c = (goal.at.After-clear-2 c).At-loop-root
+pub returns-else-s-n-clause-lowest : goal.returns-else-s-n-clause-lowest
+returns-else-s-n-clause-lowest c = none-loops _ _ _ _ _ _ _ c.loop-root.invariant.0 c.loop-root-test.false c.loop-root.invariant.1 c.if-s-n.false
 
-pub returns : goal.returns
-returns c =
-    let k = (goal.at.returns c).After-clear-2 in
-    let R = (over k).loop-root.invariant in record { lowest = search-end _ _ _ _ _ _ _ R (omega arith); counts_cleared = k.clear-2.ensures ∙ cleared_of_kept _ _ _ R.counts-kept; work_kept = kept_then (marks-cleared (begun (over k))) R.work-kept }
+pub returns-then-s-n-clause-counts_cleared : goal.returns-then-s-n-clause-counts_cleared
+returns-then-s-n-clause-counts_cleared c =
+    let n = length c.args.g.nodes.now in
+    let e : c.fill-2.new.self ++ drop n c.loop-root.counts ≡ cleared n c.loop-root.counts = search rules in
+    e ∙ cleared_of_kept _ _ _ c.loop-root.invariant.0.counts-kept
+
+pub returns-else-s-n-clause-counts_cleared : goal.returns-else-s-n-clause-counts_cleared
+returns-else-s-n-clause-counts_cleared c =
+    let n = length c.args.g.nodes.now in
+    let e : c.fill-2.new.self ++ drop n c.loop-root.counts ≡ cleared n c.loop-root.counts = search rules in
+    e ∙ cleared_of_kept _ _ _ c.loop-root.invariant.0.counts-kept
+
+pub returns-then-s-n-clause-work_kept : goal.returns-then-s-n-clause-work_kept
+returns-then-s-n-clause-work_kept c = c.loop-root.invariant.0.work-kept
+
+pub returns-else-s-n-clause-work_kept : goal.returns-else-s-n-clause-work_kept
+returns-else-s-n-clause-work_kept c = c.loop-root.invariant.0.work-kept

@@ -9,8 +9,5 @@ abbrev pub decreases-survey_run : goal.decreases-survey_run
 decreases-survey_run l = 2 * l.chain_left
 
 -- ---- survey_run
-abbrev pub invariant-survey_run-loop-child : goal.invariant-survey_run-loop-child
-invariant-survey_run-loop-child l = SurveyFilling l.nodes l.labels l.initial.work l.work l.p l.at l.run
-
-abbrev pub decreases-survey_run-loop-child : goal.decreases-survey_run-loop-child
-decreases-survey_run-loop-child l = l.at
+abbrev pub invariant-survey_run-loop-at : goal.invariant-survey_run-loop-at
+invariant-survey_run-loop-at l = SurveyFilling l.g.graph.nodes.now l.g.labels.now l.initial.work l.work l.p l.at l.run

@@ -7,9 +7,9 @@ use Rattle.node.specs.Nodes.{kbwg, is_end}
 use Rattle.graph.specs.Runs.{node}
 use Rattle.survey.proofs.last_unknown.Given as goal
 
-abbrev pub invariant-loop-p : goal.invariant-loop-p
-invariant-loop-p l =
-    (l.p ≤ l.at) × (l.at < length l.nodes) × ((j : ℕ) → l.p ≤ j → j < l.at → is_end kbwg (node l.nodes j) ≡ false)
+abbrev pub invariant-loop-at : goal.invariant-loop-at
+invariant-loop-at l =
+    (l.p ≤ l.at) × (l.at < length l.g.nodes.now) × ((j : ℕ) → l.p ≤ j → j < l.at → is_end kbwg (node l.g.nodes.now j) ≡ false)
 
-abbrev pub decreases-loop-p : goal.decreases-loop-p
-decreases-loop-p l = length l.nodes - l.at
+abbrev pub decreases-loop-at : goal.decreases-loop-at
+decreases-loop-at l = length l.g.nodes.now - l.at

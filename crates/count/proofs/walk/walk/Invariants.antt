@@ -1,10 +1,13 @@
--- `walk` meets its contract: the roots passed are done whenever the stack is empty, and every turn meets a node, ends one or passes a root.
+-- `walk` meets its contract: the roots passed are done, and every step meets a node or ends one.
 use Rattle.graph.specs.Counting.{count_limit}
-use Rattle.count.proofs.Roots.{Roots, turns}
+use Rattle.count.proofs.Roots.{Roots, steps_left}
 use Rattle.count.proofs.walk.walk.Given as goal
 
-abbrev pub invariant-loop-roots : goal.invariant-loop-roots
-invariant-loop-roots l = Roots count_limit l.nodes l.initial.counts l.initial.work l.counts l.work l.roots l.size
+abbrev pub invariant-loop-root : goal.invariant-loop-root
+invariant-loop-root l = Roots count_limit l.g.nodes.now l.fn.counts l.fn.work l.counts l.work l.root 0
 
-abbrev pub decreases-loop-roots : goal.decreases-loop-roots
-decreases-loop-roots l = turns l.nodes l.work l.roots
+abbrev pub invariant-loop-size : goal.invariant-loop-size
+invariant-loop-size l = Roots count_limit l.g.nodes.now l.fn.counts l.fn.work l.counts l.work l.root l.size
+
+abbrev pub decreases-loop-size : goal.decreases-loop-size
+decreases-loop-size l = steps_left l.g.nodes.now l.work

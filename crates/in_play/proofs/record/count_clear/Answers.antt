@@ -1,27 +1,18 @@
--- `in_play::count_clear` meets its contract. The loop's invariant: those counted and those left from group g on are all.
-use native.Mathlib.Omega.{arith}
-use mathlib.Core.Path.{◌≡◌, refl, sym, ap, ◌∙◌}
-use mathlib.Core.List.{List}
-use Prim.Native.Nat.{ℕ, ◌+◌, ◌/◌}
-use lib.Count.{ones}
-use lib.ListN.{length}
+-- `in_play::count_clear` meets its contract: those counted and those left from a group on are all.
+use Rattle.std.proofs.Common.{ℕ, List, ◌≡◌, ◌∙◌, sym, ap, arith, ◌+◌, ◌/◌, ◌<◌, length}
+use Rattle.std.specs.Int.Count.{ones}
 use Rattle.in_play.specs.InPlay.{not_in_play}
 use Rattle.in_play.specs.Groups.{clear_bits}
+use Rattle.in_play.proofs.GroupLaws.{group_joined}
 use Rattle.in_play.proofs.ScanLaws.{left_from, all_left, left-most, count_next, count-last}
 use Rattle.in_play.proofs.record.count_clear.Goals as goal
-use Rattle.in_play.proofs.record.count_clear.Goals.{After-how_many, After-how_many-count}
+use Rattle.in_play.proofs.record.count_clear.Goals.{After-count_zeros-count, After-last_clear}
 
-pub loop-g-init : goal.loop-g-init
-loop-g-init c = let a = c.args in (refl, omega arith, omega (arith, ap length (all_left a.bits.now a.total)))
-
-pub overflow_mul-g : goal.overflow_mul-g
-overflow_mul-g c = omega arith
-
-pub group_at-requires : goal.group_at-requires
-group_at-requires c = omega arith
+pub loop-group-init : goal.loop-group-init
+loop-group-init c = omega (arith, ap length (all_left c.args.bits.now c.args.total))
 
 -- the group's part of what is left
-module _ (c : After-how_many-count) where
+module _ (c : After-count_zeros-count) where
   abbrev bits : List ℕ
   bits = c.args.bits.now
 
@@ -29,40 +20,35 @@ module _ (c : After-how_many-count) where
   total = c.args.total
 
   abbrev g : ℕ
-  g = c.loop-g.g
+  g = c.loop-group.group-index
 
-  group-is : length (left_from bits total g) ≡ c.how_many-count.result + length (left_from bits total (g + 1))
+  group-is : length (left_from bits total g) ≡ c.count_zeros-count.result + length (left_from bits total (g + 1))
   group-is =
-      let e = c.how_many-count.ensures ∙ ap ones (c.clear_bits.ensures ∙ ap clear_bits c.group_at.ensures) in
-      count_next bits total (λ n. (c.shared_slice_known-1.given n).fits) (omega arith) g (omega arith)
-      ∙ ap (λ n. n + length (left_from bits total (g + 1))) (sym e)
+      let h : g < total / 64 = omega (arith, c.whole_groups-group-items.ensures.count) in
+      let e = c.from_le_bytes.ensures ∙ group_joined bits (total / 64) g c.whole_groups-group-items.ensures.groups h (omega arith) in
+      count_next bits total (λ n. (c.type_inv.bits n).fits) (omega arith) g (omega arith)
+      ∙ ap (λ n. n + length (left_from bits total (g + 1))) (sym (c.count_zeros-count.ensures.value ∙ ap (λ n. ones (clear_bits n)) e))
 
 pub overflow_add-count : goal.overflow_add-count
 overflow_add-count c = omega (arith, group-is c, left-most (bits c) (total c))
 
-pub overflow_add-g : goal.overflow_add-g
-overflow_add-g c = omega arith
-
-pub loop-g-smaller : goal.loop-g-smaller
-loop-g-smaller c = omega arith
-
-pub loop-g-preserved : goal.loop-g-preserved
-loop-g-preserved c = (c.loop-g.invariant.0, omega arith, omega (arith, group-is c))
+pub loop-group-preserved : goal.loop-group-preserved
+loop-group-preserved c = omega (arith, group-is c)
 
 -- the last group's part is all that is left
-last-is : (c : After-how_many) → let a = c.args in let l = c.loop-g in
-    length (not_in_play a.bits.now a.total) ≡ l.count + c.how_many.result
+last-is : (c : After-last_clear) → let a = c.args in let l = c.loop-group in
+    length (not_in_play a.bits.now a.total) ≡ l.count + ones c.last_clear.result
 last-is c =
     let a = c.args in
-    let l = c.loop-g in
-    let done : l.g ≡ a.total / 64 = omega arith in
-    sym l.invariant.2 ∙ ap (λ n. l.count + n)
+    let l = c.loop-group in
+    let done : l.group-index ≡ a.total / 64 = omega (arith, c.whole_groups-group-items.ensures.count) in
+    sym l.invariant ∙ ap (λ n. l.count + n)
     (ap (λ g. length (left_from a.bits.now a.total g)) done
-    ∙ count-last a.bits.now a.total (λ n. (c.shared_slice_known-1.given n).fits) (omega arith)
-    ∙ sym (c.how_many.ensures ∙ ap ones c.last_clear.ensures))
+    ∙ count-last a.bits.now a.total (λ n. (c.type_inv.bits n).fits) (omega arith)
+    ∙ sym (ap ones c.last_clear.ensures))
 
 pub overflow_add-result : goal.overflow_add-result
-overflow_add-result c = let a = c.args in omega (arith, last-is c, left-most a.bits.now a.total)
+overflow_add-result c = omega (arith, last-is c, left-most c.args.bits.now c.args.total)
 
 pub returns : goal.returns
 returns c = sym (last-is c)

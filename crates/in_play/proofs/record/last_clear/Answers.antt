@@ -1,16 +1,18 @@
 -- `in_play::last_clear` meets its contract.
-use mathlib.Core.Path.{◌≡◌, ap, ap₂, ◌∙◌}
-use Prim.Native.Nat.{◌%◌, ◌*◌, ◌^◌}
-use native.Mathlib.Omega.{arith}
+use Rattle.std.proofs.Common.{◌≡◌, ◌∙◌, ap, ap₂, arith, ◌+◌, ◌-◌, ◌*◌, ◌/◌, ◌%◌, ◌^◌, take, drop}
+use Rattle.std.proofs.Math.Pow.{shl_exact}
+use Rattle.std.proofs.lemmas.List.{drop-take}
 use native.Mathlib.Nat.{one-mul}
 use lib.Dec.{lit<}
-use lib.Pow.{shl_exact}
-use Rattle.in_play.specs.Groups.{clear_bits}
+use Rattle.in_play.specs.Groups.{joined, clear_bits}
 use Rattle.in_play.proofs.record.last_clear.Goals as goal
-use Rattle.in_play.proofs.record.last_clear.Goals.{After-clear_bits}
-
-past_is : (c : After-clear_bits) → let total = c.args.total in 1 * 2 ^ (total % 64) % 2 ^ 64 ≡ 2 ^ (total % 64)
-past_is c = let total = c.args.total in shl_exact 1 (total % 64) 64 (lit< tt) (omega arith) ∙ one-mul (2 ^ (total % 64))
 
 pub returns : goal.returns
-returns c = ap₂ ◌%◌ (c.clear_bits.ensures ∙ ap clear_bits c.short_group.ensures) (past_is c)
+returns c =
+    let total = c.args.total in
+    let bits = c.args.bits.now in
+    let first = total / 64 * 8 in
+    let end : first + (c.div_ceil-end.result - first) ≡ (total + 7) / 8 = omega (arith, c.div_ceil-end.ensures) in
+    let part = ap (λ n. joined (drop first (take n bits))) end in
+    let past = shl_exact 1 (total % 64) 64 (lit< tt) (omega arith) ∙ one-mul (2 ^ (total % 64)) in
+    ap₂ (λ a b. clear_bits a % b) (c.short_group.ensures ∙ rw (← drop-take first (c.div_ceil-end.result - first) bits) part) past

@@ -1,29 +1,19 @@
--- `in_play::lowest_clear` meets its contract. The loop's invariant: the groups passed have no clear bit, so those left from group g on are all.
-use native.Mathlib.Omega.{arith}
-use mathlib.Core.Path.{◌≡◌, refl, sym, ap, ◌∙◌}
-use mathlib.Core.Logic.{◌≢◌}
-use mathlib.Core.List.{List}
-use Prim.Native.Nat.{ℕ, ◌+◌, ◌*◌, ◌/◌}
-use lib.Count.{count_trailing_zeros, trailing_le}
-use lib.Seq.{slice}
+-- `in_play::lowest_clear` meets its contract: the groups passed have no clear bit, so those left from a group on are all.
+use Rattle.std.proofs.Common.{ℕ, List, ◌≡◌, ◌≢◌, ◌∙◌, sym, ap, arith, ◌+◌, ◌*◌, ◌/◌, ◌<◌}
+use Rattle.std.specs.Int.Count.{count_trailing_zeros}
+use Rattle.std.proofs.Math.Seq.{slice}
 use Rattle.in_play.specs.InPlay.{not_in_play}
 use Rattle.in_play.specs.Groups.{joined, clear_bits, last_clear, first_or}
-use Rattle.in_play.proofs.GroupLaws.{Bytes}
+use Rattle.in_play.proofs.GroupLaws.{Bytes, group_joined}
 use Rattle.in_play.proofs.ScanLaws.{left_from, all_left, lowest-here, none_here, lowest-last, last_some, last-below}
 use Rattle.in_play.proofs.record.lowest_clear.Goals as goal
-use Rattle.in_play.proofs.record.lowest_clear.Goals.{After-clear_bits-clear, After-lowest_in-2}
+use Rattle.in_play.proofs.record.lowest_clear.Goals.{After-from_le_bytes-clear, After-last_clear}
 
 pub loop-g-init : goal.loop-g-init
-loop-g-init c = let a = c.args in (refl, omega arith, sym (all_left a.bits.now a.total))
-
-pub overflow_mul-g : goal.overflow_mul-g
-overflow_mul-g c = omega arith
-
-pub group_at-requires : goal.group_at-requires
-group_at-requires c = omega arith
+loop-g-init c = sym (all_left c.args.bits.now c.args.total)
 
 -- a group that was read
-module _ (c : After-clear_bits-clear) where
+module _ (c : After-from_le_bytes-clear) where
   abbrev bits : List ℕ
   bits = c.args.bits.now
 
@@ -33,47 +23,37 @@ module _ (c : After-clear_bits-clear) where
   abbrev g : ℕ
   g = c.loop-g.g
 
+  abbrev clear : ℕ
+  clear = clear_bits c.from_le_bytes-clear.result
+
   bytes : Bytes bits
-  bytes n = (c.shared_slice_known-1.given n).fits
+  bytes n = (c.type_inv.bits n).fits
 
-  clear-is : c.clear_bits-clear.result ≡ clear_bits (joined (slice (g * 8) (g * 8 + 8) bits))
-  clear-is = c.clear_bits-clear.ensures ∙ ap clear_bits c.group_at.ensures
+  here : g < total / 64
+  here = omega (arith, c.whole_groups-group-items.ensures.count)
 
-  lowest-is : c.clear_bits-clear.result ≢ 0 → first_or 0 (not_in_play bits total) ≡ 64 * g + count_trailing_zeros 64 c.clear_bits-clear.result
+  clear-is : clear ≡ clear_bits (joined (slice (g * 8) (g * 8 + 8) bits))
+  clear-is =
+      let groups = c.whole_groups-group-items.ensures.groups in
+      ap clear_bits (c.from_le_bytes-clear.ensures ∙ group_joined bits (total / 64) g groups here (omega arith))
+
+  lowest-is : clear ≢ 0 → first_or 0 (not_in_play bits total) ≡ 64 * g + count_trailing_zeros 64 clear
   lowest-is n =
-      ap (first_or 0) (sym c.loop-g.invariant.2)
+      ap (first_or 0) (sym c.loop-g.invariant)
       ∙ lowest-here bits total bytes (omega arith) g (omega arith) (λ z. n (clear-is ∙ z)) 0
       ∙ ap (λ v. 64 * g + count_trailing_zeros 64 v) (sym clear-is)
 
-  passed : c.clear_bits-clear.result ≡ 0 → left_from bits total (g + 1) ≡ not_in_play bits total
-  passed z = sym (none_here bits total bytes (omega arith) g (omega arith) (sym clear-is ∙ z)) ∙ c.loop-g.invariant.2
-
-pub overflow_cast-result : goal.overflow_cast-result
-overflow_cast-result c = omega arith
-
-pub overflow_mul-result : goal.overflow_mul-result
-overflow_mul-result c = omega arith
-
-pub overflow_add-result : goal.overflow_add-result
-overflow_add-result c = omega (arith, c.lowest_in.ensures, trailing_le 64 c.clear_bits-clear.result)
+  passed : clear ≡ 0 → left_from bits total (g + 1) ≡ not_in_play bits total
+  passed z = sym (none_here bits total bytes (omega arith) g (omega arith) (sym clear-is ∙ z)) ∙ c.loop-g.invariant
 
 pub returns-then-clear-ne0 : goal.returns-then-clear-ne0
-returns-then-clear-ne0 c = omega (arith, lowest-is (goal.at.returns-then-clear-ne0 c).After-clear_bits-clear c.if-clear-ne0.true, c.lowest_in.ensures)
-
-pub overflow_add-g : goal.overflow_add-g
-overflow_add-g c = omega arith
-
-pub loop-g-smaller : goal.loop-g-smaller
-loop-g-smaller c = omega arith
+returns-then-clear-ne0 c = omega (arith, lowest-is (goal.at.returns-then-clear-ne0 c).After-from_le_bytes-clear c.if-clear-ne0.true)
 
 pub loop-g-preserved : goal.loop-g-preserved
-loop-g-preserved c = (c.loop-g.invariant.0, omega arith, passed (goal.at.loop-g-preserved c).After-clear_bits-clear c.if-clear-ne0.false)
-
-pub overflow_mul-result-2 : goal.overflow_mul-result-2
-overflow_mul-result-2 c = omega arith
+loop-g-preserved c = passed (goal.at.loop-g-preserved c).After-from_le_bytes-clear c.if-clear-ne0.false
 
 -- the last group, in which there must be one
-module _ (c : After-lowest_in-2) where
+module _ (c : After-last_clear) where
   abbrev words : List ℕ
   words = c.args.bits.now
 
@@ -81,16 +61,19 @@ module _ (c : After-lowest_in-2) where
   size = c.args.total
 
   known : Bytes words
-  known n = (c.shared_slice_known-1.given n).fits
+  known n = (c.type_inv.bits n).fits
 
   all_there : left_from words size (size / 64) ≡ not_in_play words size
-  all_there = let l = c.loop-g in let done : l.g ≡ size / 64 = omega arith in ap (left_from words size) (sym done) ∙ l.invariant.2
+  all_there =
+      let l = c.loop-g in
+      let done : l.g ≡ size / 64 = omega (arith, c.whole_groups-group-items.ensures.count) in
+      ap (left_from words size) (sym done) ∙ l.invariant
 
   some-there : last_clear words size ≢ 0
   some-there = last_some words size known (omega arith) (rw all_there c.requires.1)
 
-  low-is : c.lowest_in-2.result ≡ count_trailing_zeros 64 (last_clear words size)
-  low-is = c.lowest_in-2.ensures ∙ ap (count_trailing_zeros 64) c.last_clear.ensures
+  low-is : count_trailing_zeros 64 c.last_clear.result ≡ count_trailing_zeros 64 (last_clear words size)
+  low-is = ap (count_trailing_zeros 64) c.last_clear.ensures
 
 pub overflow_add-result-2 : goal.overflow_add-result-2
 overflow_add-result-2 c = omega (arith, low-is c, last-below (words c) (size c) (known c) (omega arith) (some-there c))

@@ -1,12 +1,11 @@
--- `in_play::turn` meets its contract.
-use mathlib.Core.Path.{ap}
-use Prim.Native.Nat.{◌/◌}
-use lib.Bits.{bit_xor}
-use lib.ListN.{get_or, set}
+-- `in_play::turn` meets its contract: the shifted 1 is the bit's worth.
+use Rattle.std.proofs.Common.{arith, ◌%◌, ◌^◌}
+use Rattle.std.proofs.Math.Pow.{shl_exact}
+use native.Mathlib.Nat.{one-mul}
+use lib.Dec.{lit<}
 use Rattle.in_play.specs.InPlay.{turned}
 use Rattle.in_play.proofs.record.turn.Goals as goal
 
 pub returns : goal.returns
 unfolding turned
-returns c = let a = c.args in
-    ap (λ one. set a.bits.now (a.n / 8) (bit_xor (get_or a.bits.now (a.n / 8) 0) one)) c.only_bit-one.ensures
+returns c = let k = c.args.n % 8 in rw (shl_exact 1 k 8 (lit< tt) (omega arith), one-mul (2 ^ k))

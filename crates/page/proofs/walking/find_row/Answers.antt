@@ -8,7 +8,7 @@ use Rattle.lookup.specs.Said.{WordPut}
 use Rattle.lookup.specs.Walks.{word_by_index}
 use Rattle.lookup.specs.WalkedLaws.{by-index-walked}
 use Rattle.page.specs.Rows.{page_widths}
-use Rattle.page.proofs.WalkingLaws.{Walked, row-found, row-full, row-blank, row-not-lent, row-out_of_range}
+use Rattle.page.proofs.WalkingLaws.{Walked, row-found, row-full}
 use Rattle.page.proofs.walking.find_row.Goals as goal
 use Rattle.page.proofs.walking.find_row.Goals.{After-get_word_by_index, Start}
 
@@ -35,17 +35,8 @@ module _ (s : After-get_word_by_index) where
         size = start.requires;
       }
 
-pub returns-in-Tiles : goal.returns-in-Tiles
-returns-in-Tiles c = row-found (walked (goal.at.returns-in-Tiles c).After-get_word_by_index) _ c.in-Tiles.is
+pub returns-in-Ok : goal.returns-in-Ok
+returns-in-Ok c = row-found (walked (goal.at.returns-in-Ok c).After-get_word_by_index) c.in-Ok.found c.in-Ok.is
 
-pub returns-in-Absent : goal.returns-in-Absent
-returns-in-Absent c = row-blank (walked (goal.at.returns-in-Absent c).After-get_word_by_index) c.in-Absent.is
-
-pub returns-in-NotLent : goal.returns-in-NotLent
-returns-in-NotLent c = row-not-lent (walked (goal.at.returns-in-NotLent c).After-get_word_by_index) c.in-NotLent.is
-
-pub returns-in-OutOfRange : goal.returns-in-OutOfRange
-returns-in-OutOfRange c = row-out_of_range (walked (goal.at.returns-in-OutOfRange c).After-get_word_by_index) c.in-OutOfRange.is
-
-pub returns-in-BufferFull : goal.returns-in-BufferFull
-returns-in-BufferFull c = row-full (walked (goal.at.returns-in-BufferFull c).After-get_word_by_index) c.in-BufferFull.is
+pub returns-in-Err-BufferFull : goal.returns-in-Err-BufferFull
+returns-in-Err-BufferFull c = row-full (walked (goal.at.returns-in-Err-BufferFull c).After-get_word_by_index) (cc)

@@ -6,13 +6,16 @@ use Prim.Native.Nat.{ℕ, ◌+◌, ◌-◌, ◌≤◌, ◌<◌}
 use lib.Dec.{ltb}
 use borrow.Author.Tests.{ltb-true, ltb-false}
 use lib.ListN.{length, drop, length-take, length-drop}
+use lib.Seq.{length-take-le}
+use Rattle.std.proofs.lemmas.Result.{err_from_is_err_and}
 use Rattle.laws.specs.Cases.{split}
 use Rattle.page.specs.Rows.{page_widths, word_rows}
-use Rattle.page.specs.Held.{found_try}
-use Rattle.page.specs.declared.walking.RowFound.{RowFound}
+use Rattle.page.specs.Said.{found_try}
+use Rattle.std.specs.Prelude.{Result, Ok, Option as Maybe, None}
+use Rattle.lookup.specs.declared.refusals.LookupRefusal.{LookupRefusal}
 use Rattle.page.proofs.RowByRow as laws
 use Rattle.page.proofs.walking.walk_rows.Goals as goal
-use Rattle.page.proofs.walking.walk_rows.Goals.{After-find_row, After-numbered_rows-rows, In-loop-row}
+use Rattle.page.proofs.walking.walk_rows.Goals.{After-find_row, After-loop-row, After-numbered_rows-rows, In-loop-row, In_default}
 
 -- what is asked
 abbrev walks : After-numbered_rows-rows → laws.Walks
@@ -36,7 +39,7 @@ module _ (s : In-loop-row) where
   count = s.loop-row.count
 
   so : laws.SoFar asked tiles sizes row count
-  so = s.loop-row.invariant.1
+  so = s.loop-row.invariant
 
   here : row < word_rows
   here = omega (arith, s.loop-row-test.true, s.numbered_rows-rows.ensures)
@@ -63,7 +66,7 @@ module _ (s : After-find_row) where
         (so turn).sizes-are.0,
       )
 
-  found : {r : RowFound} → s.find_row.result ≡ r → laws.Found (asked turn) (tiles turn) (sizes turn) (row turn) (count turn) after r
+  found : {r : Result (Maybe ℕ) LookupRefusal} → s.find_row.result ≡ r → laws.Found (asked turn) (tiles turn) (sizes turn) (row turn) (count turn) after r
   found e =
       record {
         so = so turn;
@@ -74,36 +77,63 @@ module _ (s : After-find_row) where
       }
 
 pub loop-row-init : goal.loop-row-init
-loop-row-init c = (omega arith, laws.none_yet (walks c) c.requires)
+loop-row-init c = laws.none_yet (walks c) c.requires
+
+pub overflow_add-word : goal.overflow_add-word
+overflow_add-word c = omega (arith, laws.next_fits (so c) (here c))
+
+pub slice_bounds-word-end : goal.slice_bounds-word-end
+slice_bounds-word-end c = omega (arith, laws.next_fits (so c) (here c), (so c).sizes-are.0)
+
+-- no word there
+module _ (c : In_default) where
+  blank : laws.Found (asked (turn (goal.at.In_default c).After-find_row)) c.loop-row.tiles c.loop-row.sizes c.loop-row.row c.loop-row.count c.find_row.new.word (Ok None)
+  blank = found (goal.at.In_default c).After-find_row (c.in_ok-size.was ∙ ap Ok c.in_default.is)
+
+pub returns-in_err-size : goal.returns-in_err-size
+returns-in_err-size c =
+    let p = err_from_is_err_and c.from_residual.result c.from_residual.ensures.1 in
+    rw (p.1, p.2) (laws.refused-found (found (goal.at.returns-in_err-size c).After-find_row c.in_err-size.was))
+
+pub slice_bounds-result-end : goal.slice_bounds-result-end
+slice_bounds-result-end c = sym (laws.front-long (blank c))
+
+pub invariant_of-result : goal.invariant_of-result
+invariant_of-result c = record { fit = laws.blank-fit (blank c) }
+
+pub returns-in_default : goal.returns-in_default
+returns-in_default c = laws.blank-found (blank (goal.at.returns-in_default c).In_default)
 
 pub overflow_add-count : goal.overflow_add-count
-overflow_add-count c = omega (arith, laws.next_fits (so c) (here c))
-
-pub slice_bounds-find_row-end : goal.slice_bounds-find_row-end
-slice_bounds-find_row-end c = omega (arith, laws.next_fits (so c) (here c), (so c).sizes-are.0)
-
-pub overflow_add-count-in-Word : goal.overflow_add-count-in-Word
-overflow_add-count-in-Word c = let t = turn (goal.at.overflow_add-count-in-Word c).After-find_row in
+overflow_add-count c = let t = turn (goal.at.overflow_add-count c).After-find_row in
     omega (arith, laws.next_fits (so t) (here t), c.shown_tiles-count.ensures)
 
 pub loop-row-preserved : goal.loop-row-preserved
-loop-row-preserved c = let s = (goal.at.loop-row-preserved c).After-find_row in
-    (omega (arith, (turn s).loop-row-test.true), laws.one_more (found s c.in-Word.is) c.shown_tiles-count.ensures)
-
-pub returns-in-Blank : goal.returns-in-Blank
-returns-in-Blank c = laws.blank-found (found (goal.at.returns-in-Blank c).After-find_row c.in-Blank.is)
-
-pub returns-in-NotLent : goal.returns-in-NotLent
-returns-in-NotLent c = laws.not-lent-found (found (goal.at.returns-in-NotLent c).After-find_row c.in-NotLent.is)
-
-pub returns-in-OutOfRange : goal.returns-in-OutOfRange
-returns-in-OutOfRange c = laws.out_of_range_found (found (goal.at.returns-in-OutOfRange c).After-find_row c.in-OutOfRange.is)
+loop-row-preserved c =
+    let f = found (goal.at.loop-row-preserved c).After-find_row (c.in_ok-size.was ∙ ap Ok c.in-Some.is) in
+    laws.one_more f c.shown_tiles-count.ensures
 
 -- the loop ends where no row is left, or where no number is
+module _ (c : After-loop-row) where
+  abbrev rows : ℕ
+  rows = c.numbered_rows-rows.result
+
+  all : laws.SoFar (walks (goal.at.After-loop-row c).After-numbered_rows-rows) c.loop-row.tiles c.loop-row.sizes rows c.loop-row.count
+  all = let e : c.loop-row.row ≡ rows = omega arith in rw (← e) c.loop-row.invariant
+
+  narrow-all : c.args.first + rows ≤ page_widths.greatest + 1
+  narrow-all = omega (arith, c.numbered_rows-rows.ensures)
+
+pub slice_bounds-result-end-2 : goal.slice_bounds-result-end-2
+slice_bounds-result-end-2 c = sym (length-take-le c.loop-row.count c.loop-row.tiles (laws.room (all c)))
+
+pub invariant_of-result-2 : goal.invariant_of-result-2
+invariant_of-result-2 c = record { fit = laws.fit (all c) (narrow-all c) }
+
 pub returns : goal.returns
-returns c = let l = c.loop-row in
-    let rows = c.numbered_rows-rows.ensures in
-    laws.all-walked l.invariant.1 (omega (arith, rows, l.invariant.0))
-    (split (ltb l.row word_rows)
-    (λ t. laws.numbers-end l.invariant.1 (omega (arith, rows, c.loop-row-test.false, ltb-true l.row word_rows t)))
-    (λ t. laws.rows_end l.invariant.1 (omega (arith, ltb-false l.row word_rows t))))
+returns c =
+    let s = (goal.at.returns c).After-loop-row in
+    let k = c.numbered_rows-rows.ensures in
+    split (ltb (rows s) word_rows)
+    (λ t. laws.numbers-end (all s) (omega (arith, k, ltb-true (rows s) word_rows t)))
+    (λ t. laws.rows_end (all s) (omega (arith, ltb-false (rows s) word_rows t)))

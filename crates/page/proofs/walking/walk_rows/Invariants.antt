@@ -1,11 +1,6 @@
 -- `walking::walk_rows` meets its contract: what the walks that are left find, after what is held, is what all walks find.
-use Prim.Native.Nat.{◌-◌, ◌≤◌}
 use Rattle.page.proofs.RowByRow as laws
 use Rattle.page.proofs.walking.walk_rows.Given as goal
 
 abbrev pub invariant-loop-row : goal.invariant-loop-row
-invariant-loop-row l =
-    (l.row ≤ l.rows) × laws.SoFar (laws.page_walks l.nodes l.counts l.p l.first) l.tiles l.sizes l.row l.count
-
-abbrev pub decreases-loop-row : goal.decreases-loop-row
-decreases-loop-row l = l.rows - l.row
+invariant-loop-row l = laws.SoFar (laws.page_walks l.nodes l.counts l.p l.first) l.tiles l.sizes l.row l.count

@@ -1,26 +1,16 @@
--- `writing::put_blanks` meets its contract: what is left to put, put where it goes, gives all of it.
-use native.Mathlib.Omega.{arith}
-use mathlib.Core.Path.{◌≡◌, refl}
-use mathlib.Core.List.{[], ◌∷◌}
-use Prim.Native.Nat.{◌+◌, ◌-◌}
-use Rattle.endian.specs.Putting.{put-start, put_next}
-use Rattle.endian.specs.Puts.{all-put}
-use Rattle.page.specs.Rows.{blank}
-use Rattle.page.proofs.PutLaws.{blanks-next, blanks-done}
+-- `writing::put_blanks` meets its contract: the part that is filled is the blanks.
+use Rattle.std.proofs.Common.{◌≡◌, ◌∙◌, ap, arith, ◌+◌, ◌-◌, length, take, drop, length-take, length-drop}
+use Rattle.std.proofs.lemmas.List.{length-replicate}
+use Rattle.endian.proofs.PartStores.{part-stored}
+use Rattle.page.specs.Rows.{blank, blanks}
 use Rattle.page.proofs.writing.put_blanks.Goals as goal
 
-pub loop-i-init : goal.loop-i-init
-loop-i-init c = let a = c.args in
-    let all : a.count - 0 ≡ a.count = omega arith in
-    let from : a.at + 0 ≡ a.at = omega arith in
-    (omega arith, rw (all, from) (put-start _ _ _))
-
-pub loop-i-preserved : goal.loop-i-preserved
-loop-i-preserved c = let l = c.loop-i in
-    let a = c.args in
-    let h = c.loop-i-test.true in
-    let e : a.at + (l.i + 1) ≡ a.at + l.i + 1 = omega arith in
-    (omega (arith, h), put_next l.invariant.1 (blank ∷ []) _ (blanks-next a.count l.i h) e refl)
-
 pub returns : goal.returns
-returns c = let l = c.loop-i in all-put l.invariant.1 (blanks-done c.args.count l.i c.loop-i-test.false)
+returns c =
+    let a = c.args in
+    let out = a.out.now in
+    let long = length-replicate a.count blank in
+    let part : length (take (a.at + a.count - a.at) (drop a.at out)) ≡ a.count =
+    omega (arith, length-take (a.at + a.count - a.at) (drop a.at out), length-drop a.at out) in
+    let filled = c.fill.ensures.after (λ y e. e) ∙ ap blanks part in
+    record { place = omega (arith, long); stored = part-stored out a.at _ _ (blanks a.count) filled (omega (arith, long)) (omega (arith, long)) }

@@ -24,13 +24,13 @@ module _ (s : Start) where
   title = s.args.title.now
 
   abbrev tiles : List ℕ
-  tiles = s.args.tiles.now
+  tiles = s.args.words.tiles.now
 
   abbrev sizes : List ℕ
-  sizes = s.args.sizes.now
+  sizes = s.args.words.sizes.now
 
   abbrev first : ℕ
-  first = s.args.first
+  first = s.args.words.first
 
   abbrev es : List ShownWord
   es = held page_widths.word first tiles sizes
@@ -42,12 +42,12 @@ module _ (s : Start) where
   long : length text ≡ page_length page_widths
   long =
       page-length page_widths labels title es
-      (omega (arith, held-length page_widths.word first tiles sizes, s.requires.sizes_len_bound.0))
-      s.requires.title_len_bound.0
-      (held-room page_widths page_wide first tiles sizes s.requires.sizes_len_bound.1)
+      (omega (arith, held-length page_widths.word first tiles sizes, s.args.words.fit.rows))
+      s.requires.lengths.0
+      (held-room page_widths page_wide first tiles sizes s.args.words.fit.narrow)
 
   room : 0 + length text ≤ length s.args.page.now
-  room = omega (arith, long, s.requires.title_len_bound.1)
+  room = omega (arith, long, s.requires.lengths.1)
 
   abbrev PageLeft : List ℕ → List ℕ → ℕ → Type 0
   PageLeft rest page at = Putting text s.args.page.now 0 rest page at
@@ -99,7 +99,7 @@ pub put_rows-end-requires : goal.put_rows-end-requires
 put_rows-end-requires c = let s = (goal.at.put_rows-end-requires c).After-put_blanks-rows in
     let b = begun s in
     let rows = held_rows page_widths (labels b) (first b) (tiles b) (sizes b) in
-    record { sizes_in_bounds = put-room (title-put s) rows (after-rows b) refl (room b); sizes_value = (b.requires.sizes_value, b.requires.sizes_len_bound.1); labelled = b.requires.labelled }
+    record { room = put-room (title-put s) rows (after-rows b) refl (room b); labelled = b.requires.labelled }
 
 pub overflow_sub-end : goal.overflow_sub-end
 overflow_sub-end c = within (goal.at.overflow_sub-end c).After-put_rows-end
