@@ -1,7 +1,7 @@
 -- Runs ascend where each node and the next do.
 use Rattle.std.specs.Prelude.{◌≡◌, Bool, true, false, ◌||◌, [], ◌∷◌, ℕ, zero, suc, ltb, length, get_or}
 use Rattle.std.specs.List.{IsAllAdjacentAnswer}
-use Rattle.std.proofs.Common.{refl, sym, ◌∙◌, arith, add-one, ◌+◌, ◌<◌}
+use Rattle.std.proofs.Common.{refl, sym, arith, add-one, ◌<◌}
 use mathlib.Core.Bool.{and-false}
 use Rattle.node.specs.Nodes.{kbwg, tile, is_end}
 use Rattle.graph.specs.Runs.{Graph, ascends}
@@ -24,5 +24,5 @@ one-falls (v ∷ w ∷ g) zero l e = rw (sym e)
 one-falls (v ∷ w ∷ g) (suc k) l e = rw (sym (one-falls (w ∷ g) k (omega arith) e)) (sym (and-false (rises v w)))
 
 pub ascends-said : (g : Graph) (r : Bool) → IsAllAdjacentAnswer (λ v w b. b ≡ rises v w) g r → r ≡ ascends kbwg g
-ascends-said g true h = all-rise g (λ k l. rw (← add-one) (h k 0 (rw add-one l)))
-ascends-said g false h = one-falls g h.0 (let l = h.1 in omega arith) (rw (← add-one) (h.2 0))
+ascends-said g true h = all-rise g (λ k l. rw (add-one k) at (h k 0 (omega arith)))
+ascends-said g false h = one-falls g h.0 (let l = h.1 in omega arith) (rw (add-one h.0) at (h.2 0))

@@ -1,6 +1,6 @@
 -- `to_macondo` meets its contract: what the checks refuse by, and past them what `write_checked` gives.
 use Rattle.std.specs.Prelude.{◌*◌, Err, length}
-use Rattle.std.proofs.Common.{sym, ◌∙◌, arith, length-take-le}
+use Rattle.std.proofs.Common.{sym, arith, length-take-le}
 use Rattle.std.proofs.lemmas.Result.{err_from_is_err_and}
 use Rattle.macondo_file.specs.RowLaws.{MacondoChecked, checked}
 use Rattle.macondo.specs.Said.{format_of}

@@ -1,5 +1,5 @@
 -- The graph and labels are ready: each check that passed says what is asked.
-use Rattle.std.proofs.Common.{sym, ◌∙◌, arith}
+use Rattle.std.proofs.Common.{sym, ◌∙◌}
 use Rattle.graph.specs.ChecksLaws.{fit}
 use Rattle.macondo.proofs.checks.check.Goals as goal
 

@@ -1,15 +1,13 @@
 -- `write_checked` meets its contract: the numbering and the labels decide the checks 22 and 23, and past them what `write_numbered` gives.
-use Rattle.std.specs.Prelude.{◌≡◌, false, length, drop}
+use Rattle.std.specs.Prelude.{◌≡◌, false}
 use Rattle.std.proofs.Common.{sym, ap, ◌∙◌}
 use Rattle.std.proofs.lemmas.Result.{err_from_is_err_and}
-use Rattle.answers.specs.Answers.{first_of}
 use Rattle.answers.specs.RowLaws.{row-refuses, row-passes}
 use Rattle.graph.specs.Runs.{start_node}
 use Rattle.export.specs.Starts.{deeper}
 use Rattle.export.specs.Written.{written}
 use Rattle.export.specs.WrittenLaws.{refused_by}
 use Rattle.macondo_file.specs.File.{marks, macondo_file}
-use Rattle.macondo_file.specs.Row.{macondo_walk_row}
 use Rattle.macondo.specs.Said.{format_of}
 use Rattle.macondo.proofs.walk.write_checked.Goals as goal
 use Rattle.macondo.proofs.walk.write_checked.Goals.{In_ok-reached}

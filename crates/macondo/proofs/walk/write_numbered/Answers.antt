@@ -1,5 +1,4 @@
 -- `write_numbered` meets its contract: the counts decide the sizes, and what the tables hold is the file of the definition.
-use Rattle.std.specs.Prelude.{◌-◌, ◌*◌, ◌≤◌, length, take}
 use Rattle.std.proofs.Common.{arith, length-take}
 use Rattle.block_record.specs.RecordLaws.{holds-most}
 use Rattle.letter_sets.specs.Letters.{Ranks, Small}
