@@ -181,11 +181,12 @@ function text_size(begins, rest,    ends) {
     return match(rest, ends) ? RSTART + RLENGTH - 1 : cannot_read(rest)
 }
 
-# A contract, or what is imported for contracts. They are in a language of their own, of which the comments and texts are not known here.
+# A contract, a fact that a type carries or a trait's member is said to hold, or what is imported for these. They are in a language of their own, of
+# which the comments and texts are not known here.
 function clause_size(begins, rest,    size) {
-    if (begins ~ /ghost/) {
+    if (begins ~ /ghost/ && rest ~ /^use /) {
         size = match(rest, /^use [^;]*;/) ? RLENGTH : cannot_read(rest)
-    } else if (match(rest, /^([A-Za-z0-9_]+ )?\{/)) {
+    } else if (match(rest, begins ~ /ghost/ ? "^[A-Za-z0-9_]+( =|:) \\{" : "^([A-Za-z0-9_]+ )?\\{")) {
         size = RLENGTH
         size += nested_size(substr(rest, size + 1), "\\{", "\\}")
     } else {

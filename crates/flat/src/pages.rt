@@ -4,18 +4,14 @@ ghost use Rattle.answers.specs.Answers.{gives};
 ghost use Rattle.page.specs.Said.{said_page};
 ghost use Rattle.flat.specs.Flat.{plainly};
 
-use page::Page;
+use answers::Refuses;
+use page::PageRefusal;
 
-pub fn page_refusal(answer: Page) -> u32
+pub fn page_refusal(answer: Result<(), PageRefusal>) -> u32
     ensures { plainly result (gives []) ≡ said_page answer }
 {
     match answer {
-        Page::Written => 0,
-        Page::TitleTooLong => 19,
-        Page::PageTooShort => 11,
-        Page::NotLent => 14,
-        Page::OutOfRange => 15,
-        Page::NoLabel => 21,
-        Page::NotPrintable => 26,
+        Ok(()) => 0,
+        Err(e) => e.number(),
     }
 }

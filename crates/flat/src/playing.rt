@@ -1,9 +1,10 @@
 // Words in play.
-ghost use Rattle.std.specs.Prelude.{◌≡◌};
+ghost use Rattle.std.specs.Prelude.{◌≡◌, false};
 ghost use Rattle.in_play.specs.Said.{said_play};
 ghost use Rattle.flat.specs.FlatPlays.{play_of, flat_play};
 
-use in_play::InPlay;
+use answers::Refuses;
+use in_play::{PlayRefusal, Remaining};
 
 #[repr(C)]
 #[derive(Clone, Copy)]
@@ -14,29 +15,30 @@ pub struct FlatInPlay {
     pub lowest: u32,
 }
 
-fn in_play(refusal: u32, found: bool, remaining: u32, lowest: u32) -> FlatInPlay
-    ensures { result ≡ record { refusal = refusal; found = found; remaining = remaining; lowest = lowest } }
+// All fields 0 but the refusal's number.
+fn none_found(refusal: u32) -> FlatInPlay
+    ensures { result ≡ record { refusal = refusal; found = false; remaining = 0; lowest = 0 } }
 {
     FlatInPlay {
         refusal,
-        found,
-        remaining,
-        lowest,
+        found: false,
+        remaining: 0,
+        lowest: 0,
     }
 }
 
-pub fn flat_in_play(answer: InPlay) -> FlatInPlay
+pub fn flat_in_play(answer: Result<Option<Remaining>, PlayRefusal>) -> FlatInPlay
     ensures answer { play_of result ≡ said_play answer }
     ensures flat { result ≡ flat_play (play_of result) }
 {
     match answer {
-        InPlay::Remaining { count, lowest } => in_play(0, true, count, lowest),
-        InPlay::AllInPlay => in_play(0, false, 0, 0),
-        InPlay::NotLent => in_play(14, false, 0, 0),
-        InPlay::TooFewBits => in_play(11, false, 0, 0),
-        InPlay::OutOfRange => in_play(15, false, 0, 0),
-        InPlay::NoWord => in_play(29, false, 0, 0),
-        InPlay::AlreadyInPlay => in_play(30, false, 0, 0),
-        InPlay::NotInPlay => in_play(31, false, 0, 0),
+        Ok(Some(left)) => FlatInPlay {
+            refusal: 0,
+            found: true,
+            remaining: left.count,
+            lowest: left.lowest,
+        },
+        Ok(None) => none_found(0),
+        Err(e) => none_found(e.number()),
     }
 }
