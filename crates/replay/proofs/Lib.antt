@@ -1,6 +1,4 @@
 -- What the proofs of several functions use.
-pub mod NodeLaws
-pub mod LoadLaws
 pub mod LookupLaws
 pub mod TileLaws
 pub mod CountLaws
