@@ -1,4 +1,4 @@
--- The flat answers of repacking and of a load in two pieces have the fields of the reply, and the bytes or the nodes follow.
+-- The flat answer of a load in two pieces has the fields of the reply, and the nodes follow.
 use mathlib.Core.Path.{◌≡◌, ap, ◌∙◌}
 use mathlib.Core.List.{List, [], ◌∷◌, ◌++◌}
 use Prim.Native.Nat.{ℕ}
@@ -18,15 +18,6 @@ use Rattle.flat.specs.declared.loading.FlatBegun.{FlatBegun}
 use Rattle.flat.specs.declared.loading.FlatFed.{FlatFed}
 use Rattle.flat.specs.declared.loading.FlatFinished.{FlatFinished}
 use Rattle.replay.specs.Loads.{repacked_fields, finished_fields, repack_reply, load_fields, load_reply}
-
-pub repack-replies : (ws bytes after : List ℕ) (r : FlatRepacked) (n m : ℕ) → n ≡ get_or ws 0 0 → m ≡ get_or ws 1 0
-    → repacked_of r ≡ repack_answer (bit_layout (layout_of n)) (bit_layout (layout_of m)) bytes
-    → after ≡ repacked_bytes (bit_layout (layout_of n)) (bit_layout (layout_of m)) bytes → r ≡ flat_repacked (repacked_of r)
-    → repacked_fields r ++ after ≡ repack_reply ws bytes
-unfolding repack_reply
-repack-replies ws bytes after r n m en em said ea flat =
-    rw (← en, ← em, ea)
-    (ap (λ (x : FlatRepacked). repacked_fields x ++ repacked_bytes (bit_layout (layout_of n)) (bit_layout (layout_of m)) bytes) (flat ∙ ap flat_repacked said))
 
 -- ---- a load in two pieces
 module _ (announced : ℕ) (layout : Layout) (lent p q : List ℕ) (b : FlatBegun) (eb : begun_of b ≡ begin announced layout (length lent)) where
