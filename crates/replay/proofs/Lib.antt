@@ -1,5 +1,4 @@
 -- What the proofs of several functions use.
-pub mod LoadLaws
 pub mod LookupLaws
 pub mod TileLaws
 pub mod CountLaws

@@ -26,15 +26,23 @@ pub(crate) fn load(stored: &[u64], words: &[u32], bytes: &[u8]) -> bool
     ensures { result ≡ same stored.now (load_reply words.now bytes.now (replicate 8192 0)) }
 {
     let mut nodes = [0u32; 8192];
+    load_lent(stored, words, bytes, &mut nodes)
+}
+
+// By itself: the check finds its proof for any lent nodes, and not at the 8192 numbers of the array.
+#[tactic(auto, using(flat::specs::PlainLaws::plain_refusal), unfolding(crate::specs::Loads::load_reply, crate::specs::Loads::load_fields, pieces::specs::Pieces::load_pieces, pieces::specs::Pieces::fed_pieces, pieces::specs::Pieces::feed_all))]
+fn load_lent(stored: &[u64], words: &[u32], bytes: &[u8], nodes: &mut [u32]) -> bool
+    ensures { result ≡ same stored.now (load_reply words.now bytes.now nodes.old) }
+{
     let cut = word_at(words, 1) as usize;
-    let begun = machirsun::machirsun_begin(bytes.len(), word_at(words, 0), &mut nodes);
+    let begun = machirsun::machirsun_begin(bytes.len(), word_at(words, 0), nodes);
     if begun.refusal != 0 {
         return same(stored, &[begun.refusal]);
     }
-    let fed = machirsun::machirsun_feed(begun.loader, list_to(bytes, cut), &mut nodes);
-    let fed = machirsun::machirsun_feed(fed.loader, list_from(bytes, cut), &mut nodes);
-    let finished = machirsun::machirsun_finish(fed.loader, &mut nodes);
-    same_finished(stored, finished, &nodes)
+    let fed = machirsun::machirsun_feed(begun.loader, list_to(bytes, cut), nodes);
+    let fed = machirsun::machirsun_feed(fed.loader, list_from(bytes, cut), nodes);
+    let finished = machirsun::machirsun_finish(fed.loader, nodes);
+    same_finished(stored, finished, nodes)
 }
 
 fn same_finished(stored: &[u64], finished: FlatFinished, nodes: &[u32]) -> bool

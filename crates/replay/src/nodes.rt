@@ -53,9 +53,6 @@ fn same_packed(stored: &[u64], packed: Result<u32, DoesNotFit>) -> bool
 {
     match packed {
         Ok(node) => same(stored, &[0, node]),
-        Err(why) => {
-            let numbers = [why.number(), u32::from(why.tile), why.arc_index];
-            same(stored, &numbers)
-        }
+        Err(why) => same(stored, &[why.number(), u32::from(why.tile), why.arc_index]),
     }
 }
