@@ -4,6 +4,7 @@ ghost use Rattle.laws.specs.Lists.{some_of};
 ghost use Rattle.built.specs.Listed.{no_tile};
 ghost use Rattle.word_list.specs.Checks.{list_why, Begins, NoWord, ChecksAs};
 
+use crate::words::is_above;
 use answers::Refuses;
 
 // Why a list is refused.
@@ -56,7 +57,7 @@ pub fn check_list(list: &[u8]) -> Result<(), ListRefusal>
     let mut left = list;
     while !left.is_empty() {
         let (word, after) = next_word(left).ok_or(ListRefusal::BadWord)?;
-        if word <= before {
+        if !is_above(before, word) {
             return Err(ListRefusal::NotAbove);
         }
         before = word;
