@@ -1,4 +1,5 @@
-// The bytes of a node that a piece began and the next one goes on with.
+// The bytes of a node that a piece began and the next one goes on with: an array with a count beside it, since the state that has them
+// crosses the C interface and there is no heap.
 ghost use Rattle.std.specs.Prelude.{◌≡◌, ◌++◌, ◌+◌, ◌<◌, ◌≤◌, length, get_or, take, drop};
 ghost use Rattle.std.proofs.lemmas.List.Edits.{sets};
 ghost use Rattle.endian.specs.Bytes.{node_at};
