@@ -6,7 +6,7 @@ ghost use Rattle.macondo_blocks.specs.Blocks.{BlocksRecorded, NumberingIs, Numbe
 
 use crate::arcs::arcs_of;
 use crate::ready::ReadyGraph;
-use block_record::{BlockTally, depth_of, keep_depth, place_of, push_block};
+use block_record::{BlockTally, Place, depth_of, keep_depth, place_of, push_block};
 use node::Node24;
 
 // The tally after a block and what can be reached from it are numbered, and the runs in the longest chain from the block.
@@ -35,9 +35,9 @@ fn number_arc(
     requires child_in_bounds { (child < length g.now.nodes.now) × Below g.now.nodes.now work.old child }
     ensures { NumberingFrom g.now.nodes.now g.now.labels.now work.old t chain_left child work.new result }
 {
-    if place_of(work, child).is_none() {
+    let Place::Numbered(_) = place_of(work, child) else {
         return number_run(g, work, child, t, chain_left);
-    }
+    };
     let runs = depth_of(g.nodes.len(), work, child);
     if runs == 0 || chain_left < runs {
         return Err(TooDeep);

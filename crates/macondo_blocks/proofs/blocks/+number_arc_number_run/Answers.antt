@@ -1,13 +1,12 @@
 -- `number_arc` and `number_run` meet their contracts: the chain left falls with each run; what the arcs still to come lead to, met after
 -- what is numbered, is what is met from the block; and the longest chain from it is one run longer than from what its arcs lead to.
-use Rattle.std.specs.Prelude.{◌≡◌, ◌≢◌, true, ℕ, ◌+◌, ◌≤◌, ◌<◌, length, get_or, None}
-use Rattle.std.proofs.Common.{sym, ap, ◌∙◌, subst, ⊎_elim, arith, eq-eqb, true≢false}
-use Rattle.std.specs.Option.{is_some}
+use Rattle.std.specs.Prelude.{◌≡◌, ◌≢◌, true, ℕ, ◌+◌, ◌≤◌, ◌<◌, length, get_or}
+use Rattle.std.proofs.Common.{sym, ap, subst, ⊎_elim, arith}
 use Rattle.std.proofs.lemmas.Result.{err_from_is_err_and}
 use mathlib.Core.List.{Memᴰ}
 use Rattle.export.specs.Starts.{arcs_from, deeper}
 use Rattle.export.specs.ChainLaws.{arcs-inside, deep-at-once}
-use Rattle.block_record.specs.Record.{place_at}
+use Rattle.block_record.specs.RecordLaws.{place-some}
 use Rattle.macondo_blocks.specs.ArcsLaws.{child-held}
 use Rattle.macondo_blocks.specs.Blocks.{BlocksReached}
 use Rattle.macondo_blocks.proofs.BlockNumberingLaws.{followed-deep, known-deep, known-reaches, push-fits, BlockOpened, opens}
@@ -18,10 +17,7 @@ use Rattle.macondo_blocks.proofs.blocks.+number_arc_number_run.Goals.{number_arc
 -- ---- a child that is numbered, and what is kept of its depth
 module _ {t : ℕ} (c : number_arc-After-depth_of-runs t) where
   numbered : get_or c.args.work.now c.args.child 0 ≢ 0
-  numbered z =
-      let none : place_at c.args.work.now c.args.child ≡ None = rw (eq-eqb _ 0 z, place_at) in
-      let asked : is_some c.place_of.result ≡ true = c.if-is_none.ensures in
-      true≢false (sym asked ∙ ap is_some (c.place_of.ensures ∙ none))
+  numbered = place-some c.args.work.now c.args.child _ (sym c.in-Numbered.ensures)
 
   loops : c.depth_of-runs.result ≡ 0 → deeper c.args.g.now.nodes.now c.args.chain_left c.args.child ≡ true
   loops =
