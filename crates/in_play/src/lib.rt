@@ -11,7 +11,7 @@ ghost use Rattle.in_play.specs.InPlay.{not_in_play, remaining, allowed, played, 
 ghost use Rattle.in_play.specs.Said.{said_left, said_play, played_as, allowed_as};
 
 use lexicon::{InLexicon, in_lexicon};
-use record::{count_clear, is_in_play, lowest_clear, turn};
+use record::{Record, is_in_play, turn};
 pub use refusals::PlayRefusal;
 
 #[derive(Clone, Copy)]
@@ -40,19 +40,20 @@ pub struct Remaining {
     pub lowest: u32,
 }
 
-// What is left of so many words, for which the record must have bits.
-fn remaining_of(bits: &[u8], total: u32) -> Option<Remaining>
-    requires { total ≤ 8 * length bits.now }
-    ensures { said_left result ≡ remaining (length (not_in_play bits.now total)) (not_in_play bits.now total) }
-{
-    let count = count_clear(bits, total);
-    if count == 0 {
-        return None;
+impl Record<'_> {
+    fn remaining(self) -> Option<Remaining>
+        ensures { let left = not_in_play self.entry.bits.now self.entry.total in
+            said_left result ≡ remaining (length left) left }
+    {
+        let count = self.count_clear();
+        if count == 0 {
+            return None;
+        }
+        Some(Remaining {
+            count,
+            lowest: self.lowest_clear(),
+        })
     }
-    Some(Remaining {
-        count,
-        lowest: lowest_clear(bits, total),
-    })
 }
 
 // The move of a word, where its bit allows it. Its number must be one of so many, for which the record must have bits.
@@ -67,7 +68,11 @@ fn move_word(
 {
     asked.allowed(is_in_play(bits, found.number))?;
     turn(bits, found.number);
-    Ok(remaining_of(bits, found.total))
+    let record = Record {
+        bits,
+        total: found.total,
+    };
+    Ok(record.remaining())
 }
 
 #[tactic(auto, unfolding(crate::specs::InPlay::play))]
