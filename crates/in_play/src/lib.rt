@@ -10,7 +10,7 @@ ghost use Rattle.graph.specs.Counting.{count_limit};
 ghost use Rattle.in_play.specs.InPlay.{not_in_play, remaining, allowed, played, moved_by, play};
 ghost use Rattle.in_play.specs.Said.{said_left, said_play, played_as, allowed_as};
 
-use lexicon::{InLexicon, in_lexicon};
+use lexicon::{InLexicon, Lexicon};
 use record::{Record, is_in_play, turn};
 pub use refusals::PlayRefusal;
 
@@ -78,16 +78,14 @@ fn move_word(
 #[tactic(auto, unfolding(crate::specs::InPlay::play))]
 fn play_word(
     asked: Move,
-    nodes: &[u32],
-    counts: &[u32],
-    start: u32,
+    lexicon: Lexicon<'_>,
     word: &[u8],
     bits: &mut [u8],
 ) -> Result<Option<Remaining>, PlayRefusal>
     ensures { played_as result bits.new
-        ≡ play count_limit asked nodes.now counts.now start word.now bits.old }
+        ≡ play count_limit asked lexicon.entry.nodes.now lexicon.entry.counts.now lexicon.entry.start word.now bits.old }
 {
-    let found = in_lexicon(nodes, counts, start, word, bits.len())?;
+    let found = lexicon.find(word, bits.len())?;
     move_word(asked, bits, found)
 }
 
@@ -102,7 +100,12 @@ pub fn arrive(
     ensures { played_as result bits.new
         ≡ play count_limit Move.Arrives nodes.now counts.now start word.now bits.old }
 {
-    play_word(Move::Arrives, nodes, counts, start, word, bits)
+    let lexicon = Lexicon {
+        nodes,
+        counts,
+        start,
+    };
+    play_word(Move::Arrives, lexicon, word, bits)
 }
 
 // The word is withdrawn.
@@ -116,5 +119,10 @@ pub fn leave(
     ensures { played_as result bits.new
         ≡ play count_limit Move.Leaves nodes.now counts.now start word.now bits.old }
 {
-    play_word(Move::Leaves, nodes, counts, start, word, bits)
+    let lexicon = Lexicon {
+        nodes,
+        counts,
+        start,
+    };
+    play_word(Move::Leaves, lexicon, word, bits)
 }
