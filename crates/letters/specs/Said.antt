@@ -1,7 +1,7 @@
 -- What the answers of the calls say, and that of a walk's part.
-use Rattle.std.specs.Prelude.{Bool, List, [], ◌∷◌, ℕ, Result, Ok, Err, Option as Maybe, None, Some}
+use Rattle.std.specs.Prelude.{Bool, List, [], ◌∷◌, ℕ, Result}
 use Rattle.base.specs.Numbers.{flag}
-use Rattle.answers.specs.Answers.{Answer, gives, as_answer, said_result}
+use Rattle.answers.specs.Answers.{Answer, gives, said_result}
 use Rattle.lookup.specs.Steps.{Try}
 use Rattle.lookup.specs.Refusals.{not_lent_refusal}
 use Rattle.lookup.specs.Said.{said_number, try_result}
@@ -10,7 +10,6 @@ use Rattle.letters.specs.LetterBits.{Lettered}
 use Rattle.letters.specs.Refusals.{list_too_short_refusal, alpha_refusal}
 use Rattle.letters.specs.declared.refusals.ListTooShort.{ListTooShort}
 use Rattle.letters.specs.declared.refusals.AlphaRefusal.{AlphaRefusal}
-use Rattle.letters.specs.declared.alpha.RunLeft.{RunLeft}
 
 abbrev pub said_bits : Result Unit ListTooShort → Answer
 said_bits r = said_result (λ _. gives []) list_too_short_refusal r
@@ -32,11 +31,3 @@ completes_try r = try_result not_lent_refusal r
 
 abbrev pub said_tiles : Result ℕ NotLent → Answer
 said_tiles r = said_result said_number not_lent_refusal r
-
--- by what follows at the place that the letter's arc leads to, with the set
-abbrev pub on_by : (ℕ → ℕ → Answer) → ℕ → Maybe ℕ → Answer
-on_by follows set None = gives (set ∷ [])
-on_by follows set (Some q) = follows q set
-
-abbrev pub said_along : (ℕ → ℕ → Answer) → Result RunLeft NotLent → Answer
-said_along follows r = said_result (λ (a : RunLeft). on_by follows a.set a.next) not_lent_refusal r

@@ -1,9 +1,10 @@
 // The checks of a list, word by word.
-ghost use Rattle.std.specs.Prelude.{◌≡◌, not, ◌<◌, length, MatchOption};
+ghost use Rattle.std.specs.Prelude.{◌≡◌, not, ◌<◌, length};
 ghost use Rattle.laws.specs.Lists.{some_of};
 ghost use Rattle.built.specs.Listed.{no_tile};
-ghost use Rattle.word_list.specs.Checks.{list_why, Begins, NoWord, ChecksAs};
+ghost use Rattle.word_list.specs.Checks.{list_why, Found, ChecksAs};
 
+use crate::words::is_above;
 use answers::Refuses;
 
 // Why a list is refused.
@@ -34,7 +35,7 @@ fn are_tiles(word: &[u8]) -> bool
 // The word that a list begins with, and what follows it; the list must not be empty.
 fn next_word(list: &[u8]) -> Option<(&[u8], &[u8])>
     requires { 0 < length list.now }
-    ensures { MatchOption result (NoWord list.now) (λ r. Begins list.now r.0.now r.1.now) }
+    ensures { Found list.now result }
 {
     let (tiles, rest) = list.split_first()?;
     if !(1..=64).contains(tiles) {
@@ -56,7 +57,7 @@ pub fn check_list(list: &[u8]) -> Result<(), ListRefusal>
     let mut left = list;
     while !left.is_empty() {
         let (word, after) = next_word(left).ok_or(ListRefusal::BadWord)?;
-        if word <= before {
+        if !is_above(before, word) {
             return Err(ListRefusal::NotAbove);
         }
         before = word;

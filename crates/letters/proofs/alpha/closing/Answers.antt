@@ -1,7 +1,5 @@
 -- `closing` meets its contract.
 use Rattle.std.proofs.Common.{sym, ap, ◌∙◌}
-use Rattle.node.specs.Nodes.{kbwg, tile}
-use Rattle.graph.specs.Runs.{node}
 use Rattle.laws.specs.BitSets.{marked}
 use Rattle.letters.proofs.AlphaLaws.{closing-out, closing_end, closing-next}
 use Rattle.letters.proofs.alpha.closing.Goals as goal

@@ -1,12 +1,11 @@
 -- `completes_alpha_cross_set` meets its contract.
 use Rattle.std.proofs.Common.{rules, sym, ◌∙◌, arith}
-use Rattle.std.proofs.Math.Nat.{sub-zero}
 use Rattle.letters.specs.AlphaSets.{accepts_at}
 use Rattle.letters.proofs.AlphaLaws.{spent-end, spent-letter, spent-none, spent-step, spent-stop, completes-by}
 use Rattle.letters.proofs.alpha.completes_alpha_cross_set.Goals as goal
 
 pub copies-init : goal.copies-init
-copies-init c = rw sub-zero (c.letters.invariant ∙ spent-letter _ _ _ _ c.letters-test.true)
+copies-init c = c.letters.invariant ∙ spent-letter _ _ _ _ c.letters-test.true
 
 pub overflow_cast-letter : goal.overflow_cast-letter
 overflow_cast-letter c = omega (arith, c.requires)
