@@ -2,7 +2,7 @@
 use Rattle.std.proofs.Common.{◌≡◌, ap, true, false, List, [], ◌∷◌, ℕ, suc, ◌+◌, ◌<◌, length}
 use Rattle.laws.specs.Cases.{split}
 use Rattle.node.specs.Nodes.{kbwg, is_end}
-use Rattle.graph.specs.Runs.{Graph, node, run}
+use Rattle.graph.specs.Runs.{Graph, node}
 use Rattle.export.specs.Starts.{run_of}
 use Rattle.export.specs.RunOfLaws.{run_ends, run-goes-on}
 use Rattle.lxd_file.specs.File.{run_size}

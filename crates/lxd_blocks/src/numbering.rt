@@ -41,11 +41,13 @@ fn run_length(g: FitGraph<'_>, p: usize) -> u32
     ensures { result ≡ run_size g.entry.nodes.now p }
 {
     let mut last = p;
+    let mut passed: u32 = 1;
     // A run ends by a bit of its last node, so no range says how many nodes it has.
     while !Node24(g.nodes[last]).is_end() {
         last += 1;
+        passed += 1;
     }
-    (last - p + 1) as u32
+    passed
 }
 
 // What is known of a run's nodes up to one of them, by what was known before it and what its arc leads to.
@@ -160,14 +162,15 @@ pub fn number_run(
         words: 0,
     };
     let mut at = p;
-    // By the bit that ends the run, and not over a slice of its nodes: that takes more registers at each call, and more steps by a fifth.
+    // By the bit that ends the run, and not over a slice of its nodes: that takes more registers at each call, and an eighth more steps.
     loop {
         let node = g.nodes[at];
         let child = number_arc(g, work, node, sum.tally, chain_left - 1)?;
         sum = pass_node(node, sum, child);
         if Node24(node).is_end() {
-            return Ok(close_run(n, work, p, sum));
+            break;
         }
         at += 1;
     }
+    Ok(close_run(n, work, p, sum))
 }

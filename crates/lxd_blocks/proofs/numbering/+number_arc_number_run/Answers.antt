@@ -46,17 +46,22 @@ number_run-push_block-pushed-requires t c =
 
 pub number_run-loop-child-init : goal.number_run-loop-child-init
 number_run-loop-child-init t c =
-    let q = c.requires in
-    (q.p_in_bounds, along-starts _ c.args.p q.runs_recorded q.p_in_bounds q.p_value c.if-chain_left-eq0.false
-    c.run_length-size.ensures c.if-t-size.false c.push_block-pushed.ensures c.keep_depth.ensures)
+    let q = c.requires in (
+      q.p_in_bounds,
+      along-starts _ c.args.p q.runs_recorded q.p_in_bounds q.p_value c.if-chain_left-eq0.false
+          c.run_length-size.ensures c.if-t-size.false c.push_block-pushed.ensures c.keep_depth.ensures,
+    )
 
 pub number_run-number_arc-requires : goal.number_run-number_arc-requires
 number_run-number_arc-requires t c =
     let i = c.loop-child.invariant in
-    let k = (along-here _ c.loop-child.at i.0 i.1).1 in
-    (omega arith,
-    (along-recorded _ k c.requires.runs_recorded.room,
-    (along-inside _ k (fit-holds c.args.g.nodes.now c.args.g.fit).steps c.requires.p_in_bounds, along-below _ k c.requires.below)))
+    let k = (along-here _ c.loop-child.at i.0 i.1).1 in (
+      omega arith,
+      (
+        along-recorded _ k c.requires.runs_recorded.room,
+        (along-inside _ k (fit-holds c.args.g.nodes.now c.args.g.fit).steps c.requires.p_in_bounds, along-below _ k c.requires.below),
+      ),
+    )
 
 pub number_run-returns-in_err-child : goal.number_run-returns-in_err-child
 number_run-returns-in_err-child t c =
@@ -69,12 +74,13 @@ pub number_run-loop-child-preserved : goal.number_run-loop-child-preserved
 number_run-loop-child-preserved t c =
     let i = c.loop-child.invariant in
     let on = sym c.if-is_end.ensures in
-    let next = (fit-holds c.args.g.nodes.now c.args.g.fit).steps.runs c.loop-child.at i.0 on in
-    (omega arith,
-    along-goes _ (along-on _ c.loop-child.at i.0 i.1 on) c.in_ok-child.ensures c.pass_node-sum.ensures c.number_arc.auto.work)
+    let next = (fit-holds c.args.g.nodes.now c.args.g.fit).steps.runs c.loop-child.at i.0 on in (
+      omega arith,
+      along-goes _ (along-on _ c.loop-child.at i.0 i.1 on) c.in_ok-child.ensures c.pass_node-sum.ensures c.number_arc.auto.work,
+    )
 
-pub number_run-returns-then-is_end : goal.number_run-returns-then-is_end
-number_run-returns-then-is_end t c =
+pub number_run-returns : goal.number_run-returns
+number_run-returns t c =
     let i = c.loop-child.invariant in
     let k = along-goes _ (along-last _ c.loop-child.at i.0 i.1 (sym c.if-is_end.ensures)) c.in_ok-child.ensures c.pass_node-sum.ensures c.number_arc.auto.work in
     let room = c.requires.runs_recorded.room in

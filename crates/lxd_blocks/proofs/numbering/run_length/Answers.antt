@@ -10,10 +10,10 @@ loop-last-preserved c =
     let on = sym c.loop-last-test.ensures in
     let next = (fit-holds c.args.g.nodes.now c.args.g.fit).steps.runs c.loop-last.last l.1 on in
     let sizes = size-more c.args.g.nodes.now c.loop-last.last l.1 on in
-    (omega arith, omega arith, omega arith)
+    (omega arith, omega arith, omega arith, omega arith)
 
-pub overflow_cast-result : goal.overflow_cast-result
-overflow_cast-result c = let most = (fit-holds c.args.g.nodes.now c.args.g.fit).most in omega arith
+pub overflow_add-passed : goal.overflow_add-passed
+overflow_add-passed c = let most = (fit-holds c.args.g.nodes.now c.args.g.fit).most in omega arith
 
 pub returns : goal.returns
 returns c =
