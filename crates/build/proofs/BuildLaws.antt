@@ -3,13 +3,13 @@ use mathlib.Core.Path.{◌≡◌, refl, sym, ap, ◌∙◌}
 use mathlib.Core.Bool.{true, false}
 use mathlib.Core.List.{List, [], ◌∷◌}
 use mathlib.Core.Option.{none, some}
-use Prim.Native.Nat.{ℕ, ◌+◌, ◌-◌, ◌*◌, ◌/◌, ◌≤◌, ◌<◌}
+use Rattle.std.specs.Prelude.{Result, Err}
+use Prim.Native.Nat.{ℕ, ◌+◌, ◌*◌, ◌≤◌, ◌<◌}
 use native.Mathlib.Omega.{arith}
-use borrow.Author.Tests.{lt-ltb, le-ltb, ltb-true, ltb-false}
+use borrow.Author.Tests.{lt-ltb, le-ltb}
 use lib.Dec.{ltb}
 use lib.ListN.{length}
 use lib.Seq.{sets}
-use Rattle.laws.specs.Cases.{split}
 use Rattle.laws.specs.ListWrites.{sets-front}
 use Rattle.answers.specs.Answers.{Answer, gives, refused, first_of}
 use Rattle.answers.specs.RowLaws.{row-refuses, row-passes, row_ends, rows_refuse, rows_pass}
@@ -20,6 +20,10 @@ use Rattle.built.specs.Built.{built}
 use Rattle.built.specs.Listed.{words_listed, list_bytes, list_row}
 use Rattle.build.specs.Numbering.{most_nodes}
 use Rattle.build.specs.Said.{past_checks}
+
+-- what `ok_or(why)?` returns where there is none
+pub none_refused : {A B E : Type 0} {why d : E} {r : Result B E} → (let given : Result A E = Err d in given ≡ Err why) → (y : E) × (r ≡ Err y) × (y ≡ d) → r ≡ Err why
+none_refused {why = why} {d = d} e p = let same : d ≡ why = cc in p.1 ∙ ap Err (p.2 ∙ same)
 
 -- ---- past the first checks
 module _ (g lent : Graph) where
@@ -66,16 +70,3 @@ module _ (list : List ℕ) (lent_work : ℕ) (lent : Graph) where
 pub no_bytes : (list : List ℕ) (ws : List Word) → list ≡ list_bytes ws → length list ≡ 0 → ws ≡ []
 no_bytes list [] e z = refl
 no_bytes list (w ∷ ws) e z = let l = ap length e in absurd (omega arith)
-
--- so many numbers, by eights
-pub by_eights : (lent bytes : ℕ) → 64 ≤ lent → ltb ((lent - 64) / 8) bytes ≡ ltb lent (8 * bytes + 64)
-by_eights lent bytes h =
-    split (ltb lent (8 * bytes + 64))
-    (λ t. let l = ltb-true _ _ t in lt-ltb _ _ (less l) ∙ sym t)
-    (λ t. let l = ltb-false _ _ t in le-ltb _ _ (more l) ∙ sym t)
-  where
-    less : lent < 8 * bytes + 64 → (lent - 64) / 8 < bytes
-    less l = omega arith
-
-    more : 8 * bytes + 64 ≤ lent → bytes ≤ (lent - 64) / 8
-    more l = omega arith

@@ -1,13 +1,11 @@
 -- The record of runs as it grows, each run known by the tail that it begins with: "runs take consecutive places when first met" (document 02,
 -- C-18).
-use Rattle.std.specs.Prelude.{◌≡◌, List, ℕ, ◌+◌, ◌-◌, ◌*◌, ◌≤◌, ◌<◌, length, get_or, drop}
+use Rattle.std.specs.Prelude.{◌≡◌, List, ℕ, ◌+◌, ◌-◌, ◌*◌, ◌≤◌, ◌<◌, length, get_or, drop, Option, Some, None}
 use Rattle.export.specs.Blocks.{total}
 use Rattle.block_record.specs.Record.{order_in, HoldsBlocks}
 use Rattle.block_record.specs.declared.BlockTally.{BlockTally}
 use Rattle.shelf.specs.Shelf.{Shelf, run_entries, child_numbers}
 use Rattle.tails.specs.Tails.{TailsIn}
-use Rattle.build.specs.declared.places.Numbering.{Numbering}
-use Rattle.build.specs.declared.places.Numbering.TheVariants.{Done, TooMany}
 
 -- "25 for over 16,777,216 nodes"
 abbrev pub most_nodes : ℕ
@@ -53,10 +51,10 @@ pub record NumbersRuns (sh : Shelf) (n : ℕ) (w w' : List ℕ) (t : BlockTally)
   pub placed : RunsPlaced sh n w' t o
   pub tails : drop (2 * n) w' ≡ drop (2 * n) w
 
-abbrev pub RunsNumberedAs : Shelf → ℕ → List ℕ → List ℕ → List ℕ → Numbering → Type 0
-RunsNumberedAs sh n w w' o (Done t) = NumbersRuns sh n w w' t o
-RunsNumberedAs sh n w w' o TooMany = most_nodes < 2 + total (run_length sh) o
+abbrev pub RunsNumberedAs : Shelf → ℕ → List ℕ → List ℕ → List ℕ → Option BlockTally → Type 0
+RunsNumberedAs sh n w w' o (Some t) = NumbersRuns sh n w w' t o
+RunsNumberedAs sh n w w' o None = most_nodes < 2 + total (run_length sh) o
 
 -- what it answers, where `meets` tells what is met after those seen
-abbrev pub NumbersAs : ℕ → List ℕ → BlockTally → ℕ → ((ℕ → List ℕ) → List ℕ → List ℕ) → List ℕ → Numbering → Type 0
+abbrev pub NumbersAs : ℕ → List ℕ → BlockTally → ℕ → ((ℕ → List ℕ) → List ℕ → List ℕ) → List ℕ → Option BlockTally → Type 0
 NumbersAs n w t i meets w' r = (sh : Shelf) → Recorded sh n w t → i ≤ length sh → RunsNumberedAs sh n w w' (meets (child_numbers sh) (order_in n w t)) r

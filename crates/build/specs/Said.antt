@@ -1,6 +1,6 @@
 -- What the call's answers say, and what its parts leave.
-use Rattle.std.specs.Prelude.{◌≡◌, List, [], ◌∷◌, ℕ, ◌≤◌, ◌<◌, length}
-use Rattle.answers.specs.Answers.{Answer, gives, refused, first_of}
+use Rattle.std.specs.Prelude.{◌≡◌, List, [], ◌∷◌, ℕ, ◌≤◌, ◌<◌, length, Result}
+use Rattle.answers.specs.Answers.{Answer, gives, Refusal, refusing, said_result, first_of}
 use Rattle.graph.specs.Runs.{Graph}
 use Rattle.graph.specs.Words.{Word}
 use Rattle.export.specs.BlocksLaws.{Low}
@@ -10,19 +10,21 @@ use Rattle.built.specs.Lexicon.{Lexicon}
 use Rattle.built.specs.Listed.{list_bytes}
 use Rattle.shelf.specs.Shelf.{Shelf, child_numbers, numbered_graph}
 use Rattle.tails.specs.Tails.{TailsIn}
-use Rattle.build.specs.declared.Built.{Built}
-use Rattle.build.specs.declared.Built.TheVariants as B
+use Rattle.word_list.specs.Checks.{list_why}
+use Rattle.build.specs.declared.BuildRefusal.{BuildRefusal}
+use Rattle.build.specs.declared.BuildRefusal.TheVariants as R
 
-abbrev pub said_built : Built → Answer
-said_built (B.Nodes n) = gives (n ∷ [])
-said_built B.BadWord = refused 32 []
-said_built B.NotAbove = refused 33 []
-said_built B.WorkTooShort = refused 11 []
-said_built B.TooManyNodes = refused 25 []
-said_built B.NodesTooShort = refused 11 []
+abbrev pub build_why : BuildRefusal → Refusal
+build_why (R.List r) = list_why r
+build_why R.WorkTooShort = refusing 11 []
+build_why R.TooManyNodes = refusing 25 []
+build_why R.NodesTooShort = refusing 11 []
+
+abbrev pub said_built : Result ℕ BuildRefusal → Answer
+said_built r = said_result (λ n. gives (n ∷ [])) build_why r
 
 -- the call's result in the terms of its definition
-abbrev pub built_as : Built → Graph → Building
+abbrev pub built_as : Result ℕ BuildRefusal → Graph → Building
 built_as r nodes = record { answer = said_built r; nodes = nodes }
 
 -- what it answers and leaves past its first checks, where this is the graph
@@ -39,8 +41,8 @@ pub record IsRoot (sh : Shelf) (n : ℕ) (work : List ℕ) (root : ℕ) : Type 0
 abbrev pub HasRoot : ℕ → List ℕ → ℕ → Type 0
 HasRoot n work root = (sh : Shelf) × IsRoot sh n work root
 
-abbrev pub RunBuilds : ℕ → List ℕ → ℕ → Graph → Graph → Built → Type 0
+abbrev pub RunBuilds : ℕ → List ℕ → ℕ → Graph → Graph → Result ℕ BuildRefusal → Type 0
 RunBuilds n work root lent nodes r = (sh : Shelf) → IsRoot sh n work root → built_as r nodes ≡ past_checks (numbered_graph sh root) lent
 
-abbrev pub WordsBuild : List ℕ → Graph → Graph → Built → Type 0
+abbrev pub WordsBuild : List ℕ → Graph → Graph → Result ℕ BuildRefusal → Type 0
 WordsBuild list lent nodes r = (ws : List Word) → Lexicon 64 ws → list ≡ list_bytes ws → built_as r nodes ≡ past_checks (built ws) lent

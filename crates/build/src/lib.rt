@@ -19,37 +19,43 @@ ghost use Rattle.graph.specs.Lent.{WorkKept};
 ghost use Rattle.built.specs.Built.{node_of, built};
 ghost use Rattle.built.specs.Build.{build_checks, build_as};
 ghost use Rattle.word_list.specs.Words.{IsLexicon};
-ghost use Rattle.build.specs.Said.{built_as, past_checks, HasRoot, RunBuilds, WordsBuild};
+ghost use Rattle.build.specs.Said.{build_why, built_as, past_checks, HasRoot, RunBuilds, WordsBuild};
+ghost use Rattle.build.specs.declared.BuildRefusal.TheVariants as why;
 
-use base::clear;
+use answers::Refuses;
 use block_record::BlockTally;
 use nodes::write_runs;
-use places::{Numbering, number_run};
-use tails::{Closed, close_words};
-use word_list::{Checked, check_list};
+use places::{MOST_NODES, number_run};
+use tails::close_words;
+use word_list::{ListRefusal, check_list};
 
-// The number of nodes, or why there is no graph.
-#[derive(Clone, Copy)]
-pub enum Built {
-    Nodes(u32),
-    BadWord,
-    NotAbove,
+// Why there is no graph.
+#[derive(Clone, Copy, Debug, PartialEq, Eq)]
+pub enum BuildRefusal {
+    List(ListRefusal),
     WorkTooShort,
     TooManyNodes,
     NodesTooShort,
 }
 
-// As many nodes as the 24 bits of an arc can number.
-const MOST_NODES: usize = 16777216;
+impl From<ListRefusal> for BuildRefusal {
+    ghost from_gives = { λ r b. b ≡ why.List r };
 
-// The numbers in each table of the work list: one for each byte of the list, and no more than a graph has nodes.
-fn table_size(bytes: usize) -> usize
-    ensures { result ≡ min bytes 16777216 }
-{
-    if bytes < MOST_NODES {
-        bytes
-    } else {
-        MOST_NODES
+    fn from(refusal: ListRefusal) -> BuildRefusal {
+        BuildRefusal::List(refusal)
+    }
+}
+
+impl Refuses for BuildRefusal {
+    ghost refusal = { build_why };
+
+    fn number(&self) -> u32 {
+        match self {
+            BuildRefusal::List(refusal) => refusal.number(),
+            BuildRefusal::WorkTooShort => 11,
+            BuildRefusal::TooManyNodes => 25,
+            BuildRefusal::NodesTooShort => 11,
+        }
     }
 }
 
@@ -63,52 +69,47 @@ fn write_roots(nodes: &mut [u32], arc: u32)
 }
 
 // Builds the graph of no words.
-fn build_empty(nodes: &mut [u32]) -> Built
+fn build_empty(nodes: &mut [u32]) -> Result<u32, BuildRefusal>
     ensures { built_as result nodes.new ≡ past_checks (built []) nodes.old }
 {
     if nodes.len() < 2 {
-        return Built::NodesTooShort;
+        return Err(BuildRefusal::NodesTooShort);
     }
     write_roots(nodes, 0);
-    Built::Nodes(2)
+    Ok(2)
 }
 
 // Builds the graph of the words of a tail's run, by the tails in the work list; n is the size of its tables.
-fn build_run(work: &mut [u32], n: usize, root: u32, nodes: &mut [u32]) -> Built
+fn build_run(work: &mut [u32], n: usize, root: u32, nodes: &mut [u32]) -> Result<u32, BuildRefusal>
     requires { HasRoot n work.old root }
     ensures { RunBuilds n work.old root nodes.old nodes.new result }
 {
-    clear(work, n);
+    work[..n].fill(0);
     let none = BlockTally {
         blocks: 0,
         nodes: 2,
     };
-    let numbered = number_run(work, n, root, none, 64);
-    let Numbering::Done(tally) = numbered else {
-        return Built::TooManyNodes;
-    };
+    let tally = number_run(work, n, root, none, 64).ok_or(BuildRefusal::TooManyNodes)?;
     if nodes.len() < tally.nodes as usize {
-        return Built::NodesTooShort;
+        return Err(BuildRefusal::NodesTooShort);
     }
     write_roots(nodes, 2);
     write_runs(work, n, tally.blocks as usize, nodes);
-    Built::Nodes(tally.nodes)
+    Ok(tally.nodes)
 }
 
 // Builds the graph of a list that has passed its checks, by a work list that is long enough.
-fn build_words(list: &[u8], work: &mut [u32], nodes: &mut [u32]) -> Built
+fn build_words(list: &[u8], work: &mut [u32], nodes: &mut [u32]) -> Result<u32, BuildRefusal>
     requires lexicon { IsLexicon list.now }
     requires list_in_bounds { 8 * length list.now + 64 ≤ length work.old }
     ensures { WordsBuild list.now nodes.old nodes.new result }
 {
-    if list.len() == 0 {
+    if list.is_empty() {
         return build_empty(nodes);
     }
-    let n = table_size(list.len());
-    let closed = close_words(list, work, n);
-    let Closed::Run(root) = closed else {
-        return Built::TooManyNodes;
-    };
+    // No more than a graph has nodes.
+    let n = list.len().min(MOST_NODES as usize);
+    let root = close_words(list, work, n).ok_or(BuildRefusal::TooManyNodes)?;
     build_run(work, n, root, nodes)
 }
 
@@ -116,28 +117,19 @@ fn build_words(list: &[u8], work: &mut [u32], nodes: &mut [u32]) -> Built
 fn is_short(bytes: usize, lent: usize) -> bool
     ensures { result ≡ ltb lent (8 * bytes + 64) }
 {
-    if lent < 64 {
-        return true;
-    }
-    (lent - 64) / 8 < bytes
+    lent < 64 || (lent - 64) / 8 < bytes
 }
 
 // Builds the graph of the words of a list.
-pub fn build(list: &[u8], work: &mut [u32], nodes: &mut [u32]) -> Built
+pub fn build(list: &[u8], work: &mut [u32], nodes: &mut [u32]) -> Result<u32, BuildRefusal>
     ensures built { built_as result nodes.new ≡ build_as list.now (length work.old) nodes.old }
     ensures free { WorkKept (build_checks list.now (length work.old)) (8 * length list.now + 64)
         work.old work.new }
 {
-    let checked = check_list(list);
-    match checked {
-        Checked::BadWord => Built::BadWord,
-        Checked::NotAbove => Built::NotAbove,
-        Checked::Sound => {
-            if is_short(list.len(), work.len()) {
-                return Built::WorkTooShort;
-            }
-            let free = 8 * list.len() + 64;
-            build_words(list, &mut work[..free], nodes)
-        }
+    check_list(list)?;
+    if is_short(list.len(), work.len()) {
+        return Err(BuildRefusal::WorkTooShort);
     }
+    let free = 8 * list.len() + 64;
+    build_words(list, &mut work[..free], nodes)
 }

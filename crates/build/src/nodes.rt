@@ -25,6 +25,7 @@ pub(crate) fn write_runs(work: &[u32], n: usize, blocks: usize, nodes: &mut [u32
     let mut at: usize = 2;
     let mut j: usize = 0;
     let mut i = work[n];
+    // One loop over all nodes: in one over each run's the branch that ends it would be mispredicted, and no iterator counts both.
     while j < blocks {
         nodes[at] = graph_node(work, node_of(work, n, i));
         at += 1;

@@ -5,18 +5,11 @@ ghost use Rattle.std.specs.Prelude.{◌≡◌, ◌*◌, ◌≤◌, ◌<◌, eqb,
 ghost use Rattle.export.specs.Blocks.{met, met_by};
 ghost use Rattle.build.specs.Numbering.{node_at, after_at, IsTail, HasLength, Numberable, ArcNumberable, NumbersAs};
 
-use block_record::{BlockTally, Place, place_of, push_block};
+use block_record::{BlockTally, place_of, push_block};
 use node::Node24;
 
 // As many nodes as the 24 bits of an arc can number.
-const MOST_NODES: u32 = 16777216;
-
-// The runs numbered, or too many nodes.
-#[derive(Drop)]
-pub(crate) enum Numbering {
-    Done(BlockTally),
-    TooMany,
-}
+pub(crate) const MOST_NODES: u32 = 16777216;
 
 // The node of tail i, which must be there.
 pub(crate) fn node_of(work: &[u32], n: usize, i: u32) -> u32
@@ -41,6 +34,7 @@ fn run_length(work: &[u32], n: usize, i: u32) -> u32
 {
     let mut at = i;
     let mut passed: u32 = 0;
+    // A walk goes where the links lead, so no iterator counts its steps.
     while at != 0 {
         at = tail_after(work, n, at);
         passed += 1;
@@ -51,22 +45,24 @@ fn run_length(work: &[u32], n: usize, i: u32) -> u32
 // Numbers the run that a node's arc leads to and what is met from it, unless the arc is 0 or its run is numbered already. The record must be
 // that of the runs met so far, and the arc that of a tail.
 #[cycle(number_arc_number_run)]
-fn number_arc(work: &mut [u32], n: usize, child: u32, t: BlockTally, chain_left: u32) -> Numbering
+fn number_arc(
+    work: &mut [u32],
+    n: usize,
+    child: u32,
+    t: BlockTally,
+    chain_left: u32,
+) -> Option<BlockTally>
     requires { ArcNumberable n work.old t child }
     ensures { NumbersAs n work.old t child (λ children seen. met_by children chain_left seen child) work.new result }
 {
-    if child == 0 {
-        return Numbering::Done(t);
+    if child == 0 || place_of(work, child as usize).is_some() {
+        return Some(t);
     }
-    let place = place_of(work, child as usize);
-    let Place::Numbered(_) = place else {
-        return number_run(work, n, child, t, chain_left);
-    };
-    Numbering::Done(t)
+    number_run(work, n, child, t, chain_left)
 }
 
 // Numbers the run from tail i, which must not be numbered yet, and what its arcs lead to, by a record that must be that of the runs met so far.
-// Stops as soon as the graph has over 2^24 nodes.
+// Answers none as soon as the graph has over 2^24 nodes.
 #[cycle(number_arc_number_run)]
 pub(crate) fn number_run(
     work: &mut [u32],
@@ -74,29 +70,26 @@ pub(crate) fn number_run(
     i: u32,
     t: BlockTally,
     chain_left: u32,
-) -> Numbering
+) -> Option<BlockTally>
     requires numberable { Numberable n work.old t i }
     requires i_value { get_or work.old i 0 ≡ 0 }
     ensures { NumbersAs n work.old t i (λ children seen. met eqb children chain_left seen i) work.new result }
 {
     if chain_left == 0 {
-        return Numbering::Done(t);
+        return Some(t);
     }
     let size = run_length(work, n, i);
     if MOST_NODES - t.nodes < size {
-        return Numbering::TooMany;
+        return None;
     }
     let mut tally = push_block(n, work, i as usize, t, size);
     let mut at = i;
+    // A walk goes where the links lead, so no iterator counts its steps.
     while at != 0 {
         let child = Node24(node_of(work, n, at)).arc_index();
         let after = tail_after(work, n, at);
-        let numbered = number_arc(work, n, child, tally, chain_left - 1);
-        let Numbering::Done(next) = numbered else {
-            return Numbering::TooMany;
-        };
-        tally = next;
+        tally = number_arc(work, n, child, tally, chain_left - 1)?;
         at = after;
     }
-    Numbering::Done(tally)
+    Some(tally)
 }

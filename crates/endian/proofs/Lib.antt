@@ -2,3 +2,4 @@
 pub mod BytesLaws
 pub mod BigLaws
 pub mod PartStores
+mod BigStores

@@ -1,11 +1,10 @@
 -- The flat answers of repacking and loading, and a load's flat state.
-use Rattle.std.specs.Prelude.{true, false, List, [], ◌∷◌, ℕ, eqb}
+use Rattle.std.specs.Prelude.{true, false, List, [], ◌∷◌, ℕ, eqb, Option, None, Some}
 use Rattle.answers.specs.Answers.{Answer, gives, refusal_in}
 use Rattle.graph.specs.Runs.{Graph}
 use Rattle.load.specs.Repacking.{misfit, misfit_answer}
 use Rattle.load.specs.Loading.{kept_misfit, Begins, Feeds, Finishes}
-use Rattle.load.specs.declared.loader.KeptRefusal.{KeptRefusal}
-use Rattle.load.specs.declared.loader.KeptRefusal.TheVariants.{Nothing, DoesNotFit}
+use Rattle.load.specs.declared.repack.Misfit.{Misfit}
 use Rattle.load.specs.declared.loader.Loader.{Loader}
 use Rattle.pieces.specs.Said.{LoadLeft}
 use Rattle.flat.specs.Flat.{layout_of, layout_number, refused_or, plainly, value_in, node_carried, tile_carried, arc_carried}
@@ -24,8 +23,8 @@ abbrev pub flat_repacked : Answer → FlatRepacked
 flat_repacked a = record { refusal = refusal_in a; arc = arc_carried a; node = node_carried a; tile = tile_carried a }
 
 -- ---- the state: "a refusal 6 once met" is kept where the state's refusal is not 0
-abbrev pub kept_of : ℕ → ℕ → ℕ → ℕ → KeptRefusal
-kept_of n node tile arc = elim (eqb n 0) [ true ↦ Nothing | false ↦ DoesNotFit (misfit node tile arc) ]
+abbrev pub kept_of : ℕ → ℕ → ℕ → ℕ → Option Misfit
+kept_of n node tile arc = elim (eqb n 0) [ true ↦ None | false ↦ Some (misfit node tile arc) ]
 
 abbrev pub state_of : FlatLoader → Loader
 state_of s =
@@ -38,7 +37,7 @@ state_of s =
       kept = kept_of s.refusal s.node s.tile s.arc;
     }
 
-abbrev pub kept_answer : KeptRefusal → Answer
+abbrev pub kept_answer : Option Misfit → Answer
 kept_answer k = misfit_answer (kept_misfit k)
 
 abbrev pub flat_loader : Loader → FlatLoader

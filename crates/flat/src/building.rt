@@ -3,7 +3,8 @@ ghost use Rattle.std.specs.Prelude.{◌≡◌};
 ghost use Rattle.build.specs.Said.{said_built};
 ghost use Rattle.flat.specs.FlatBuilds.{built_of, flat_built};
 
-use build::Built;
+use answers::Refuses;
+use build::BuildRefusal;
 
 #[repr(C)]
 #[derive(Clone, Copy)]
@@ -12,22 +13,15 @@ pub struct FlatBuilt {
     pub nodes: u32,
 }
 
-fn built(refusal: u32, nodes: u32) -> FlatBuilt
-    ensures { result ≡ record { refusal = refusal; nodes = nodes } }
-{
-    FlatBuilt { refusal, nodes }
-}
-
-pub fn flat_built(answer: Built) -> FlatBuilt
+pub fn flat_built(answer: Result<u32, BuildRefusal>) -> FlatBuilt
     ensures answer { built_of result ≡ said_built answer }
     ensures flat { result ≡ flat_built (built_of result) }
 {
     match answer {
-        Built::Nodes(count) => built(0, count),
-        Built::BadWord => built(32, 0),
-        Built::NotAbove => built(33, 0),
-        Built::WorkTooShort => built(11, 0),
-        Built::TooManyNodes => built(25, 0),
-        Built::NodesTooShort => built(11, 0),
+        Ok(nodes) => FlatBuilt { refusal: 0, nodes },
+        Err(why) => FlatBuilt {
+            refusal: why.number(),
+            nodes: 0,
+        },
     }
 }

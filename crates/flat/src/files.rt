@@ -1,6 +1,6 @@
 // Files for other programs. A format is a number: 0 is a DAWG, every other number a GADDAG.
 ghost use Rattle.std.specs.Prelude.{◌≡◌};
-ghost use Rattle.answers.specs.Answers.{refusal_in, as_answer};
+ghost use Rattle.answers.specs.Answers.{as_answer};
 ghost use Rattle.graph.specs.Checks.{graph_why};
 ghost use Rattle.macondo.specs.Said.{said_macondo};
 ghost use Rattle.lxd.specs.Said.{said_lxd};
@@ -10,7 +10,7 @@ ghost use Rattle.flat.specs.FlatFiles.{format_numbered, file_of, flat_file};
 use answers::Refuses;
 use graph::{GraphRefusal, NodesRefusal};
 use lxd::LxdRefusal;
-use macondo::{Macondo, MacondoFormat};
+use macondo::{MacondoFormat, MacondoRefusal};
 
 // What a writer answers: the file's length in bytes.
 #[repr(C)]
@@ -41,37 +41,6 @@ pub fn format_numbered(number: u32) -> MacondoFormat
     }
 }
 
-fn macondo_refusal(answer: Macondo) -> u32
-    ensures { result ≡ refusal_in (said_macondo answer) }
-{
-    match answer {
-        Macondo::Written(_) => 0,
-        Macondo::WrongSize => 10,
-        Macondo::ArcPastEnd(_) => 8,
-        Macondo::NoEnd => 9,
-        Macondo::LabelCount => 18,
-        Macondo::NameTooLong => 19,
-        Macondo::NoLabel => 21,
-        Macondo::NotAscending => 24,
-        Macondo::WorkTooShort => 11,
-        Macondo::ChainTooLong => 22,
-        Macondo::NotOneCodePoint => 23,
-        Macondo::TooManyNodes => 25,
-        Macondo::FileTooShort => 11,
-    }
-}
-
-pub fn flat_macondo(answer: Macondo) -> FlatFile
-    ensures answer { file_of result ≡ said_macondo answer }
-    ensures flat { result ≡ flat_file (file_of result) }
-{
-    match answer {
-        Macondo::Written(written) => file(0, 0, written),
-        Macondo::ArcPastEnd(arc) => file(8, arc, 0),
-        _ => file(macondo_refusal(answer), 0, 0),
-    }
-}
-
 // The arc that the refusal of a graph carries, or 0.
 fn arc_past_end(why: GraphRefusal) -> u32
     ensures { result ≡ arc_carried (as_answer (graph_why why)) }
@@ -79,6 +48,17 @@ fn arc_past_end(why: GraphRefusal) -> u32
     match why {
         GraphRefusal::Nodes(NodesRefusal::ArcPastEnd(arc)) => arc,
         _ => 0,
+    }
+}
+
+pub fn flat_macondo(answer: Result<usize, MacondoRefusal>) -> FlatFile
+    ensures answer { file_of result ≡ said_macondo answer }
+    ensures flat { result ≡ flat_file (file_of result) }
+{
+    match answer {
+        Ok(written) => file(0, 0, written),
+        Err(MacondoRefusal::Graph(why)) => file(why.number(), arc_past_end(why), 0),
+        Err(why) => file(why.number(), 0, 0),
     }
 }
 

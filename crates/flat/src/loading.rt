@@ -6,11 +6,13 @@ ghost use Rattle.load.specs.Said.{said_begin, said_feed, said_finish};
 ghost use Rattle.flat.specs.Flat.{layout_of, layout_number, plainly};
 ghost use Rattle.flat.specs.FlatLoads.{kept_of, repacked_of, flat_repacked, state_of, flat_loader, finished_of, flat_finished};
 
-use load::{BeginAnswer, FeedAnswer, Finished, KeptRefusal, Loader, Misfit, Repacked};
+use answers::Refuses;
+use graph::NodesRefusal;
+use load::{BeginRefusal, FeedRefusal, FinishRefusal, Loader, Misfit, StateRefusal};
 use node::Layout;
 
 #[repr(C)]
-#[derive(Clone, Copy)]
+#[derive(Clone, Copy, Default)]
 pub struct FlatRepacked {
     pub refusal: u32,
     pub arc: u32,
@@ -51,7 +53,7 @@ pub struct FlatFed {
 }
 
 #[repr(C)]
-#[derive(Clone, Copy)]
+#[derive(Clone, Copy, Default)]
 pub struct FlatFinished {
     pub refusal: u32,
     pub arc: u32,
@@ -69,6 +71,7 @@ pub struct FlatLoaded {
     pub finished: FlatFinished,
 }
 
+// A layout is a number in the C interface.
 pub fn layout_of(number: u32) -> Layout
     ensures { result ≡ layout_of number }
 {
@@ -88,13 +91,13 @@ fn layout_number(layout: Layout) -> u32
     }
 }
 
-fn kept_of(refusal: u32, node: usize, tile: u8, arc_index: u32) -> KeptRefusal
+fn kept_of(refusal: u32, node: usize, tile: u8, arc_index: u32) -> Option<Misfit>
     ensures { result ≡ kept_of refusal node tile arc_index }
 {
     if refusal == 0 {
-        return KeptRefusal::Nothing;
+        return None;
     }
-    KeptRefusal::DoesNotFit(Misfit {
+    Some(Misfit {
         node,
         tile,
         arc_index,
@@ -105,153 +108,106 @@ fn kept_of(refusal: u32, node: usize, tile: u8, arc_index: u32) -> KeptRefusal
 pub fn state_of(flat: FlatLoader) -> Loader
     ensures { result ≡ state_of flat }
 {
-    let layout = layout_of(flat.layout);
-    let kept = kept_of(flat.refusal, flat.node, flat.tile, flat.arc);
     let held = flat.held;
     Loader {
         announced: flat.announced,
-        layout,
+        layout: layout_of(flat.layout),
         taken: flat.taken,
         held,
         held_count: flat.held_count,
-        kept,
+        kept: kept_of(flat.refusal, flat.node, flat.tile, flat.arc),
     }
 }
 
 pub fn flat_loader(state: Loader) -> FlatLoader
     ensures { result ≡ flat_loader state }
 {
-    let announced = state.announced;
-    let taken = state.taken;
+    let kept = match state.kept {
+        None => FlatRepacked::default(),
+        Some(misfit) => flat_misfit(misfit),
+    };
     let held = state.held;
-    let held_count = state.held_count;
-    let old = state.layout;
-    let layout = layout_number(old);
-    let kept = state.kept;
-    match kept {
-        KeptRefusal::Nothing => FlatLoader {
-            announced,
-            taken,
-            held_count,
-            node: 0,
-            layout,
-            refusal: 0,
-            arc: 0,
-            tile: 0,
-            held,
-        },
-        KeptRefusal::DoesNotFit(misfit) => FlatLoader {
-            announced,
-            taken,
-            held_count,
-            node: misfit.node,
-            layout,
-            refusal: 6,
-            arc: misfit.arc_index,
-            tile: misfit.tile,
-            held,
-        },
+    FlatLoader {
+        announced: state.announced,
+        taken: state.taken,
+        held_count: state.held_count,
+        node: kept.node,
+        layout: layout_number(state.layout),
+        refusal: kept.refusal,
+        arc: kept.arc,
+        tile: kept.tile,
+        held,
     }
 }
 
-pub fn flat_repacked(answer: Repacked) -> FlatRepacked
+fn flat_misfit(misfit: Misfit) -> FlatRepacked
+    ensures { result ≡ record { refusal = 6; arc = misfit.arc_index; node = misfit.node; tile = misfit.tile } }
+{
+    FlatRepacked {
+        refusal: misfit.number(),
+        arc: misfit.arc_index,
+        node: misfit.node,
+        tile: misfit.tile,
+    }
+}
+
+pub fn flat_repacked(answer: Result<(), Misfit>) -> FlatRepacked
     ensures answer { repacked_of result ≡ said_repack answer }
     ensures flat { result ≡ flat_repacked (repacked_of result) }
 {
     match answer {
-        Repacked::Whole => FlatRepacked {
-            refusal: 0,
-            arc: 0,
-            node: 0,
-            tile: 0,
-        },
-        Repacked::DoesNotFit(misfit) => FlatRepacked {
-            refusal: 6,
-            arc: misfit.arc_index,
-            node: misfit.node,
-            tile: misfit.tile,
-        },
+        Ok(()) => FlatRepacked::default(),
+        Err(misfit) => flat_misfit(misfit),
     }
 }
 
-pub fn begin_refusal(answer: BeginAnswer) -> u32
+pub fn begin_refusal(answer: Result<(), BeginRefusal>) -> u32
     ensures { plainly result (gives []) ≡ said_begin answer }
 {
     match answer {
-        BeginAnswer::Ready => 0,
-        BeginAnswer::NotWholeNodes => 1,
-        BeginAnswer::OverLimit => 2,
-        BeginAnswer::NodesTooShort => 3,
+        Ok(()) => 0,
+        Err(why) => why.number(),
     }
 }
 
-pub fn flat_feed(answer: FeedAnswer) -> FlatRepacked
+pub fn flat_feed(answer: Result<(), FeedRefusal>) -> FlatRepacked
     ensures answer { repacked_of result ≡ said_feed answer }
     ensures flat { result ≡ flat_repacked (repacked_of result) }
 {
     match answer {
-        FeedAnswer::Taken => FlatRepacked {
-            refusal: 0,
-            arc: 0,
-            node: 0,
-            tile: 0,
-        },
-        FeedAnswer::BadState => FlatRepacked {
-            refusal: 4,
-            arc: 0,
-            node: 0,
-            tile: 0,
-        },
-        FeedAnswer::TooLong => FlatRepacked {
-            refusal: 5,
-            arc: 0,
-            node: 0,
-            tile: 0,
-        },
-        FeedAnswer::DoesNotFit(misfit) => FlatRepacked {
-            refusal: 6,
-            arc: misfit.arc_index,
-            node: misfit.node,
-            tile: misfit.tile,
+        Ok(()) => FlatRepacked::default(),
+        Err(FeedRefusal::State(StateRefusal::DoesNotFit(misfit))) => flat_misfit(misfit),
+        Err(why) => FlatRepacked {
+            refusal: why.number(),
+            ..FlatRepacked::default()
         },
     }
 }
 
-// A finish refused by a number that carries no more than an arc.
-fn unfinished(refusal: u32, arc: u32) -> FlatFinished
-    ensures { result ≡ record { refusal = refusal; arc = arc; nodes = 0; node = 0; tile = 0 } }
-{
-    FlatFinished {
-        refusal,
-        arc,
-        nodes: 0,
-        node: 0,
-        tile: 0,
-    }
-}
-
-pub fn flat_finished(answer: Finished) -> FlatFinished
+pub fn flat_finished(answer: Result<usize, FinishRefusal>) -> FlatFinished
     ensures answer { finished_of result ≡ said_finish answer }
     ensures flat { result ≡ flat_finished (finished_of result) }
 {
     match answer {
-        Finished::Nodes(nodes) => FlatFinished {
-            refusal: 0,
-            arc: 0,
+        Ok(nodes) => FlatFinished {
             nodes,
-            node: 0,
-            tile: 0,
+            ..FlatFinished::default()
         },
-        Finished::BadState => unfinished(4, 0),
-        Finished::DoesNotFit(misfit) => FlatFinished {
-            refusal: 6,
+        Err(FinishRefusal::State(StateRefusal::DoesNotFit(misfit))) => FlatFinished {
+            refusal: misfit.number(),
             arc: misfit.arc_index,
-            nodes: 0,
             node: misfit.node,
             tile: misfit.tile,
+            ..FlatFinished::default()
         },
-        Finished::Missing => unfinished(7, 0),
-        Finished::ArcPastEnd(arc) => unfinished(8, arc),
-        Finished::NoEnd => unfinished(9, 0),
+        Err(FinishRefusal::Nodes(why @ NodesRefusal::ArcPastEnd(arc))) => FlatFinished {
+            refusal: why.number(),
+            arc,
+            ..FlatFinished::default()
+        },
+        Err(why) => FlatFinished {
+            refusal: why.number(),
+            ..FlatFinished::default()
+        },
     }
 }

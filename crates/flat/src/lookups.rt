@@ -3,7 +3,8 @@ ghost use Rattle.std.specs.Prelude.{◌≡◌};
 ghost use Rattle.lookup.specs.Said.{said_seek, said_index, said_word};
 ghost use Rattle.flat.specs.FlatLookups.{sought_of, flat_sought, index_of, flat_index, word_of, flat_word};
 
-use lookup::{Sought, WordByIndex, WordIndex};
+use answers::Refuses;
+use lookup::{LookupRefusal, Sought, WordRefusal};
 
 #[repr(C)]
 #[derive(Clone, Copy)]
@@ -50,15 +51,14 @@ fn sought(refusal: u32, found: bool, place: u32, before: u32) -> FlatSought
     }
 }
 
-pub fn flat_sought(answer: Sought) -> FlatSought
+pub fn flat_sought(answer: Result<Option<Sought>, LookupRefusal>) -> FlatSought
     ensures answer { sought_of result ≡ said_seek answer }
     ensures flat { result ≡ flat_sought (sought_of result) }
 {
     match answer {
-        Sought::At { node, before } => sought(0, true, node, before),
-        Sought::Absent => sought(0, false, 0, 0),
-        Sought::NotLent => sought(14, false, 0, 0),
-        Sought::OutOfRange => sought(15, false, 0, 0),
+        Ok(Some(Sought { node, before })) => sought(0, true, node, before),
+        Ok(None) => sought(0, false, 0, 0),
+        Err(why) => sought(why.number(), false, 0, 0),
     }
 }
 
@@ -72,15 +72,14 @@ fn index(refusal: u32, found: bool, number: u32) -> FlatIndex
     }
 }
 
-pub fn flat_index(answer: WordIndex) -> FlatIndex
+pub fn flat_index(answer: Result<Option<u32>, LookupRefusal>) -> FlatIndex
     ensures answer { index_of result ≡ said_index answer }
     ensures flat { result ≡ flat_index (index_of result) }
 {
     match answer {
-        WordIndex::Number(number) => index(0, true, number),
-        WordIndex::Absent => index(0, false, 0),
-        WordIndex::NotLent => index(14, false, 0),
-        WordIndex::OutOfRange => index(15, false, 0),
+        Ok(Some(number)) => index(0, true, number),
+        Ok(None) => index(0, false, 0),
+        Err(why) => index(why.number(), false, 0),
     }
 }
 
@@ -94,15 +93,13 @@ fn word(refusal: u32, found: bool, tiles: usize) -> FlatWord
     }
 }
 
-pub fn flat_word(answer: WordByIndex) -> FlatWord
+pub fn flat_word(answer: Result<Option<usize>, WordRefusal>) -> FlatWord
     ensures answer { word_of result ≡ said_word answer }
     ensures flat { result ≡ flat_word (word_of result) }
 {
     match answer {
-        WordByIndex::Tiles(tiles) => word(0, true, tiles),
-        WordByIndex::Absent => word(0, false, 0),
-        WordByIndex::NotLent => word(14, false, 0),
-        WordByIndex::OutOfRange => word(15, false, 0),
-        WordByIndex::BufferFull => word(16, false, 0),
+        Ok(Some(tiles)) => word(0, true, tiles),
+        Ok(None) => word(0, false, 0),
+        Err(why) => word(why.number(), false, 0),
     }
 }

@@ -5,7 +5,8 @@ ghost use Rattle.letters.specs.Said.{said_bits, said_alpha, said_cross};
 ghost use Rattle.flat.specs.Flat.{plainly};
 ghost use Rattle.flat.specs.FlatSets.{accepts_of, flat_accepts, cross_of, flat_cross};
 
-use letters::{Alpha, CrossSet, LetterBits};
+use answers::Refuses;
+use letters::{AlphaRefusal, ListTooShort};
 
 #[repr(C)]
 #[derive(Clone, Copy)]
@@ -21,47 +22,39 @@ pub struct FlatCross {
     pub tiles: u64,
 }
 
-pub fn bits_refusal(answer: LetterBits) -> u32
+pub fn bits_refusal(answer: Result<(), ListTooShort>) -> u32
     ensures { plainly result (gives []) ≡ said_bits answer }
 {
     match answer {
-        LetterBits::Written => 0,
-        LetterBits::ListTooShort => 11,
+        Ok(()) => 0,
+        Err(why) => why.number(),
     }
 }
 
-pub fn flat_accepts(answer: Alpha) -> FlatAccepts
+pub fn flat_accepts(answer: Result<bool, AlphaRefusal>) -> FlatAccepts
     ensures answer { accepts_of result ≡ said_alpha answer }
     ensures flat { result ≡ flat_accepts (accepts_of result) }
 {
     match answer {
-        Alpha::Accepts(accepts) => FlatAccepts {
+        Ok(accepts) => FlatAccepts {
             refusal: 0,
             accepts,
         },
-        Alpha::NotLent => FlatAccepts {
-            refusal: 14,
-            accepts: false,
-        },
-        Alpha::TallyTooLong => FlatAccepts {
-            refusal: 17,
+        Err(why) => FlatAccepts {
+            refusal: why.number(),
             accepts: false,
         },
     }
 }
 
-pub fn flat_cross(answer: CrossSet) -> FlatCross
+pub fn flat_cross(answer: Result<u64, AlphaRefusal>) -> FlatCross
     ensures answer { cross_of result ≡ said_cross answer }
     ensures flat { result ≡ flat_cross (cross_of result) }
 {
     match answer {
-        CrossSet::Tiles(tiles) => FlatCross { refusal: 0, tiles },
-        CrossSet::NotLent => FlatCross {
-            refusal: 14,
-            tiles: 0,
-        },
-        CrossSet::TallyTooLong => FlatCross {
-            refusal: 17,
+        Ok(tiles) => FlatCross { refusal: 0, tiles },
+        Err(why) => FlatCross {
+            refusal: why.number(),
             tiles: 0,
         },
     }

@@ -1,12 +1,15 @@
 // Words as viewers type them, one by one and as many as there is room for.
-ghost use Rattle.std.specs.Prelude.{◌≡◌, false};
+ghost use Rattle.std.specs.Prelude.{◌≡◌};
+ghost use Rattle.typed.specs.Refusals.{typed_refusal};
 ghost use Rattle.typed.specs.Said.{said_next, said_batch};
-ghost use Rattle.flat.specs.FlatTyped.{typed_of, flat_typed, typed_list_of, flat_typed_list};
+ghost use Rattle.answers.specs.Answers.{as_answer};
+ghost use Rattle.flat.specs.FlatTyped.{bad_carried, typed_of, flat_typed, typed_list_of, flat_typed_list};
 
-use typed::{NextWord, WordsRead};
+use answers::Refuses;
+use typed::{TypedRefusal, TypedWord, TypedWords};
 
 #[repr(C)]
-#[derive(Clone, Copy)]
+#[derive(Clone, Copy, Default)]
 pub struct FlatTyped {
     pub refusal: u32,
     pub found: bool,
@@ -18,7 +21,7 @@ pub struct FlatTyped {
 }
 
 #[repr(C)]
-#[derive(Clone, Copy)]
+#[derive(Clone, Copy, Default)]
 pub struct FlatTypedList {
     pub refusal: u32,
     pub found: bool,
@@ -28,79 +31,56 @@ pub struct FlatTypedList {
     pub after: usize,
 }
 
-fn no_word(refusal: u32, bad: usize) -> FlatTyped
-    ensures { result ≡ record { refusal = refusal; found = false; bad = bad; start = 0; end = 0; after = 0; tiles = 0 } }
+// The bad line of the label file, or the place of the byte that cannot be read.
+fn bad_of(why: TypedRefusal) -> usize
+    ensures { result ≡ bad_carried (as_answer (typed_refusal why)) }
 {
-    FlatTyped {
-        refusal,
-        found: false,
-        bad,
-        start: 0,
-        end: 0,
-        after: 0,
-        tiles: 0,
+    match why {
+        TypedRefusal::BadLabelLine(line) => line.0,
+        TypedRefusal::Unreadable(place) => place,
+        TypedRefusal::BufferFull => 0,
     }
 }
 
-pub fn flat_typed(answer: NextWord) -> FlatTyped
+pub fn flat_typed(answer: Result<Option<TypedWord>, TypedRefusal>) -> FlatTyped
     ensures answer { typed_of result ≡ said_next answer }
     ensures flat { result ≡ flat_typed (typed_of result) }
 {
     match answer {
-        NextWord::Word {
-            start,
-            end,
-            after,
-            tiles,
-        } => FlatTyped {
-            refusal: 0,
+        Ok(Some(word)) => FlatTyped {
             found: true,
-            bad: 0,
-            start,
-            end,
-            after,
-            tiles,
+            start: word.start,
+            end: word.end,
+            after: word.after,
+            tiles: word.tiles,
+            ..FlatTyped::default()
         },
-        NextWord::End => no_word(0, 0),
-        NextWord::BadLabelLine(line) => no_word(27, line),
-        NextWord::Unreadable(place) => no_word(28, place),
-        NextWord::BufferFull => no_word(16, 0),
+        Ok(None) => FlatTyped::default(),
+        Err(why) => FlatTyped {
+            refusal: why.number(),
+            bad: bad_of(why),
+            ..FlatTyped::default()
+        },
     }
 }
 
-fn no_words(refusal: u32, bad: usize) -> FlatTypedList
-    ensures { result ≡ record { refusal = refusal; found = false; bad = bad; words = 0; tiles = 0; after = 0 } }
-{
-    FlatTypedList {
-        refusal,
-        found: false,
-        bad,
-        words: 0,
-        tiles: 0,
-        after: 0,
-    }
-}
-
-pub fn flat_typed_list(answer: WordsRead) -> FlatTypedList
+pub fn flat_typed_list(answer: Result<Option<TypedWords>, TypedRefusal>) -> FlatTypedList
     ensures answer { typed_list_of result ≡ said_batch answer }
     ensures flat { result ≡ flat_typed_list (typed_list_of result) }
 {
     match answer {
-        WordsRead::Words {
-            words,
-            tiles,
-            after,
-        } => FlatTypedList {
-            refusal: 0,
+        Ok(Some(read)) => FlatTypedList {
             found: true,
-            bad: 0,
-            words,
-            tiles,
-            after,
+            words: read.words,
+            tiles: read.tiles,
+            after: read.after,
+            ..FlatTypedList::default()
         },
-        WordsRead::End => no_words(0, 0),
-        WordsRead::BadLabelLine(line) => no_words(27, line),
-        WordsRead::Unreadable(place) => no_words(28, place),
-        WordsRead::BufferFull => no_words(16, 0),
+        Ok(None) => FlatTypedList::default(),
+        Err(stop) => FlatTypedList {
+            refusal: stop.number(),
+            bad: bad_of(stop),
+            ..FlatTypedList::default()
+        },
     }
 }

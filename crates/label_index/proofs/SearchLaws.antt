@@ -1,16 +1,14 @@
 -- Search through the index: the first line of its range that matches is the label taken, and where none does no label matches.
 use mathlib.Core.Path.{◌≡◌, refl, sym, ap, ap₂, ◌∙◌, subst}
-use mathlib.Core.Bool.{true, false, true≢false}
-use mathlib.Core.List.{List, Memᴰ}
-use mathlib.Core.Logic.{◌≢◌}
+use mathlib.Core.Bool.{true, false, ◌&&◌, true≢false}
+use mathlib.Core.List.{List, [], ◌∷◌, Memᴰ}
 use mathlib.Core.Option.{none, some}
 use Prim.Native.Nat.{ℕ, ◌+◌, ◌-◌, ◌*◌, ◌/◌, ◌%◌, ◌≤◌, ◌<◌}
 use native.Mathlib.Omega.{arith}
-use native.Mathlib.Numerals.{add-one}
-use borrow.Author.Tests.{ltb-true, ltb-false, eq-eqb, ne_eqb}
-use lib.Dec.{ltb}
-use lib.ListN.{length, get_or, take, drop, drop_of_length-le}
-use lib.Seq.{drop-cons}
+use borrow.Author.Tests.{ltb-true, ltb-false}
+use lib.Dec.{eqb, ltb}
+use lib.ListN.{length, get_or, take, drop}
+use Rattle.std.specs.List.{starts_with as begins_with}
 use Rattle.laws.specs.Cases.{split}
 use Rattle.laws.specs.Members.{at_in, mem_at}
 use Rattle.label_index.specs.Labels.{Label, GoodLabel}
@@ -19,20 +17,12 @@ use Rattle.label_index.specs.Index.{no_label, label_at, first_byte, first_in, or
 use Rattle.label_index.specs.MatchLaws.{NotBetter, NoneBetter, taken-by, match_is, match_absent, starts_first}
 use Rattle.label_index.proofs.OrderLaws.{line_of, place_of, order-ascends}
 
--- ---- a text that starts with a label
-module _ (label s : List ℕ) (i : ℕ) where
-  pub starts-next : i < length label → i < length s → get_or label i 0 ≡ get_or s i 0
-      → starts_with (drop i label) (drop i s) ≡ starts_with (drop (i + 1) label) (drop (i + 1) s)
-  unfolding starts_with
-  starts-next h k e = rw (add-one, drop-cons label i 0 h, drop-cons s i 0 k) (rw (eq-eqb (get_or label i 0) (get_or s i 0) e))
-
-  pub starts-not : i < length label → i < length s → get_or label i 0 ≢ get_or s i 0 → starts_with (drop i label) (drop i s) ≡ false
-  unfolding starts_with
-  starts-not h k e = rw (drop-cons label i 0 h, drop-cons s i 0 k) (rw (ne_eqb (get_or label i 0) (get_or s i 0) e))
-
-  pub starts-end : length label ≤ i → starts_with (drop i label) (drop i s) ≡ true
-  unfolding starts_with
-  starts-end h = rw (drop_of_length-le label h)
+-- ---- a text that starts with a label, as the library tests it
+pub starts-is : (label s : List ℕ) → begins_with eqb s label ≡ starts_with label s
+unfolding starts_with
+starts-is [] s = refl
+starts-is (a ∷ label) [] = refl
+starts-is (a ∷ label) (b ∷ s) = ap (eqb a b &&◌) (starts-is label s)
 
 -- ---- what the code reads at a place of the order: where the line's label stands, how long it is, and its bytes
 abbrev pub start_at : (starts order : List ℕ) → ℕ → ℕ

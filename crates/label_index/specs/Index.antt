@@ -1,9 +1,8 @@
--- The index's own invariant, which `index_labels` leaves and `match_at` asks for: proof matter. A reader needs only which label is taken,
+-- What is true of every `LabelIndex`: proof matter. A reader needs only which label is taken,
 -- `match_in` (Matches.antt). "found through an index of 256 entries by first byte" (02, C-13): the lines stand in order by first byte, then longest
 -- label, then lower tile, and each first byte has a range there.
-use Rattle.std.specs.Prelude.{◌≡◌, Bool, List, [], ◌∷◌, ℕ, suc, ◌+◌, ◌-◌, ◌*◌, ◌/◌, ◌≤◌, ◌<◌, ltb, length, get_or, set, take, drop}
-use Rattle.std.proofs.Math.Option.{some}
-use Rattle.laws.specs.Cases.{is_some}
+use Rattle.std.specs.Prelude.{◌≡◌, List, [], ◌∷◌, ℕ, suc, ◌+◌, ◌-◌, ◌*◌, ◌/◌, ◌≤◌, ◌<◌, ltb, length, get_or, set, take, drop}
+use Rattle.std.proofs.Math.Option.{Option, none, some}
 use Rattle.laws.specs.Sorting.{inserted, sorted}
 use Rattle.label_index.specs.Labels.{Label, GoodLabel, record_of}
 
@@ -39,9 +38,14 @@ pub record LabelsIndexed (file : List ℕ) (ls : List Label) (starts order : Lis
   pub stands : (k : ℕ) → k < length ls → take (length (label_at ls k).1) (drop (get_or starts k 0) file) ≡ (label_at ls k).1
   pub ordered : take (length ls) order ≡ sorted ltb (order_numbers 0 ls)
 
--- line n entered, which begins at place `start` of the file, where it is a record
-pub record LineEntered (line : List ℕ) (start n : ℕ) (starts order starts' order' : List ℕ) (r : Bool) : Type 0 where
-  pub read : r ≡ is_some (record_of line)
+-- the number of a line that is no record
+abbrev pub bad_number : ℕ → Option Label → Option ℕ
+bad_number n none = some n
+bad_number n (some l) = none
+
+-- line n entered, which begins at place `start` of the file, where it is a record; else its number from 1 is given
+pub record LineEntered (line : List ℕ) (start n : ℕ) (starts order starts' order' : List ℕ) (bad : Option ℕ) : Type 0 where
+  pub read : bad ≡ bad_number (n + 1) (record_of line)
   pub byte : (l : Label) → record_of line ≡ some l → first_byte l < 256
   pub placed : (l : Label) → record_of line ≡ some l → starts' ≡ set starts n (start + (length line - length l.1))
   pub ordered : (l : Label) → record_of line ≡ some l → take (n + 1) order' ≡ inserted ltb (order_number n l) (take n order)

@@ -1,6 +1,7 @@
 pub mod Labels
-pub mod Matches
 pub mod Index
+pub mod Refusals
 pub mod Said
 pub mod LabelLaws
+pub mod Matches
 pub mod MatchLaws

@@ -5,8 +5,7 @@ mod index;
 mod labels;
 mod order;
 mod ranges;
-mod search;
+mod refusal;
 
-pub use index::{index_labels, match_at};
-pub use labels::LabelsRead;
-pub use search::LabelMatch;
+pub use index::{IndexRoom, LabelIndex};
+pub use refusal::BadLabelLine;

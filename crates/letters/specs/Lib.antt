@@ -1,4 +1,5 @@
 pub mod LetterBits
 pub mod AlphaSets
 pub mod TallyLaws
+pub mod Refusals
 pub mod Said

@@ -1,38 +1,33 @@
 -- What the answers of the calls say, and that of a walk's part.
-use Rattle.std.specs.Prelude.{Bool, List, [], ◌∷◌, ℕ}
+use Rattle.std.specs.Prelude.{Bool, List, [], ◌∷◌, ℕ, Result}
 use Rattle.base.specs.Numbers.{flag}
-use Rattle.answers.specs.Answers.{Answer, gives, refused}
-use Rattle.lookup.specs.Steps.{Try, on, stop}
+use Rattle.answers.specs.Answers.{Answer, gives, said_result}
+use Rattle.lookup.specs.Steps.{Try}
+use Rattle.lookup.specs.Refusals.{not_lent_refusal}
+use Rattle.lookup.specs.Said.{said_number, try_result}
+use Rattle.lookup.specs.declared.refusals.NotLent.{NotLent}
 use Rattle.letters.specs.LetterBits.{Lettered}
-use Rattle.letters.specs.declared.letter_bits.LetterBits.{LetterBits}
-use Rattle.letters.specs.declared.letter_bits.LetterBits.TheVariants as L
-use Rattle.letters.specs.declared.alpha.Alpha.{Alpha}
-use Rattle.letters.specs.declared.alpha.Alpha.TheVariants as A
-use Rattle.letters.specs.declared.alpha.CrossSet.{CrossSet}
-use Rattle.letters.specs.declared.alpha.CrossSet.TheVariants as X
-use Rattle.letters.specs.declared.alpha.Completes.{Completes}
-use Rattle.letters.specs.declared.alpha.Completes.TheVariants as C
+use Rattle.letters.specs.Refusals.{list_too_short_refusal, alpha_refusal}
+use Rattle.letters.specs.declared.refusals.ListTooShort.{ListTooShort}
+use Rattle.letters.specs.declared.refusals.AlphaRefusal.{AlphaRefusal}
 
-abbrev pub said_bits : LetterBits → Answer
-said_bits L.Written = gives []
-said_bits L.ListTooShort = refused 11 []
+abbrev pub said_bits : Result Unit ListTooShort → Answer
+said_bits r = said_result (λ _. gives []) list_too_short_refusal r
 
 -- the call's result in the terms of its definition
-abbrev pub lettered_as : LetterBits → List ℕ → List ℕ → Lettered
+abbrev pub lettered_as : Result Unit ListTooShort → List ℕ → List ℕ → Lettered
 lettered_as r all accepting = record { answer = said_bits r; all = all; accepting = accepting }
 
 -- 1 for yes, 0 for no
-abbrev pub said_alpha : Alpha → Answer
-said_alpha (A.Accepts b) = gives (flag b ∷ [])
-said_alpha A.NotLent = refused 14 []
-said_alpha A.TallyTooLong = refused 17 []
+abbrev pub said_alpha : Result Bool AlphaRefusal → Answer
+said_alpha r = said_result (λ b. gives (flag b ∷ [])) alpha_refusal r
 
-abbrev pub said_cross : CrossSet → Answer
-said_cross (X.Tiles s) = gives (s ∷ [])
-said_cross X.NotLent = refused 14 []
-said_cross X.TallyTooLong = refused 17 []
+abbrev pub said_cross : Result ℕ AlphaRefusal → Answer
+said_cross r = said_result said_number alpha_refusal r
 
--- ---- part of a walk
-abbrev pub completes_try : Completes → Try Bool
-completes_try (C.Known b) = on b
-completes_try C.NotLent = stop (refused 14 [])
+-- ---- parts of a walk
+abbrev pub completes_try : Result Bool NotLent → Try Bool
+completes_try r = try_result not_lent_refusal r
+
+abbrev pub said_tiles : Result ℕ NotLent → Answer
+said_tiles r = said_result said_number not_lent_refusal r

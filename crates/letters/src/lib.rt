@@ -3,7 +3,9 @@
 
 mod alpha;
 mod letter_bits;
+mod refusals;
 mod tiles;
 
-pub use alpha::{Alpha, CrossSet, accepts_alpha, compute_alpha_cross_set};
-pub use letter_bits::{LetterBits, compute_letter_bits};
+pub use alpha::{accepts_alpha, compute_alpha_cross_set};
+pub use letter_bits::compute_letter_bits;
+pub use refusals::{AlphaRefusal, ListTooShort};

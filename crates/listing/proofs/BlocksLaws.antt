@@ -16,12 +16,12 @@ use Rattle.listing.specs.NextLaws.{block_more, block_over, some_number}
 use Rattle.listing.proofs.PutLaws.{put_front}
 use Rattle.listing.specs.Lines.{refusal_line}
 use Rattle.listing.specs.Printing.{room, walk_from, next_block}
-use Rattle.listing.specs.Said.{PutWord, FillsBlock, Makes}
+use Rattle.std.specs.Prelude.{None, Some}
+use Rattle.std.specs.declared.ops.ControlFlow.{ControlFlow}
+use Rattle.listing.specs.Said.{end_of, continues, PutWord, FillsBlock, Makes}
 use Rattle.listing.specs.declared.opening.Unprinted.{Unprinted}
 use Rattle.listing.specs.declared.opening.Unprinted.TheVariants.{Refusal, Words}
-use Rattle.listing.specs.declared.blocks.LinePut.{LinePut}
 use Rattle.listing.specs.declared.blocks.BlockFilled.{BlockFilled}
-use Rattle.listing.specs.declared.blocks.BlockMade.TheVariants.{Bytes, Done}
 
 module _ (walk : NumberWalk) where
   -- ---- one number, of those before e
@@ -63,8 +63,8 @@ module _ (walk : NumberWalk) where
     fill-size = f.left.size
 
     module _ (h : i < e) where
-      pub fill-next : {out' : List ℕ} {r : LinePut} → PutWord i (walk i) out at out' r → r.more ≡ true
-          → BlockFilling next e before out' (i + 1) r.end
+      pub fill-next : {out' : List ℕ} {r : ControlFlow ℕ ℕ} → PutWord i (walk i) out at out' r → continues r ≡ true
+          → BlockFilling next e before out' (i + 1) (end_of r)
       fill-next p m =
           let g = sym p.more ∙ m in
           record {
@@ -76,8 +76,8 @@ module _ (walk : NumberWalk) where
           }
 
       -- the end of the block after what is not a word
-      fill_end : {out' : List ℕ} {r : LinePut} → PutWord i (walk i) out at out' r → r.more ≡ false
-          → Puts (lines_of walk next (e - next)) before 0 out' r.end
+      fill_end : {out' : List ℕ} {r : ControlFlow ℕ ℕ} → PutWord i (walk i) out at out' r → continues r ≡ false
+          → Puts (lines_of walk next (e - next)) before 0 out' (end_of r)
       fill_end p m = all-put (next-put [] f.left (lines-last i e h (sym p.more ∙ m)) p.puts) refl
 
     module _ (count : ℕ) (b : e ≡ next + numbers_in count next (length before)) where
@@ -87,8 +87,8 @@ module _ (walk : NumberWalk) where
       pub fill-room : i < e → at + longest ≤ length out
       fill-room h = omega (arith, f.from, f.room, fill-size, b)
 
-      pub fill-last : (h : i < e) {out' : List ℕ} {r : LinePut} → PutWord i (walk i) out at out' r → r.more ≡ false
-          → FillsBlock (block walk count next (length before)) before out' (record { next = count; written = r.end })
+      pub fill-last : (h : i < e) {out' : List ℕ} {r : ControlFlow ℕ ℕ} → PutWord i (walk i) out at out' r → continues r ≡ false
+          → FillsBlock (block walk count next (length before)) before out' (record { next = count; written = (end_of r) })
       unfolding block
       fill-last h {out'} {r} p m =
           let w = sym f.words ∙ words_last i e h (sym p.more ∙ m) in
@@ -98,7 +98,7 @@ module _ (walk : NumberWalk) where
             front = put_front q (omega (arith, q.place, p.within, fill-room h, fill-size));
           }
 
-      pub fill_done : e ≤ i → FillsBlock (block walk count next (length before)) before out (record { next = i; written = at })
+      pub fill_done : e ≤ i → FillsBlock (block walk count next (length before)) before out (record { next = e; written = at })
       unfolding block lines_of all_words
       fill_done h =
           let z : e - i ≡ 0 = omega (arith, f.to) in
@@ -150,18 +150,18 @@ module _ (walk : NumberWalk) where
 -- ---- the next block
 module _ (nodes counts : List ℕ) (u : Unprinted) (before after : List ℕ) where
   pub made-refusal : (n written : ℕ) → u ≡ Refusal n → length (refusal_line n) ≤ length before → Puts (refusal_line n) before 0 after written
-      → Makes (next_block nodes counts u) before after (Bytes written (Words 0 0 0))
+      → Makes (next_block nodes counts u) before after (Some (record { written = written; unprinted = Words 0 0 0 }))
   unfolding next_block
   made-refusal n written e h p = rw e (put_front p h, refl)
 
   module _ (start count next : ℕ) (e : u ≡ Words start count next) where
     pub made-words : (f : BlockFilled) (onward : ℕ) → next < count → length before ≡ room
         → FillsBlock (block (walk_from nodes counts start) count next (length before)) before after f → onward ≡ f.next
-        → Makes (next_block nodes counts u) before after (Bytes f.written (Words start count onward))
+        → Makes (next_block nodes counts u) before after (Some (record { written = f.written; unprinted = Words start count onward }))
     unfolding next_block
     made-words f onward h l p i =
         let p' = rw l at p in rw (e, lt-ltb next count h, next_block) (p'.front, ap (Words start count) (i ∙ p'.next))
 
-    pub made-done : count ≤ next → after ≡ before → Makes (next_block nodes counts u) before after Done
+    pub made-done : count ≤ next → after ≡ before → Makes (next_block nodes counts u) before after None
     unfolding next_block
     made-done h s = rw (e, le-ltb next count h, next_block) s

@@ -13,14 +13,6 @@ use Rattle.lookup.specs.WalkedLaws.{Tiles}
 use Rattle.listing.specs.Lines.{spaced, parted, line, refusal_line}
 
 -- ---- the parts of a line
-pub parted-first : (w : Word) → 0 < length w → parted w ≡ decimal (get_or w 0 0) ++ spaced (drop 1 w)
-unfolding parted
-parted-first [] h = absurd (omega arith)
-parted-first (t ∷ w) h = refl
-
-pub first-parts : (w : Word) (t : ℕ) → 0 < length w → t ≡ get_or w 0 0 → length (parted w) ≡ length (decimal t) + length (spaced (drop 1 w))
-first-parts w t h e = ap length (parted-first w h) ∙ length-append (decimal (get_or w 0 0)) (spaced (drop 1 w)) ∙ rw e
-
 pub parted-none : (w : Word) → length w ≡ 0 → parted w ≡ []
 unfolding parted
 parted-none [] h = refl

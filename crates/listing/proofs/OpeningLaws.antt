@@ -5,11 +5,10 @@ use mathlib.Core.List.{List, [], ◌∷◌}
 use Prim.Native.Nat.{ℕ, ◌≤◌, ◌<◌}
 use native.Mathlib.Omega.{arith}
 use lib.Dec.{eqb}
-use borrow.Author.Tests.{eq-eqb, ne_eqb}
 use lib.ListN.{length, get_or, take, length-take}
 use lib.Seq.{get_or-take, take_all}
 use Rattle.laws.specs.Cases.{split}
-use Rattle.answers.specs.Answers.{Answer, gives, nothing, refused}
+use Rattle.answers.specs.Answers.{Answer, gives, nothing, refused, as_answer}
 use Rattle.answers.specs.RowLaws.{gives≢refused}
 use Rattle.node.specs.Nodes.{kbwg}
 use Rattle.node.specs.declared.Layout.TheVariants.{Kwg}
@@ -20,19 +19,21 @@ use Rattle.graph.specs.Counting.{counts, IsCounted, Counts, count_limit}
 use Rattle.load.proofs.FinishLaws.{finished-within}
 use Rattle.load.specs.Loading.{Feeds, begin, feed, finish}
 use Rattle.load.specs.Said.{said_begin, said_finish, begun_as, fed_as, finished_as}
-use Rattle.load.specs.declared.loader.BeginAnswer.{BeginAnswer}
-use Rattle.load.specs.declared.loader.Finished.{Finished}
+use Rattle.std.specs.Prelude.{Result, Ok, Err}
+use Rattle.load.specs.Said.{begin_why}
+use Rattle.load.specs.declared.refusals.BeginRefusal.{BeginRefusal}
+use Rattle.load.specs.declared.refusals.FinishRefusal.{FinishRefusal}
 use Rattle.load.specs.declared.loader.Begun.{Begun}
 use Rattle.load.specs.declared.loader.Fed.{Fed}
 use Rattle.pieces.specs.Pieces.{LoadOutcome, feed_all, fed_pieces, load_pieces, one_feed}
 use Rattle.laws.specs.Tables.{table-length, table_at}
 use Rattle.numbers.proofs.WordNumbersLaws.{counted-lent}
 use Rattle.listing.specs.Wordlist.{start_words, most_bytes, load_input, last_answer, load_answer, RefusesBy, CountWork, LongEnough, ReadInto, longer, unloaded, uncounted, counted, refuses, lists}
-use Rattle.listing.specs.Said.{LoadSaid, LoadsAs, at_start, CountSaid, CountsAs, Opening, OpensRead}
+use Rattle.listing.specs.Said.{open_why, LoadSaid, LoadsAs, at_start, CountSaid, CountsAs, Opening, OpensRead}
 use Rattle.listing.specs.declared.opening.Unprinted.{Unprinted}
 use Rattle.listing.specs.declared.opening.Unprinted.TheVariants.{Refusal, Words}
-use Rattle.listing.specs.declared.opening.FileLoaded.{FileLoaded}
-use Rattle.listing.specs.declared.opening.FileLoaded.TheVariants.{Nodes, Refused}
+use Rattle.listing.specs.declared.opening.OpenRefusal.{OpenRefusal}
+use Rattle.listing.specs.declared.opening.OpenRefusal.TheVariants as O
 
 -- an answer of this number refuses by it
 pub refuses-by : (m : ℕ) {n : ℕ} {a : Answer} {vs : List ℕ} → a ≡ refused m vs → m ≡ n → RefusesBy a n
@@ -40,13 +41,13 @@ refuses-by m {n} e i = subst (λ x. RefusesBy x n) (sym e) i
 
 -- ---- the load
 -- what begin and finish answered, and the nodes then, are those of a load
-pub record Answered (l : LoadOutcome) (begun : BeginAnswer) (finished : Finished) (nodes : List ℕ) : Type 0 where
+pub record Answered (l : LoadOutcome) (begun : Result Unit BeginRefusal) (finished : Result ℕ FinishRefusal) (nodes : List ℕ) : Type 0 where
   pub begins : said_begin begun ≡ l.begun
   pub finishes : said_finish finished ≡ l.finished
   pub table : nodes ≡ l.nodes
 
 -- begin, one feed and finish load the whole
-pub whole-load : (input lent_nodes : List ℕ) (b : Begun) (f : Fed) (finished : Finished) {fed_nodes nodes : List ℕ}
+pub whole-load : (input lent_nodes : List ℕ) (b : Begun) (f : Fed) (finished : Result ℕ FinishRefusal) {fed_nodes nodes : List ℕ}
     → begun_as b ≡ begin (length input) Kwg (length lent_nodes) → fed_as f fed_nodes ≡ feed b.loader lent_nodes input
     → finished_as finished nodes ≡ finish f.loader fed_nodes → Answered (load_input input lent_nodes) b.answer finished nodes
 unfolding load_pieces fed_pieces feed_all one_feed
@@ -57,13 +58,13 @@ whole-load input lent_nodes b f finished {fed_nodes} {nodes} e d g =
     g ∙ ap (λ (x : Feeds). finish x.state x.nodes) fed in
     record { begins = ap (λ x. x.answer) e; finishes = ap (λ x. x.answer) last; table = ap (λ x. x.nodes) last }
 
-module _ {l : LoadOutcome} {begun : BeginAnswer} {finished : Finished} {nodes : List ℕ} (h : Answered l begun finished nodes) where
-  pub load_refused_by-begin : (n : ℕ) {vs : List ℕ} → said_begin begun ≡ refused n vs → LoadsAs l (Refused n) nodes
-  load_refused_by-begin n {vs} e =
-      let b : l.begun ≡ refused n vs = sym h.begins ∙ e in
-      record { said = subst (λ a. RefusesBy (last_answer a l.finished) n) (sym b) refl; table = h.table }
+module _ {l : LoadOutcome} {begun : Result Unit BeginRefusal} {finished : Result ℕ FinishRefusal} {nodes : List ℕ} (h : Answered l begun finished nodes) where
+  pub load_refused_by-begin : (why : BeginRefusal) → begun ≡ Err why → LoadsAs l (Err (O.Begin why)) nodes
+  load_refused_by-begin why e =
+      let b : l.begun ≡ as_answer (begin_why why) = sym h.begins ∙ ap said_begin e in
+      record { said = subst (λ a. RefusesBy (last_answer a l.finished) (begin_why why).number) (sym b) refl; table = h.table }
 
-  pub load-past-begin : (x : FileLoaded) → said_begin begun ≡ gives [] → LoadSaid x (said_finish finished) → LoadsAs l x nodes
+  pub load-past-begin : (x : Result ℕ OpenRefusal) → said_begin begun ≡ gives [] → LoadSaid x (said_finish finished) → LoadsAs l x nodes
   load-past-begin x e f =
       let b : l.begun ≡ gives [] = sym h.begins ∙ e in
       let a : load_answer l ≡ said_finish finished = ap (λ y. last_answer y l.finished) b ∙ sym h.finishes in
@@ -83,28 +84,14 @@ loaded-within input lent_nodes e =
     let fed = one_feed (length input) Kwg lent_nodes input in
     finished-within fed.state fed.nodes (last_gives l.begun l.finished e)
 
-pub nodes-within : (input lent_nodes : List ℕ) {nodes : List ℕ} {n : ℕ} → LoadsAs (load_input input lent_nodes) (Nodes n) nodes → n ≤ length nodes
+pub nodes-within : (input lent_nodes : List ℕ) {nodes : List ℕ} {n : ℕ} → LoadsAs (load_input input lent_nodes) (Ok n) nodes → n ≤ length nodes
 nodes-within input lent_nodes {nodes} {n} a = subst (λ l. n ≤ length l) (sym a.table) (loaded-within input lent_nodes a.said)
 
 -- what holds of the answer of a load holds where a match finds it
-pub loads_as : {l : LoadOutcome} {x y : FileLoaded} {nodes : List ℕ} → x ≡ y → LoadsAs l x nodes → LoadsAs l y nodes
+pub loads_as : {l : LoadOutcome} {x y : Result ℕ OpenRefusal} {nodes : List ℕ} → x ≡ y → LoadsAs l x nodes → LoadsAs l y nodes
 loads_as {l} {nodes = nodes} e a = subst (λ r. LoadsAs l r nodes) e a
 
--- ---- the start
-module _ (nodes counts : List ℕ) {s : ℕ} (e : s ≡ start_node nodes 0) where
-  pub start_none : s ≡ 0 → Words s 0 0 ≡ at_start nodes counts
-  start_none z = rw (e, eq-eqb (start_node nodes 0) 0 (sym e ∙ z))
-
-  pub start-some : (s ≡ 0 → ⊥) → Words s (get_or counts s 0) 0 ≡ at_start nodes counts
-  start-some n = rw (e, ne_eqb (start_node nodes 0) 0 (λ z. n (e ∙ z)))
-
 -- ---- the count
-module _ {g : Graph} {lent_counts lent_work after work : List ℕ} where
-  pub counts_refused : (n : ℕ) {vs : List ℕ} {a : Answer} → a ≡ refused n vs
-      → (IsCounted count_limit g lent_counts (length lent_work) a after) × (CountWork g lent_counts lent_work work)
-      → CountsAs g lent_counts lent_work (Refusal n) after work
-  counts_refused n {a = a} e k = record { answer = a; said = subst (λ x. RefusesBy x n) (sym e) refl; counted = k.0; free = k.1 }
-
 module _ (g : Graph) (lent_counts lent_work after : List ℕ) (c : IsCounted count_limit g lent_counts (length lent_work) (gives []) after) where
   ok : Counts count_limit g × (take (length g) after ≡ counts g)
   ok = counted-lent count_limit g lent_counts after (length lent_work) c
@@ -159,11 +146,11 @@ module _ {input lent_nodes lent_counts lent_work : List ℕ} (n : LongEnough len
   open-longer h = record { enough = n; ends = refuses 2; said = refl; opens = longer h }
 
   module _ (h : length input ≤ most_bytes) {nodes : List ℕ} where
-    pub open-unloaded : (m : ℕ) → LoadsAs (load_input input lent_nodes) (Refused m) nodes
-        → Opening input lent_nodes lent_counts lent_work (Refusal m) nodes lent_counts lent_work
-    open-unloaded m a = record { enough = n; ends = refuses m; said = refl; opens = rw a.table (unloaded h a.said) }
+    pub open-unloaded : (why : OpenRefusal) → LoadsAs (load_input input lent_nodes) (Err why) nodes
+        → Opening input lent_nodes lent_counts lent_work (Refusal (open_why why).number) nodes lent_counts lent_work
+    open-unloaded why a = record { enough = n; ends = refuses (open_why why).number; said = refl; opens = rw a.table (unloaded h a.said) }
 
-    pub open-loaded : (size : ℕ) (r : Unprinted) {counts work : List ℕ} → LoadsAs (load_input input lent_nodes) (Nodes size) nodes
+    pub open-loaded : (size : ℕ) (r : Unprinted) {counts work : List ℕ} → LoadsAs (load_input input lent_nodes) (Ok size) nodes
         → CountsAs (take size nodes) lent_counts lent_work r counts work → Opening input lent_nodes lent_counts lent_work r nodes counts work
     open-loaded size (Refusal m) a c =
         let k = rw a.table at c.counted in

@@ -1,15 +1,14 @@
 -- Bytes put at the front of a list, and the parts of a line put one after the other.
 use mathlib.Core.Path.{◌≡◌, ◌∙◌}
 use mathlib.Core.List.{List, [], ◌∷◌}
-use Prim.Native.Nat.{ℕ, ◌<◌, ◌≤◌}
+use Prim.Native.Nat.{ℕ, ◌≤◌}
 use native.Mathlib.Omega.{arith}
-use lib.ListN.{length, get_or, drop}
+use lib.ListN.{length, get_or}
 use Rattle.laws.specs.ListWrites.{sets-front}
 use Rattle.endian.specs.Puts.{Puts, put_both}
 use Rattle.decimal.specs.Decimal.{decimal}
 use Rattle.graph.specs.Words.{Word}
-use Rattle.listing.specs.Lines.{spaced, parted, line}
-use Rattle.listing.proofs.LinesLaws.{parted-first}
+use Rattle.listing.specs.Lines.{parted, line}
 use Rattle.listing.specs.Said.{AtFront}
 
 pub put_front : {xs a b : List ℕ} {end : ℕ} → Puts xs a 0 b end → length xs ≤ length a → AtFront xs a b end
@@ -17,11 +16,6 @@ put_front {xs} {a} p h = record { size = p.place ∙ omega arith; stored = p.sto
 
 -- ---- the parts of a line
 module _ {a b c : List ℕ} {at mid end : ℕ} (w : Word) where
-  -- the first tile and the others
-  pub put-parted : (t : ℕ) → t ≡ get_or w 0 0 → 0 < length w → Puts (decimal t) a at b mid → Puts (spaced (drop 1 w)) b mid c end
-      → Puts (parted w) a at c end
-  put-parted t e h p q = rw (parted-first w h, ← e) (put_both p q)
-
   -- one of the others
   pub put-spaced : (t i : ℕ) → t ≡ get_or w i 0 → Puts (0x20 ∷ []) a at b mid → Puts (decimal t) b mid c end
       → Puts (0x20 ∷ decimal (get_or w i 0)) a at c end

@@ -1,18 +1,18 @@
 -- One number of a block: its walk's tiles in the buffer, and its line, for each answer of the walk.
 use mathlib.Core.Path.{◌≡◌, sym, ap, ◌∙◌, subst}
-use mathlib.Core.Bool.{true, false}
 use mathlib.Core.List.{List, [], ◌∷◌}
 use Prim.Native.Nat.{ℕ, ◌≤◌, ◌<◌}
 use native.Mathlib.Omega.{arith}
 use lib.ListN.{length, take}
-use Rattle.answers.specs.Answers.{Answer, gives, nothing, refused}
-use Rattle.endian.specs.Puts.{Puts, put-none}
+use Rattle.answers.specs.Answers.{Answer, gives, refused}
+use Rattle.endian.specs.Puts.{Puts}
 use Rattle.graph.specs.Words.{Word}
 use Rattle.lookup.specs.Said.{said_word, WordPut}
 use Rattle.lookup.specs.Walks.{word_by_index}
 use Rattle.lookup.specs.WalkedLaws.{WalkLeaves, tiles-front}
-use Rattle.lookup.specs.declared.by_number.WordByIndex.{WordByIndex}
-use Rattle.lookup.specs.declared.by_number.WordByIndex.TheVariants.{Tiles}
+use Rattle.std.specs.Prelude.{Result, Ok, Option as Maybe, Some}
+use Rattle.std.proofs.Common.{Continue, Break}
+use Rattle.lookup.specs.declared.refusals.WordRefusal.{WordRefusal}
 use Rattle.listing.specs.Lines.{line, refusal_line}
 use Rattle.listing.proofs.LinesLaws.{line-length, refusal-length}
 use Rattle.listing.specs.Wordlist.{most_tiles}
@@ -21,12 +21,12 @@ use Rattle.listing.specs.Printing.{walk_from}
 use Rattle.listing.specs.Said.{PutWord}
 
 -- the walk of a number left this answer and these tiles
-pub record Tiled (walked : Word × Answer) (r : WordByIndex) (after : List ℕ) : Type 0 where
+pub record Tiled (walked : Word × Answer) (r : Result (Maybe ℕ) WordRefusal) (after : List ℕ) : Type 0 where
   pub before : List ℕ
   pub put : WordPut walked before after r
 
 -- a buffer with room for the longest word takes the walk's tiles
-pub tiled : (nodes counts : List ℕ) (start number lent : ℕ) {before after : List ℕ} {r : WordByIndex}
+pub tiled : (nodes counts : List ℕ) (start number lent : ℕ) {before after : List ℕ} {r : Result (Maybe ℕ) WordRefusal}
     → WordPut (word_by_index counts nodes lent start number) before after r
     → lent ≡ most_tiles → Tiled (walk_from nodes counts start number) r after
 tiled nodes counts start number lent {before} {after} {r} p e =
@@ -39,8 +39,8 @@ pub record WordIn (walked : Word × Answer) (n : ℕ) (buffer : List ℕ) : Type
   pub size : n ≡ length walked.0
   pub few : n ≤ most_tiles
 
-pub word_in : {walked : Word × Answer} {after : List ℕ} {r : WordByIndex} {n : ℕ} → WalkLeaves most_tiles 0 walked → Tiled walked r after
-    → r ≡ Tiles n → WordIn walked n after
+pub word_in : {walked : Word × Answer} {after : List ℕ} {r : Result (Maybe ℕ) WordRefusal} {n : ℕ} → WalkLeaves most_tiles 0 walked → Tiled walked r after
+    → r ≡ Ok (Some n) → WordIn walked n after
 word_in {walked} {after} {r} {n} w t e =
     let a : walked.1 ≡ gives (n ∷ []) = sym t.put.answer ∙ ap said_word e in
     let s : n ≡ length walked.0 = w.given n a ∙ omega arith in
@@ -57,7 +57,7 @@ line-room number walked h w i = rw i.word (line-length number walked.0 h w.fits 
 
 module _ (number : ℕ) (walked : Word × Answer) {out out' : List ℕ} {at end : ℕ} where
   pub word_line : {n : ℕ} {buffer : List ℕ} → number < 4_294_967_296 → WalkLeaves most_tiles 0 walked → WordIn walked n buffer
-      → Puts (line number (take n buffer)) out at out' end → PutWord number walked out at out' (record { end = end; more = true })
+      → Puts (line number (take n buffer)) out at out' end → PutWord number walked out at out' (Continue end)
   word_line h w i p =
       record {
         more = sym (ap goes_on i.answer);
@@ -65,14 +65,8 @@ module _ (number : ℕ) (walked : Word × Answer) {out out' : List ℕ} {at end 
         within = omega (arith, p.place, line-room number walked h w i);
       }
 
-  pub word_refused : (n : ℕ) {after vs : List ℕ} {r : WordByIndex} → n < 4_294_967_296 → Tiled walked r after
-      → said_word r ≡ refused n vs → Puts (refusal_line n) out at out' end → PutWord number walked out at out' (record { end = end; more = false })
+  pub word_refused : (n : ℕ) {after vs : List ℕ} {r : Result (Maybe ℕ) WordRefusal} → n < 4_294_967_296 → Tiled walked r after
+      → said_word r ≡ refused n vs → Puts (refusal_line n) out at out' end → PutWord number walked out at out' (Break end)
   word_refused n h t e p =
       let a = sym t.put.answer ∙ e in
       record { more = sym (ap goes_on a); puts = rw a p; within = omega (arith, p.place, refusal-length n h) }
-
-pub word_none : (number : ℕ) (walked : Word × Answer) {out after : List ℕ} {at : ℕ} {r : WordByIndex} → Tiled walked r after
-    → said_word r ≡ nothing → PutWord number walked out at out (record { end = at; more = false })
-word_none number walked t e =
-    let a = sym t.put.answer ∙ e in
-    record { more = sym (ap goes_on a); puts = rw a put-none; within = omega arith }

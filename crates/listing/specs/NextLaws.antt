@@ -1,5 +1,5 @@
 -- What a caller of `next_block` counts on: a block lies within the lent bytes, and fewer lines are left after it.
-use Rattle.std.specs.Prelude.{◌≡◌, true, false, List, ℕ, ◌+◌, ◌≤◌, ◌<◌, ltb, length, drop}
+use Rattle.std.specs.Prelude.{◌≡◌, true, false, Option as Maybe, Some, List, ℕ, ◌+◌, ◌≤◌, ◌<◌, ltb, length, drop}
 use Rattle.std.proofs.Common.{sym, ap, arith, length-append}
 use Rattle.std.proofs.Math.Path.{subst}
 use Rattle.std.proofs.Math.Option.{some}
@@ -11,7 +11,6 @@ use Rattle.listing.specs.Said.{AtFront, Makes}
 use Rattle.listing.specs.declared.opening.Unprinted.{Unprinted}
 use Rattle.listing.specs.declared.opening.Unprinted.TheVariants.{Refusal, Words}
 use Rattle.listing.specs.declared.blocks.BlockMade.{BlockMade}
-use Rattle.listing.specs.declared.blocks.BlockMade.TheVariants.{Bytes}
 
 -- ---- the number to go on from
 module _ (walk : NumberWalk) (count next lent : ℕ) where
@@ -55,11 +54,11 @@ module _ (nodes counts : List ℕ) where
       (λ t. let e' = rw (t, next_block) at e in some≢none (sym e'))
 
   -- what a caller that is handed a block knows of it
-  pub made-block : (u : Unprinted) (before after : List ℕ) (r : BlockMade) {written : ℕ} {v : Unprinted} → r ≡ Bytes written v
-      → Makes (next_block nodes counts u) before after r → (written ≤ length after) × (lines_left v < lines_left u)
-  made-block u before after r {written} {v} e m =
-      let m' = subst (Makes (next_block nodes counts u) before after) e m in
+  pub made-block : (u : Unprinted) (before after : List ℕ) (r : Maybe BlockMade) {m : BlockMade} → r ≡ Some m
+      → Makes (next_block nodes counts u) before after r → (m.written ≤ length after) × (lines_left m.unprinted < lines_left u)
+  made-block u before after r {m} e h =
+      let h' = subst (Makes (next_block nodes counts u) before after) e h in
       split_option (next_block nodes counts u)
-      (λ n. absurd (subst (λ o. Makes o before after (Bytes written v)) n m'))
-      (λ b n. let made = subst (λ o. Makes o before after (Bytes written v)) n m' in
+      (λ n. absurd (subst (λ o. Makes o before after (Some m)) n h'))
+      (λ b n. let made = subst (λ o. Makes o before after (Some m)) n h' in
       (front-within made.0, rw made.1 (fewer_lines-left u n)))

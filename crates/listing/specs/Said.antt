@@ -1,8 +1,12 @@
 -- What the calls leave, in the terms of their definitions.
-use Rattle.std.specs.Prelude.{◌≡◌, true, false, List, [], ◌∷◌, ◌++◌, ℕ, ◌+◌, ◌≤◌, eqb, length, get_or, drop}
+use Rattle.std.specs.Prelude.{◌≡◌, Bool, true, false, Result, Ok, Err, Option as Maybe, None, Some, List, [], ◌∷◌, ◌++◌, ℕ, ◌+◌, ◌≤◌, eqb, length, get_or, drop}
+use Rattle.std.specs.declared.ops.ControlFlow.{ControlFlow}
+use Rattle.std.specs.declared.ops.ControlFlow.TheVariants.{Continue, Break}
 use Rattle.std.proofs.Math.Option.{Option, none, some}
 use Rattle.laws.specs.Lists.{join_all}
-use Rattle.answers.specs.Answers.{Answer, gives}
+use Rattle.answers.specs.Answers.{Answer, gives, Refusal as Why, refusing}
+use Rattle.load.specs.Said.{begin_why, finish_why}
+use Rattle.count.specs.Said.{count_refusal}
 use Rattle.endian.specs.Puts.{Puts}
 use Rattle.graph.specs.Runs.{Graph, start_node}
 use Rattle.graph.specs.Words.{Word}
@@ -13,12 +17,11 @@ use Rattle.listing.specs.Blocks.{line_for, goes_on, longest, Block}
 use Rattle.listing.specs.Printing.{Next, output_blocks}
 use Rattle.listing.specs.declared.opening.Unprinted.{Unprinted}
 use Rattle.listing.specs.declared.opening.Unprinted.TheVariants.{Refusal, Words}
-use Rattle.listing.specs.declared.opening.FileLoaded.{FileLoaded}
-use Rattle.listing.specs.declared.opening.FileLoaded.TheVariants.{Nodes, Refused}
+use Rattle.listing.specs.declared.opening.OpenRefusal.{OpenRefusal}
+use Rattle.listing.specs.declared.opening.OpenRefusal.TheVariants as O
+use Rattle.listing.specs.declared.opening.StartWords.{StartWords}
 use Rattle.listing.specs.declared.blocks.BlockFilled.{BlockFilled}
-use Rattle.listing.specs.declared.blocks.LinePut.{LinePut}
 use Rattle.listing.specs.declared.blocks.BlockMade.{BlockMade}
-use Rattle.listing.specs.declared.blocks.BlockMade.TheVariants.{Bytes, Done}
 
 -- bytes at the front of a list, so many, and its old ones after them
 pub record AtFront (bytes before after : List ℕ) (written : ℕ) : Type 0 where
@@ -26,11 +29,23 @@ pub record AtFront (bytes before after : List ℕ) (written : ℕ) : Type 0 wher
   pub stored : after ≡ bytes ++ drop (length bytes) before
 
 -- ---- opening
-abbrev pub LoadSaid : FileLoaded → Answer → Type 0
-LoadSaid (Nodes n) a = a ≡ gives (n ∷ [])
-LoadSaid (Refused n) a = RefusesBy a n
+-- why an input is not listed: "a longer input is 2", or as the calls refuse it
+abbrev pub open_why : OpenRefusal → Why
+open_why O.TooLong = refusing 2 []
+open_why (O.Begin why) = begin_why why
+open_why (O.Finish why) = finish_why why
+open_why (O.Count why) = count_refusal why
 
-pub record LoadsAs (l : LoadOutcome) (r : FileLoaded) (nodes : List ℕ) : Type 0 where
+-- what is to be printed then
+abbrev pub unprinted_by : Result StartWords OpenRefusal → Unprinted
+unprinted_by (Ok w) = Words w.start w.count 0
+unprinted_by (Err why) = Refusal (open_why why).number
+
+abbrev pub LoadSaid : Result ℕ OpenRefusal → Answer → Type 0
+LoadSaid (Ok n) a = a ≡ gives (n ∷ [])
+LoadSaid (Err why) a = RefusesBy a (open_why why).number
+
+pub record LoadsAs (l : LoadOutcome) (r : Result ℕ OpenRefusal) (nodes : List ℕ) : Type 0 where
   pub said : LoadSaid r (load_answer l)
   pub table : nodes ≡ l.nodes
 
@@ -67,21 +82,30 @@ OpensRead buffer read lent_nodes lent_counts lent_work r nodes counts work =
     ((input : List ℕ) → ReadInto buffer read input → Opening input lent_nodes lent_counts lent_work r nodes counts work)
 
 -- ---- blocks
-pub record PutWord (number : ℕ) (walked : Word × Answer) (before : List ℕ) (at : ℕ) (after : List ℕ) (r : LinePut) : Type 0 where
-  pub more : r.more ≡ goes_on walked.1
-  pub puts : Puts (line_for number walked.0 walked.1) before at after r.end
-  pub within : r.end ≤ at + longest
+-- the place after a line, and whether the list goes on
+abbrev pub end_of : ControlFlow ℕ ℕ → ℕ
+end_of (Continue end) = end
+end_of (Break end) = end
+
+abbrev pub continues : ControlFlow ℕ ℕ → Bool
+continues (Continue end) = true
+continues (Break end) = false
+
+pub record PutWord (number : ℕ) (walked : Word × Answer) (before : List ℕ) (at : ℕ) (after : List ℕ) (r : ControlFlow ℕ ℕ) : Type 0 where
+  pub more : continues r ≡ goes_on walked.1
+  pub puts : Puts (line_for number walked.0 walked.1) before at after (end_of r)
+  pub within : end_of r ≤ at + longest
 
 pub record FillsBlock (b : Block) (before after : List ℕ) (r : BlockFilled) : Type 0 where
   pub next : r.next ≡ b.next
   pub front : AtFront b.bytes before after r.written
 
 -- the next block at the front of the lent bytes and what is left after it, or the lent bytes as before where nothing was left
-abbrev pub Makes : Option Next → List ℕ → List ℕ → BlockMade → Type 0
-Makes (some b) before after (Bytes written u) = AtFront b.bytes before after written × (u ≡ b.unprinted)
-Makes none before after Done = after ≡ before
-Makes (some b) before after Done = ⊥
-Makes none before after (Bytes written u) = ⊥
+abbrev pub Makes : Option Next → List ℕ → List ℕ → Maybe BlockMade → Type 0
+Makes (some b) before after (Some m) = AtFront b.bytes before after m.written × (m.unprinted ≡ b.unprinted)
+Makes none before after None = after ≡ before
+Makes (some b) before after None = ⊥
+Makes none before after (Some m) = ⊥
 
 -- ---- the program
 -- What the calls come to, whatever is read and lent: their blocks join to the whole output, and no other bytes are that.

@@ -6,7 +6,8 @@ ghost use Rattle.listing.specs.Said.{PutWord, FillsBlock, Makes};
 
 use crate::lines::{put_line, put_refusal};
 use crate::opening::{NODES, Unprinted};
-use lookup::WordByIndex;
+use answers::Refuses;
+use std::ops::ControlFlow;
 
 // The most tiles of a word.
 const TILES: usize = 256;
@@ -17,14 +18,11 @@ const LONGEST: usize = 779;
 // The bytes that a block has room for.
 pub const BLOCK: usize = 65536;
 
-// A block of the output, of so many bytes, and what is left to print after it; or nothing was left.
+// A block of the output, of so many bytes, and what is left to print after it.
 #[derive(Clone, Copy)]
-pub enum BlockMade {
-    Bytes {
-        written: usize,
-        unprinted: Unprinted,
-    },
-    Done,
+pub struct BlockMade {
+    pub written: usize,
+    pub unprinted: Unprinted,
 }
 
 // How many bytes a block has, and the number to go on from; none is left where that is the count.
@@ -34,14 +32,8 @@ pub struct BlockFilled {
     pub written: usize,
 }
 
-// The place after what was put, and whether the list goes on.
-#[derive(Clone, Copy)]
-pub struct LinePut {
-    pub end: usize,
-    pub more: bool,
-}
-
-// Puts the line of a number's word, or of a refusal, from a place on; the longest must have room.
+// Puts the line of a number's word, or of a refusal, from a place on; the longest must have room. Answers the place after it: the list
+// goes on after a word, and breaks off after a refusal, or where there is no word.
 fn put_word(
     nodes: &[u32],
     counts: &[u32],
@@ -49,32 +41,15 @@ fn put_word(
     number: u32,
     out: &mut [u8],
     at: usize,
-) -> LinePut
+) -> ControlFlow<usize, usize>
     requires { at + longest ≤ length out.old }
     ensures { PutWord number (walk_from nodes.now counts.now start number) out.old at out.new result }
 {
     let mut word = [0u8; TILES];
     match lookup::get_word_by_index(nodes, counts, start, number, &mut word) {
-        WordByIndex::Tiles(tiles) => LinePut {
-            end: put_line(number, &word[..tiles], out, at),
-            more: true,
-        },
-        WordByIndex::Absent => LinePut {
-            end: at,
-            more: false,
-        },
-        WordByIndex::NotLent => LinePut {
-            end: put_refusal(14, out, at),
-            more: false,
-        },
-        WordByIndex::OutOfRange => LinePut {
-            end: put_refusal(15, out, at),
-            more: false,
-        },
-        WordByIndex::BufferFull => LinePut {
-            end: put_refusal(16, out, at),
-            more: false,
-        },
+        Ok(Some(tiles)) => ControlFlow::Continue(put_line(number, &word[..tiles], out, at)),
+        Ok(None) => ControlFlow::Break(at),
+        Err(why) => ControlFlow::Break(put_refusal(why.number(), out, at)),
     }
 }
 
@@ -82,15 +57,9 @@ fn put_word(
 fn block_end(count: u32, next: u32, room: usize) -> u32
     ensures { result ≡ next + numbers_in count next room }
 {
-    if count <= next {
-        return next;
-    }
     let lines = room / LONGEST;
-    if lines < (count - next) as usize {
-        next + lines as u32
-    } else {
-        count
-    }
+    let left = count.saturating_sub(next);
+    next + lines.min(left as usize) as u32
 }
 
 // Writes the lines of words `next` to `count - 1` to the front of `out`, as many as its length allows where each is the longest.
@@ -106,56 +75,55 @@ fn fill(
         out.old out.new result }
 {
     let end = block_end(count, next, out.len());
-    let mut number = next;
     let mut at = 0;
-    while number < end {
-        let put = put_word(nodes, counts, start, number, out, at);
-        at = put.end;
-        if !put.more {
-            return BlockFilled {
-                next: count,
-                written: at,
-            };
+    for number in next..end {
+        match put_word(nodes, counts, start, number, out, at) {
+            ControlFlow::Continue(after) => at = after,
+            ControlFlow::Break(written) => {
+                return BlockFilled {
+                    next: count,
+                    written,
+                };
+            }
         }
-        number += 1;
     }
     BlockFilled {
-        next: number,
+        next: end,
         written: at,
     }
 }
 
-// Makes the next block of the output.
+// Makes the next block of the output, or none where nothing is left.
 pub fn next_block(
     nodes: &[u32; NODES],
     counts: &[u32; NODES],
     unprinted: Unprinted,
     out: &mut [u8; BLOCK],
-) -> BlockMade
+) -> Option<BlockMade>
     ensures { Makes (next_block nodes.now counts.now unprinted) out.old out.new result }
 {
     match unprinted {
-        Unprinted::Refusal(number) => BlockMade::Bytes {
+        Unprinted::Refusal(number) => Some(BlockMade {
             written: put_refusal(number, out, 0),
             unprinted: Unprinted::Words {
                 start: 0,
                 count: 0,
                 next: 0,
             },
-        },
+        }),
         Unprinted::Words { start, count, next } => {
             if count <= next {
-                return BlockMade::Done;
+                return None;
             }
             let filled = fill(nodes, counts, start, count, next, out);
-            BlockMade::Bytes {
+            Some(BlockMade {
                 written: filled.written,
                 unprinted: Unprinted::Words {
                     start,
                     count,
                     next: filled.next,
                 },
-            }
+            })
         }
     }
 }

@@ -3,7 +3,6 @@ ghost use Rattle.std.specs.Prelude.{◌+◌, ◌≤◌, length};
 ghost use Rattle.endian.specs.Puts.{Puts};
 ghost use Rattle.listing.specs.Lines.{parted, line, refusal_line};
 
-use base::widened;
 use decimal::put_number;
 use endian::put_byte;
 
@@ -12,15 +11,13 @@ fn put_tiles(word: &[u8], out: &mut [u8], at: usize) -> usize
     requires { at + length (parted word.now) ≤ length out.old }
     ensures { Puts (parted word.now) out.old at out.new result }
 {
-    if word.len() == 0 {
+    let Some((&first, rest)) = word.split_first() else {
         return at;
-    }
-    let mut end = put_number(widened(word[0]), out, at);
-    let mut i = 1;
-    while i < word.len() {
+    };
+    let mut end = put_number(u32::from(first), out, at);
+    for &tile in rest {
         let after = put_byte(b' ', out, end);
-        end = put_number(widened(word[i]), out, after);
-        i += 1;
+        end = put_number(u32::from(tile), out, after);
     }
     end
 }

@@ -1,12 +1,13 @@
 // An input is loaded and its words are counted, before any line is made.
-ghost use Rattle.std.specs.Prelude.{◌≡◌, ◌<◌, length};
+ghost use Rattle.std.specs.Prelude.{◌≡◌, ◌<◌, length, Ok};
 ghost use Rattle.graph.specs.Runs.{start_node};
 ghost use Rattle.listing.specs.Wordlist.{most_bytes, LongEnough, load_input};
-ghost use Rattle.listing.specs.Said.{LoadSaid, LoadsAs, at_start, CountsAs, OpensRead};
-ghost use Rattle.load.specs.Said.{said_finish};
+ghost use Rattle.listing.specs.Said.{open_why, unprinted_by, LoadsAs, at_start, CountsAs, OpensRead};
+ghost use Rattle.listing.specs.declared.opening.OpenRefusal.TheVariants as O;
 
-use count::Counted;
-use load::{BeginAnswer, Finished, Loader};
+use answers::Refuses;
+use count::CountRefusal;
+use load::{BeginRefusal, FinishRefusal, Loader};
 use node::{Layout, Node24};
 
 // The most nodes of an input, and their bytes.
@@ -27,75 +28,94 @@ pub enum Unprinted {
     Words { start: u32, count: u32, next: u32 },
 }
 
-#[derive(Clone, Copy)]
-pub enum FileLoaded {
-    Nodes(usize),
-    Refused(u32),
+// Why an input is not listed.
+#[derive(Clone, Copy, Debug, PartialEq, Eq)]
+pub enum OpenRefusal {
+    TooLong,
+    Begin(BeginRefusal),
+    Finish(FinishRefusal),
+    Count(CountRefusal),
 }
 
-// Loads the input in one piece.
-fn load_input(input: &[u8], nodes: &mut [u32]) -> FileLoaded
+impl From<BeginRefusal> for OpenRefusal {
+    ghost from_gives = { λ why e. e ≡ O.Begin why };
+
+    fn from(why: BeginRefusal) -> OpenRefusal {
+        OpenRefusal::Begin(why)
+    }
+}
+
+impl From<FinishRefusal> for OpenRefusal {
+    ghost from_gives = { λ why e. e ≡ O.Finish why };
+
+    fn from(why: FinishRefusal) -> OpenRefusal {
+        OpenRefusal::Finish(why)
+    }
+}
+
+impl From<CountRefusal> for OpenRefusal {
+    ghost from_gives = { λ why e. e ≡ O.Count why };
+
+    fn from(why: CountRefusal) -> OpenRefusal {
+        OpenRefusal::Count(why)
+    }
+}
+
+impl Refuses for OpenRefusal {
+    ghost refusal = { open_why };
+
+    fn number(&self) -> u32 {
+        match self {
+            OpenRefusal::TooLong => 2,
+            OpenRefusal::Begin(why) => why.number(),
+            OpenRefusal::Finish(why) => why.number(),
+            OpenRefusal::Count(why) => why.number(),
+        }
+    }
+}
+
+// Where the words begin, and how many there are.
+#[derive(Clone, Copy)]
+pub struct StartWords {
+    pub start: u32,
+    pub count: u32,
+}
+
+// Loads the input in one piece, and answers how many nodes it has. Where feed refuses, finish does too.
+fn load_input(input: &[u8], nodes: &mut [u32]) -> Result<usize, OpenRefusal>
     ensures { LoadsAs (load_input input.now nodes.old) result nodes.new }
 {
     let begun = Loader::begin(input.len(), Layout::Kwg, nodes);
-    let answer = begun.answer;
-    let loader = begun.loader;
-    let fed = loader.feed(input, nodes);
-    let last = fed.loader;
-    let finished = last.finish(nodes);
-    match answer {
-        BeginAnswer::Ready => after_begin(finished),
-        BeginAnswer::NotWholeNodes => FileLoaded::Refused(1),
-        BeginAnswer::OverLimit => FileLoaded::Refused(2),
-        BeginAnswer::NodesTooShort => FileLoaded::Refused(3),
-    }
+    let fed = begun.loader.feed(input, nodes);
+    let finished = fed.loader.finish(nodes);
+    begun.answer?;
+    Ok(finished?)
 }
 
-fn after_begin(finished: Finished) -> FileLoaded
-    ensures { LoadSaid result (said_finish finished) }
-{
-    match finished {
-        Finished::Nodes(count) => FileLoaded::Nodes(count),
-        Finished::BadState => FileLoaded::Refused(4),
-        Finished::DoesNotFit(_) => FileLoaded::Refused(6),
-        Finished::Missing => FileLoaded::Refused(7),
-        Finished::ArcPastEnd(_) => FileLoaded::Refused(8),
-        Finished::NoEnd => FileLoaded::Refused(9),
-    }
-}
-
-// Where the words begin and how many there are; the start must be among the counts.
-fn at_start(nodes: &[u32], counts: &[u32]) -> Unprinted
+// The words from node 0's arc; the start must be among the counts.
+fn at_start(nodes: &[u32], counts: &[u32]) -> StartWords
     requires { (0 < length nodes.now) × (start_node nodes.now 0 < length counts.now) }
-    ensures { result ≡ at_start nodes.now counts.now }
+    ensures { unprinted_by (Ok result) ≡ at_start nodes.now counts.now }
 {
     let start = Node24(nodes[0]).arc_index();
     if start == 0 {
-        return Unprinted::Words {
-            start,
-            count: 0,
-            next: 0,
-        };
+        return StartWords { start, count: 0 };
     }
-    Unprinted::Words {
+    StartWords {
         start,
         count: counts[start as usize],
-        next: 0,
     }
 }
 
-fn count_loaded(nodes: &[u32], counts: &mut [u32], work: &mut [u32]) -> Unprinted
-    ensures { CountsAs nodes.now counts.old work.old result counts.new work.new }
+fn count_loaded(
+    nodes: &[u32],
+    counts: &mut [u32],
+    work: &mut [u32],
+) -> Result<StartWords, OpenRefusal>
+    ensures { CountsAs nodes.now counts.old work.old (unprinted_by result) counts.new work.new }
 {
-    match count::count_words(nodes, counts, work) {
-        Counted::Done => at_start(nodes, counts),
-        Counted::WrongSize => Unprinted::Refusal(10),
-        Counted::ArcPastEnd(_) => Unprinted::Refusal(8),
-        Counted::NoEnd => Unprinted::Refusal(9),
-        Counted::ListTooShort => Unprinted::Refusal(11),
-        Counted::Loops(_) => Unprinted::Refusal(12),
-        Counted::TooMany => Unprinted::Refusal(13),
-    }
+    count::count_words(nodes, counts, work)?;
+    Ok(at_start(nodes, counts))
 }
 
 // Opens an input of which `read` bytes are in a buffer of more than 16,384 bytes; the lists must be long enough for 4,096 nodes.
@@ -105,18 +125,16 @@ fn open_read(
     nodes: &mut [u32],
     counts: &mut [u32],
     work: &mut [u32],
-) -> Unprinted
+) -> Result<StartWords, OpenRefusal>
     requires { (most_bytes < length input.now) × LongEnough nodes.old counts.old work.old }
-    ensures { OpensRead input.now read nodes.old counts.old work.old result nodes.new
+    ensures { OpensRead input.now read nodes.old counts.old work.old (unprinted_by result) nodes.new
         counts.new work.new }
 {
     if MOST_BYTES < read {
-        return Unprinted::Refusal(2);
+        return Err(OpenRefusal::TooLong);
     }
-    match load_input(&input[..read], nodes) {
-        FileLoaded::Nodes(count) => count_loaded(&nodes[..count], counts, work),
-        FileLoaded::Refused(number) => Unprinted::Refusal(number),
-    }
+    let count = load_input(&input[..read], nodes)?;
+    count_loaded(&nodes[..count], counts, work)
 }
 
 // Loads a KWG of up to 4,096 nodes and counts its words. `read` is how many of its first bytes are in `input`.
@@ -130,5 +148,12 @@ pub fn open(
     ensures { OpensRead input.now read nodes.old counts.old work.old result nodes.new
         counts.new work.new }
 {
-    open_read(input, read, nodes, counts, work)
+    match open_read(input, read, nodes, counts, work) {
+        Ok(words) => Unprinted::Words {
+            start: words.start,
+            count: words.count,
+            next: 0,
+        },
+        Err(why) => Unprinted::Refusal(why.number()),
+    }
 }

@@ -41,6 +41,9 @@ try_found value why (Ok (Some a)) = on (value a)
 try_found value why (Ok None) = stop nothing
 try_found value why (Err e) = stop (as_answer (why e))
 
+abbrev pub lent_try : Result ℕ NotLent → Try ℕ
+lent_try r = try_result not_lent_refusal r
+
 abbrev pub search_try : Result (Maybe ℕ) NotLent → Try ℕ
 search_try r = try_found (λ i. i) not_lent_refusal r
 

@@ -6,26 +6,19 @@ ghost use Rattle.lookup.specs.Said.{between_try, WordPut};
 
 use crate::by_tile::Numbered;
 use crate::refusals::{LookupRefusal, WordRefusal};
-use crate::run::difference;
+use crate::run::{lent, words_between};
 use node::Node24;
 
-// The words of node v, at place p, by the counts from it and from the node after it, whose place must be a number. With the difference
-// asked of `words_between` the walk takes a third longer.
-#[tactic(auto, unfolding(crate::specs::Walks::words_here, crate::specs::Walks::words_between, crate::specs::Steps::lent))]
+// The words of node v, at place p, by the counts from it and from the node after it, whose place must be a number.
+#[tactic(auto, unfolding(crate::specs::Walks::words_here))]
 fn words_here(counts: &[u32], v: u32, p: usize) -> Result<u32, LookupRefusal>
     requires { p + 1 < 2 ^ 64 }
     ensures { between_try result ≡ words_here counts.now v p }
 {
     if Node24(v).is_end() {
-        if counts.len() <= p {
-            return Err(LookupRefusal::NotLent);
-        }
-        return Ok(counts[p]);
+        return Ok(lent(counts, p)?);
     }
-    if counts.len() <= p + 1 {
-        return Err(LookupRefusal::NotLent);
-    }
-    difference(counts[p], counts[p + 1])
+    words_between(counts, p, p + 1)
 }
 
 // Whether the word with number idx ends at node v: the first of its words is its tile alone, if it accepts.

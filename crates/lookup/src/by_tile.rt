@@ -6,7 +6,7 @@ ghost use Rattle.lookup.specs.WordsBefore.{NamesBefore};
 ghost use Rattle.lookup.specs.Said.{search_try, passed_try, said_seek};
 
 use crate::refusals::{LookupRefusal, NotLent};
-use crate::run::{find_in, lent_part, words_between};
+use crate::run::{find_in, lent, lent_part, words_between};
 use node::Node24;
 
 // The node found, and how many words of its run come before it.
@@ -25,14 +25,11 @@ pub(crate) struct Passed {
 
 // One step of a walk that reads no counts, as the alpha sets take it: from node p by its arc to the node with the tile.
 // It goes through all the nodes given: a call that walks takes the lent part first.
-#[tactic(auto, unfolding(crate::specs::Walks::step_to, crate::specs::Walks::arc_of, crate::specs::Steps::lent))]
+#[tactic(auto, unfolding(crate::specs::Walks::step_to, crate::specs::Walks::arc_of))]
 pub fn seek_from(nodes: &[u32], p: usize, tile: u8) -> Result<Option<usize>, NotLent>
     ensures { search_try result ≡ step_to nodes.now p tile }
 {
-    if nodes.len() <= p {
-        return Err(NotLent);
-    }
-    let arc = Node24(nodes[p]).arc_index() as usize;
+    let arc = Node24(lent(nodes, p)?).arc_index() as usize;
     if arc == 0 {
         return Ok(None);
     }
@@ -82,14 +79,11 @@ impl<'a> Numbered<'a> {
     }
 
     // The same from place p.
-    #[tactic(auto, unfolding(crate::specs::Walks::passed_from, crate::specs::Steps::lent))]
+    #[tactic(auto, unfolding(crate::specs::Walks::passed_from))]
     fn pass_from(self, p: usize, tile: u8) -> Result<Option<Passed>, LookupRefusal>
         ensures { passed_try result ≡ passed_from self.entry.nodes.now self.entry.counts.now p tile }
     {
-        if self.nodes.len() <= p {
-            return Err(LookupRefusal::NotLent);
-        }
-        self.pass_after(self.nodes[p], tile)
+        self.pass_after(lent(self.nodes, p)?, tile)
     }
 }
 

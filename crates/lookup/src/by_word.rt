@@ -7,7 +7,7 @@ ghost use Rattle.lookup.specs.Said.{passed_try, said_index, said_number};
 
 use crate::by_tile::{Numbered, Passed};
 use crate::refusals::LookupRefusal;
-use crate::run::sum;
+use crate::run::{lent, sum};
 use graph::COUNT_LIMIT;
 use node::Node24;
 
@@ -25,16 +25,14 @@ fn number_ending(v: u32, idx: u32) -> Option<u32>
 
 impl<'a> Numbered<'a> {
     // The first tile of a word, in the run that begins at the start itself, whose count must be lent, whatever the tile.
-    #[tactic(auto, unfolding(crate::specs::Walks::passed_first, crate::specs::Steps::lent))]
+    #[tactic(auto, unfolding(crate::specs::Walks::passed_first))]
     fn pass_first(self, start: usize, tile: u8) -> Result<Option<Passed>, LookupRefusal>
         ensures { passed_try result ≡ passed_first self.entry.nodes.now self.entry.counts.now start tile }
     {
         if start == 0 {
             return Ok(None);
         }
-        if self.counts.len() <= start {
-            return Err(LookupRefusal::NotLent);
-        }
+        lent(self.counts, start)?;
         self.pass_to(start, tile)
     }
 
@@ -60,13 +58,14 @@ impl<'a> Numbered<'a> {
     fn index_of_word(self, start: usize, word: &[u8]) -> Result<Option<u32>, LookupRefusal>
         ensures { said_index result ≡ index_of_word count_limit self.entry.nodes.now self.entry.counts.now start word.now }
     {
-        let Some((&tile, tiles)) = word.split_first() else {
+        // By `split_first` a call takes a tenth longer.
+        if word.is_empty() {
+            return Ok(None);
+        }
+        let Some(Passed { node, before }) = self.pass_first(start, word[0])? else {
             return Ok(None);
         };
-        let Some(Passed { node, before }) = self.pass_first(start, tile)? else {
-            return Ok(None);
-        };
-        self.index_from(self.nodes[node], before, tiles)
+        self.index_from(self.nodes[node], before, &word[1..])
     }
 }
 

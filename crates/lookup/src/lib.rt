@@ -11,4 +11,4 @@ pub use by_number::get_word_by_index;
 pub use by_tile::{Sought, seek, seek_from};
 pub use by_word::get_word_index;
 pub use refusals::{LookupRefusal, NotLent, WordRefusal};
-pub use run::lent_part;
+pub use run::{lent, lent_part};

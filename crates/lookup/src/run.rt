@@ -1,9 +1,9 @@
 // The run that begins at a node, and what is lent.
 ghost use Rattle.std.specs.Prelude.{◌≡◌, ◌≤◌, drop};
 ghost use Rattle.graph.specs.Counting.{count_limit};
-ghost use Rattle.lookup.specs.Steps.{lent_part, sum, difference};
+ghost use Rattle.lookup.specs.Steps.{lent_part, lent, sum, difference};
 ghost use Rattle.lookup.specs.Walks.{find_in, words_between};
-ghost use Rattle.lookup.specs.Said.{search_try, between_try};
+ghost use Rattle.lookup.specs.Said.{lent_try, search_try, between_try};
 
 use crate::refusals::{LookupRefusal, NotLent};
 use node::Node24;
@@ -14,6 +14,14 @@ pub fn lent_part(list: &[u32]) -> &[u32]
 {
     let end: usize = 4294967296;
     if end < list.len() { &list[..end] } else { list }
+}
+
+// What stands at a place, if it is lent.
+#[tactic(auto, unfolding(crate::specs::Steps::lent))]
+pub fn lent(list: &[u32], i: usize) -> Result<u32, NotLent>
+    ensures { lent_try result ≡ lent list.now i }
+{
+    list.get(i).copied().ok_or(NotLent)
 }
 
 // The first node with the tile in the run from p.
@@ -53,8 +61,6 @@ pub(crate) fn words_between(counts: &[u32], p: usize, q: usize) -> Result<u32, L
     requires { p ≤ q }
     ensures { between_try result ≡ words_between counts.now p q }
 {
-    if counts.len() <= q {
-        return Err(LookupRefusal::NotLent);
-    }
-    difference(counts[p], counts[q])
+    let other = lent(counts, q)?;
+    difference(counts[p], other)
 }

@@ -7,7 +7,6 @@ ghost use Rattle.lxd_file.specs.Row.{lxd_checks, to_lxd};
 ghost use Rattle.flat.specs.FlatFiles.{format_numbered, file_of, file_written, flat_file};
 
 use flat::{FlatFile, flat_lxd, flat_macondo, format_numbered};
-use macondo::Macondo;
 
 // Writes the words of a graph as a Macondo file.
 pub fn machirsun_to_macondo(

@@ -31,11 +31,9 @@ pub fn machirsun_begin(announced: usize, layout: u32, nodes: &[u32]) -> FlatBegu
     ensures flat { result ≡ flat_begun (begun_of result) }
 {
     let begun = Loader::begin(announced, layout_of(layout), nodes);
-    let answer = begun.answer;
-    let state = begun.loader;
     FlatBegun {
-        refusal: begin_refusal(answer),
-        loader: flat_loader(state),
+        refusal: begin_refusal(begun.answer),
+        loader: flat_loader(begun.loader),
     }
 }
 
@@ -45,15 +43,13 @@ pub fn machirsun_feed(loader: FlatLoader, piece: &[u8], nodes: &mut [u32]) -> Fl
     ensures flat { result ≡ flat_fed (fed_of result nodes.new) }
 {
     let fed = state_of(loader).feed(piece, nodes);
-    let answer = fed.answer;
-    let state = fed.loader;
-    let flat = flat_feed(answer);
+    let flat = flat_feed(fed.answer);
     FlatFed {
         refusal: flat.refusal,
         arc: flat.arc,
         node: flat.node,
         tile: flat.tile,
-        loader: flat_loader(state),
+        loader: flat_loader(fed.loader),
     }
 }
 
@@ -81,12 +77,9 @@ pub fn machirsun_load_in_pieces(
 {
     let read = layout_of(layout);
     let loaded = pieces::load_in_pieces(announced, read, bytes, cuts, answers, nodes);
-    let begun = loaded.begun;
-    let state = loaded.loader;
-    let finished = loaded.finished;
     FlatLoaded {
-        begun: begin_refusal(begun),
-        loader: flat_loader(state),
-        finished: flat_finished(finished),
+        begun: begin_refusal(loaded.begun),
+        loader: flat_loader(loaded.loader),
+        finished: flat_finished(loaded.finished),
     }
 }

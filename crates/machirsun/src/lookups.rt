@@ -6,7 +6,7 @@ ghost use Rattle.lookup.specs.WordsBefore.{NamesBefore};
 ghost use Rattle.cursor.specs.RunSteps.{moves};
 ghost use Rattle.flat.specs.FlatLookups.{sought_of, flat_sought, made_at, cursor_of, flat_cursor, index_of, flat_index, FlatWordPut};
 
-use cursor::Stepped;
+use answers::Refuses;
 use flat::{FlatCursor, FlatIndex, FlatSought, FlatWord, flat_index, flat_sought, flat_word};
 
 // The node with the tile in the run that the arc of a node leads to, and how many words of the run come before it.
@@ -19,20 +19,17 @@ pub fn machirsun_seek(nodes: &[u32], counts: &[u32], place: u32, tile: u8) -> Fl
 }
 
 // A cursor at a node. At one that is not lent it is refused, and so is each step from it.
+#[tactic(auto, unfolding(flat::specs::FlatLookups::made_at, flat::specs::FlatLookups::made_in))]
 pub fn machirsun_cursor_at(nodes: &[u32], at: u32) -> FlatCursor
     ensures answer { cursor_of result ≡ made_at nodes.now at }
     ensures flat { result ≡ flat_cursor (cursor_of result) }
 {
-    let lent = lookup::lent_part(nodes);
-    if lent.len() <= at as usize {
-        return FlatCursor {
-            refusal: 14,
-            done: false,
-            at,
-        };
-    }
+    let refusal = match lookup::lent(lookup::lent_part(nodes), at as usize) {
+        Ok(_) => 0,
+        Err(why) => why.number(),
+    };
     FlatCursor {
-        refusal: 0,
+        refusal,
         done: false,
         at,
     }
@@ -44,21 +41,15 @@ pub fn machirsun_cursor_step(nodes: &[u32], at: u32) -> FlatCursor
     ensures flat { result ≡ flat_cursor (cursor_of result) }
 {
     let moved = cursor::step_once(nodes, at);
-    let answer = moved.answer;
     let at = moved.at;
-    match answer {
-        Stepped::To(_) => FlatCursor {
+    match moved.answer {
+        Ok(next) => FlatCursor {
             refusal: 0,
-            done: false,
+            done: next.is_none(),
             at,
         },
-        Stepped::Done => FlatCursor {
-            refusal: 0,
-            done: true,
-            at,
-        },
-        Stepped::NotLent => FlatCursor {
-            refusal: 14,
+        Err(why) => FlatCursor {
+            refusal: why.number(),
             done: false,
             at,
         },

@@ -11,11 +11,12 @@ use Rattle.export.specs.WrittenLaws.{written_refused, written-past}
 use Rattle.macondo_file.specs.File.{Format, macondo_file}
 use Rattle.macondo_file.specs.Row.{macondo_checks, macondo_walk_row, macondo_row, to_macondo}
 use Rattle.macondo_file.specs.RowLaws.{MacondoChecked}
-use Rattle.macondo.specs.declared.Macondo.{Macondo}
+use Rattle.std.specs.Prelude.{Result}
+use Rattle.macondo.specs.declared.MacondoRefusal.{MacondoRefusal}
 use Rattle.macondo.specs.Said.{said_macondo, macondo_written_as}
 
 -- ---- by the checks before the walk, and by those of the walk
-module _ (g : Graph) (labels name : List ℕ) (f : Format) (lent_work : ℕ) (lent : List ℕ) (r : Macondo) where
+module _ (g : Graph) (labels name : List ℕ) (f : Format) (lent_work : ℕ) (lent : List ℕ) (r : Result ℕ MacondoRefusal) where
   abbrev checks : Row
   checks = macondo_checks g labels name lent_work
 

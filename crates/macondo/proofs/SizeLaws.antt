@@ -4,7 +4,7 @@ use mathlib.Core.List.{List}
 use Prim.Native.Nat.{ℕ, ◌+◌, ◌-◌, ◌*◌, ◌^◌, ◌≤◌, ◌<◌}
 use native.Mathlib.Omega.{arith}
 use borrow.Author.Tests.{lt-ltb, le-ltb}
-use lib.ListN.{length, take, drop}
+use lib.ListN.{length, drop}
 use lib.Seq.{sets}
 use Rattle.answers.specs.Answers.{Row, first_of}
 use Rattle.answers.specs.RowLaws.{row-refuses, row-passes, row_ends}
@@ -18,7 +18,8 @@ use Rattle.macondo_file.specs.Row.{macondo_walk_row}
 use Rattle.macondo_file.specs.RowLaws.{MacondoReady}
 use Rattle.letter_sets.specs.Letters.{Ranks}
 use Rattle.macondo_writing.specs.declared.tables.SectionCounts.{SectionCounts}
-use Rattle.macondo.specs.declared.Macondo.TheVariants as M
+use Rattle.std.specs.Prelude.{Ok, Err}
+use Rattle.macondo.specs.declared.MacondoRefusal.TheVariants as M
 use Rattle.macondo.specs.Said.{macondo_written_as, written_past}
 use Rattle.macondo_writing.specs.FileTables.{file_in}
 use Rattle.macondo.specs.BlocksHeld.{BlocksHeld}
@@ -31,7 +32,7 @@ module _ (g : Graph) (labels name : List ℕ) (f : Format) (lent : List ℕ) whe
 
 -- by the blocks
 module _ {g : Graph} {labels : List ℕ} {f : Format} {w : List ℕ} {t : BlockTally} (b : BlocksHeld g labels f w t) (name lent : List ℕ) where
-  pub too_many : 16777216 < t.nodes → macondo_written_as M.TooManyNodes lent ≡ written_past 2 g labels name f lent
+  pub too_many : 16777216 < t.nodes → macondo_written_as (Err M.TooManyNodes) lent ≡ written_past 2 g labels name f lent
   too_many h =
       let n = nodes-count b in
       refused_by (sizes g labels name f lent) (macondo_file g labels f name) lent
@@ -47,16 +48,16 @@ module _ {g : Graph} {labels : List ℕ} (c : MacondoReady g labels) (f : Format
   length-is : n ≡ length (macondo_file g labels f name)
   length-is = let z = file-size-is c f t name in omega arith
 
-  pub too_short : length lent < n → macondo_written_as M.FileTooShort lent ≡ written_past 2 g labels name f lent
+  pub too_short : length lent < n → macondo_written_as (Err M.FileTooShort) lent ≡ written_past 2 g labels name f lent
   too_short h =
       let l = length-is in
       refused_by (sizes g labels name f lent) (macondo_file g labels f name) lent
       (many-passed t.first name lent few ∙ row-refuses _ _ _ (lt-ltb (length lent) (length (macondo_file g labels f name)) (omega arith)))
 
   pub all-written : (magic : ℕ) → big_endian 4 magic ≡ (marks f).magic → (ranks : List ℕ) → Ranks labels ranks
-      → (l : List ℕ) → take (length labels - 1) l ≡ letters labels
+      → (l : List ℕ) → l ≡ letters labels
       → n ≤ length lent → {after : List ℕ} → after ≡ sets lent 0 (file_in magic name g labels l ranks w k)
-      → macondo_written_as (M.Written n) after ≡ written_past 2 g labels name f lent
+      → macondo_written_as (Ok n) after ≡ written_past 2 g labels name f lent
   all-written magic m ranks ranked l e room s =
       let z = length-is in
       accepted-by (sizes g labels name f lent) (macondo_file g labels f name) lent n

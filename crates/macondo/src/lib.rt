@@ -7,11 +7,13 @@ mod walk;
 ghost use Rattle.std.specs.Prelude.{◌≡◌, ◌*◌, length};
 ghost use Rattle.graph.specs.Lent.{WorkKept};
 ghost use Rattle.macondo_file.specs.Row.{macondo_checks, to_macondo};
-ghost use Rattle.macondo.specs.Said.{format_of, macondo_written_as};
+ghost use Rattle.macondo.specs.Said.{format_of, macondo_refusal, macondo_written_as};
+ghost use Rattle.macondo.specs.declared.MacondoRefusal.TheVariants as M;
 
-use checks::descends;
-use export::lacks_label;
-use graph::GraphCheck;
+use answers::Refuses;
+use checks::check;
+use graph::GraphRefusal;
+use macondo_blocks::TooDeep;
 use walk::write_checked;
 
 #[derive(Clone, Copy)]
@@ -20,12 +22,10 @@ pub enum MacondoFormat {
     Gaddag,
 }
 
-#[derive(Clone, Copy)]
-pub enum Macondo {
-    Written(usize),
-    WrongSize,
-    ArcPastEnd(u32),
-    NoEnd,
+// Why no file is written.
+#[derive(Clone, Copy, Debug, PartialEq, Eq)]
+pub enum MacondoRefusal {
+    Graph(GraphRefusal),
     LabelCount,
     NameTooLong,
     NoLabel,
@@ -37,8 +37,42 @@ pub enum Macondo {
     FileTooShort,
 }
 
-// Writes the words of a graph as a Macondo file; labels are one number a tile, the blank's first. The work list is free afterwards as far
-// as 8 numbers a node.
+impl Refuses for MacondoRefusal {
+    ghost refusal = { macondo_refusal };
+
+    fn number(&self) -> u32 {
+        match self {
+            MacondoRefusal::Graph(why) => why.number(),
+            MacondoRefusal::LabelCount => 18,
+            MacondoRefusal::NameTooLong => 19,
+            MacondoRefusal::NoLabel => 21,
+            MacondoRefusal::NotAscending => 24,
+            MacondoRefusal::WorkTooShort | MacondoRefusal::FileTooShort => 11,
+            MacondoRefusal::ChainTooLong => 22,
+            MacondoRefusal::NotOneCodePoint => 23,
+            MacondoRefusal::TooManyNodes => 25,
+        }
+    }
+}
+
+impl From<GraphRefusal> for MacondoRefusal {
+    ghost from_gives = { λ why e. e ≡ M.Graph why };
+
+    fn from(why: GraphRefusal) -> MacondoRefusal {
+        MacondoRefusal::Graph(why)
+    }
+}
+
+impl From<TooDeep> for MacondoRefusal {
+    ghost from_gives = { λ why e. e ≡ M.ChainTooLong };
+
+    fn from(_why: TooDeep) -> MacondoRefusal {
+        MacondoRefusal::ChainTooLong
+    }
+}
+
+// Writes the words of a graph as a Macondo file; labels are one number a tile, the blank's first. Answers the file's length. The work list is
+// free afterwards as far as 8 numbers a node.
 pub fn to_macondo(
     nodes: &[u32],
     labels: &[u32],
@@ -46,43 +80,13 @@ pub fn to_macondo(
     format: MacondoFormat,
     work: &mut [u32],
     file: &mut [u8],
-) -> Macondo
+) -> Result<usize, MacondoRefusal>
     ensures written { macondo_written_as result file.new
         ≡ to_macondo nodes.now labels.now name.now (format_of format) (length work.old)
         file.old }
     ensures free { WorkKept (macondo_checks nodes.now labels.now name.now (length work.old))
         (8 * length nodes.now) work.old work.new }
 {
-    match graph::check_graph(nodes) {
-        GraphCheck::Sound => {}
-        GraphCheck::WrongSize => {
-            return Macondo::WrongSize;
-        }
-        GraphCheck::ArcPastEnd(arc_index) => {
-            return Macondo::ArcPastEnd(arc_index);
-        }
-        GraphCheck::NoEnd => {
-            return Macondo::NoEnd;
-        }
-    }
-    if labels.len() == 0 {
-        return Macondo::LabelCount;
-    }
-    if 50 < labels.len() {
-        return Macondo::LabelCount;
-    }
-    if 255 < name.len() {
-        return Macondo::NameTooLong;
-    }
-    if lacks_label(nodes, labels) {
-        return Macondo::NoLabel;
-    }
-    if descends(nodes) {
-        return Macondo::NotAscending;
-    }
-    let m = 8 * nodes.len();
-    if work.len() < m {
-        return Macondo::WorkTooShort;
-    }
-    write_checked(nodes, labels, name, format, &mut work[..m], file)
+    let g = check(nodes, labels, name, work.len())?;
+    write_checked(g, name, format, &mut work[..8 * nodes.len()], file)
 }

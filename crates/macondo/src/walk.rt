@@ -8,11 +8,11 @@ ghost use Rattle.macondo.specs.Said.{format_of, macondo_written_as, written_past
 ghost use Rattle.macondo.specs.BlocksHeld.{BlocksHeld};
 
 use crate::checks::lacks_code_point;
-use crate::{Macondo, MacondoFormat};
+use crate::{MacondoFormat, MacondoRefusal};
 use block_record::BlockTally;
 use letter_sets::number_sets;
-use macondo_blocks::{BlockNumbering, number_blocks};
-use macondo_writing::{SectionCounts, file_size, write_file};
+use macondo_blocks::{ReadyGraph, number_blocks};
+use macondo_writing::{SectionCounts, Tables, file_size, write_file};
 use node::Node24;
 
 // "The start node s is node 0's arc, for a Macondo gaddag node 1's arc"; there must be two nodes.
@@ -20,10 +20,11 @@ fn start_of(nodes: &[u32], format: MacondoFormat) -> usize
     requires { 2 ≤ length nodes.now }
     ensures { result ≡ start_node nodes.now (marks (format_of format)).root }
 {
-    match format {
-        MacondoFormat::Dawg => Node24(nodes[0]).arc_index() as usize,
-        MacondoFormat::Gaddag => Node24(nodes[1]).arc_index() as usize,
-    }
+    let root = match format {
+        MacondoFormat::Dawg => 0,
+        MacondoFormat::Gaddag => 1,
+    };
+    Node24(nodes[root]).arc_index() as usize
 }
 
 // "`cdwg` or `cgdg`", as one number.
@@ -39,67 +40,59 @@ fn magic(format: MacondoFormat) -> u32
 // Writes the file of the blocks numbered, whose record must stand in the work list, unless the file would be too large or is lent too few
 // bytes. All other checks must have passed.
 fn write_numbered(
-    nodes: &[u32],
-    labels: &[u32],
+    g: ReadyGraph,
     name: &[u8],
     format: MacondoFormat,
     work: &mut [u32],
     tally: BlockTally,
     file: &mut [u8],
-) -> Macondo
-    requires macondo_checked { MacondoChecked nodes.now labels.now name.now (length work.old) }
-    requires blocks_held { BlocksHeld nodes.now labels.now (format_of format) work.old tally }
+) -> Result<usize, MacondoRefusal>
+    requires macondo_checked { MacondoChecked g.nodes.now g.labels.now name.now (length work.old) }
+    requires blocks_held { BlocksHeld g.nodes.now g.labels.now (format_of format) work.old tally }
     ensures { macondo_written_as result file.new
-        ≡ written_past 2 nodes.now labels.now name.now (format_of format) file.old }
+        ≡ written_past 2 g.entry.nodes.now g.entry.labels.now name.now (format_of format) file.old }
 {
     if 16777216 < tally.nodes {
-        return Macondo::TooManyNodes;
+        return Err(MacondoRefusal::TooManyNodes);
     }
-    let letters = macondo_blocks::letters(labels);
-    let ranks = macondo_blocks::ranks(&letters, labels.len() - 1);
+    let list = macondo_blocks::letters(g.labels);
+    let letters = &list[..g.labels.len() - 1];
+    let ranks = macondo_blocks::ranks(letters);
     let counts = SectionCounts {
         blocks: tally.blocks,
-        sets: number_sets(nodes, &ranks, work, tally.blocks as usize),
+        sets: number_sets(g.nodes, &ranks, work, tally.blocks as usize),
         nodes: tally.nodes,
     };
-    let size = file_size(labels.len(), name.len(), counts);
+    let size = file_size(g.labels.len(), name.len(), counts);
     if file.len() < size {
-        return Macondo::FileTooShort;
+        return Err(MacondoRefusal::FileTooShort);
     }
-    write_file(
-        nodes,
-        labels,
-        name,
-        magic(format),
-        &letters,
-        &ranks,
+    let t = Tables {
+        letters,
+        ranks: &ranks,
         work,
         counts,
-        file,
-    );
-    Macondo::Written(size)
+    };
+    write_file(g, name, magic(format), t, file);
+    Ok(size)
 }
 
 // The walk and what comes after it, of graph, labels and name that have passed the checks before it.
 pub(crate) fn write_checked(
-    nodes: &[u32],
-    labels: &[u32],
+    g: ReadyGraph,
     name: &[u8],
     format: MacondoFormat,
     work: &mut [u32],
     file: &mut [u8],
-) -> Macondo
-    requires { MacondoChecked nodes.now labels.now name.now (length work.old) }
+) -> Result<usize, MacondoRefusal>
+    requires { MacondoChecked g.nodes.now g.labels.now name.now (length work.old) }
     ensures { macondo_written_as result file.new
-        ≡ written_past 0 nodes.now labels.now name.now (format_of format) file.old }
+        ≡ written_past 0 g.entry.nodes.now g.entry.labels.now name.now (format_of format) file.old }
 {
-    let s = start_of(nodes, format);
-    let found = number_blocks(nodes, labels, work, s);
-    let BlockNumbering::Done(reached) = found else {
-        return Macondo::ChainTooLong;
-    };
-    if lacks_code_point(labels) {
-        return Macondo::NotOneCodePoint;
+    let s = start_of(g.nodes, format);
+    let reached = number_blocks(g, work, s)?;
+    if lacks_code_point(g.labels) {
+        return Err(MacondoRefusal::NotOneCodePoint);
     }
-    write_numbered(nodes, labels, name, format, work, reached.tally, file)
+    write_numbered(g, name, format, work, reached.tally, file)
 }

@@ -1,16 +1,8 @@
 -- Blocks numbered one after the other: a block pushed and its arcs walked leave the record of what is met from it, and how deep it is;
 -- and every number fits.
-use mathlib.Core.Path.{◌≡◌, refl, sym, ap, ◌∙◌, subst}
-use mathlib.Core.Logic.{◌≢◌}
-use mathlib.Core.Bool.{true}
-use mathlib.Core.List.{List, [], ◌∷◌, ◌++◌, map, Memᴰ}
-use Prim.Native.Nat.{ℕ, suc, ◌+◌, ◌-◌, ◌*◌, ◌≤◌, ◌<◌, max}
-use native.Mathlib.Numerals.{add-one}
-use native.Mathlib.Omega.{arith}
-use lib.Dec.{eqb}
-use lib.ListN.{length, get_or, set, take}
-use lib.Seq.{slice, slice-cons, slice_empty, length-take-le}
-use borrow.Author.Tests.{lt-ltb, le-ltb}
+use Rattle.std.specs.Prelude.{◌≡◌, ◌≢◌, true, List, [], ◌∷◌, ◌++◌, map, ℕ, suc, ◌+◌, ◌-◌, ◌*◌, ◌≤◌, ◌<◌, max, eqb, length, get_or, set, drop, Result, Ok, Err}
+use Rattle.std.proofs.Common.{refl, sym, ap, ◌∙◌, subst, arith, add-one, lt-ltb, le-ltb, drop-cons, drop_of_length-le}
+use mathlib.Core.List.{Memᴰ}
 use Rattle.node.specs.Nodes.{kbwg, arc}
 use Rattle.graph.specs.Runs.{Graph}
 use Rattle.graph.specs.Lent.{Kept, kept_then, kept_set, kept-further, cleared-kept}
@@ -26,15 +18,10 @@ use Rattle.block_record.specs.declared.BlockTally.{BlockTally}
 use Rattle.macondo_file.specs.File.{arcs_of, children_of, size_of}
 use Rattle.macondo_file.proofs.ArcLaws.{in_children, children_in}
 use Rattle.macondo_blocks.specs.declared.blocks.Reached.{Reached}
-use Rattle.macondo_blocks.specs.declared.blocks.BlockNumbering.{BlockNumbering}
-use Rattle.macondo_blocks.specs.declared.blocks.BlockNumbering.TheVariants.{Done, TooDeep}
+use Rattle.macondo_blocks.specs.declared.blocks.TooDeep.{TooDeep}
 use Rattle.macondo_file.specs.RowLaws.{MacondoReady}
 use Rattle.macondo_blocks.specs.Blocks.{BlocksRecorded, BlocksNumbered, BlocksReached, NumberingFrom, NumberingIs}
 use Rattle.macondo_blocks.proofs.ArcCounts.{size_few, tally-few}
-
-pub size-by-arcs : (g : Graph) (labels : List ℕ) (p count : ℕ) (arcs : List ℕ) → count ≤ length arcs → take count arcs ≡ arcs_of g labels p
-    → count + 1 ≡ size_of g labels p
-size-by-arcs g labels p count arcs h e = let n = length-take-le count arcs h in let m = ap length e in omega arith
 
 -- a block put into the record, while its arcs are still to be walked
 pub record BlockOpened (g : Graph) (labels w : List ℕ) (t : BlockTally) (p : ℕ) (w' : List ℕ) (t' : BlockTally) : Type 0 where
@@ -75,13 +62,13 @@ module _ {g : Graph} {labels w : List ℕ} {t : BlockTally} (r : BlocksRecorded 
     few : t.blocks < length g
     few = holds-room r.holds p h new
 
-    pub push-fits : (size : ℕ) → size ≤ 51
+    pub push-fits : MacondoReady g labels → (size : ℕ) → size ≤ 51
         → (length g ≤ 16777216) × (length g + length g ≤ length w) × (p < length g) × (t.blocks < length g)
         × (t.nodes + size < 4294967296) × (t.nodes < 4294967295)
-    push-fits size k =
-        let m = r.ready.fit.most in
+    push-fits ready size k =
+        let m = ready.fit.most in
         let f = few in
-        let n = tally-few r.holds (size_few g labels r.ready) in
+        let n = tally-few r.holds (size_few g labels ready) in
         (m, omega (arith, r.room), h, f, omega arith, omega arith)
 
     pub opens : (w₁ w₂ : List ℕ) (t₁ : BlockTally) (size : ℕ) → size ≡ size_of g labels p → Pushed (length g) w p t size w₁ t₁
@@ -104,26 +91,24 @@ module _ {g : Graph} {labels w : List ℕ} {t : BlockTally} (r : BlocksRecorded 
 
 -- ---- the arcs of a block walked, with c runs left for it
 -- what is met once those from place i on are walked
-abbrev pub met_from : Graph → List ℕ → ℕ → List ℕ → ℕ → List ℕ → ℕ → List ℕ
-met_from g labels c arcs count seen i = each (λ s q. met eqb (children_of g labels) (c - 1) s q) seen (map (arc kbwg) (slice i count arcs))
+abbrev pub met_from : Graph → List ℕ → ℕ → List ℕ → List ℕ → ℕ → List ℕ
+met_from g labels c arcs seen i = each (λ s q. met eqb (children_of g labels) (c - 1) s q) seen (map (arc kbwg) (drop i arcs))
 
 -- those before place i are walked, from the list and the tally after the block of p itself was put in; the longest chain from what they
 -- lead to has `runs` runs
-pub record ArcWalk (g : Graph) (labels : List ℕ) (c p : ℕ) (arcs : List ℕ) (count : ℕ) (w₀ : List ℕ) (t₀ : BlockTally)
+pub record ArcWalk (g : Graph) (labels : List ℕ) (c p : ℕ) (arcs : List ℕ) (w₀ : List ℕ) (t₀ : BlockTally)
     (w : List ℕ) (t : BlockTally) (runs i : ℕ) : Type 0 where
-  pub within : i ≤ count
   pub past : Kept (3 * length g) w₀ w
   pub holds : HoldsBlocks (length g) (size_of g labels) 0 w t (order_in (length g) w t)
-  pub same : met_from g labels c arcs count (order_in (length g) w t) i ≡ met_from g labels c arcs count (order_in (length g) w₀ t₀) 0
+  pub same : met_from g labels c arcs (order_in (length g) w t) i ≡ met_from g labels c arcs (order_in (length g) w₀ t₀) 0
   pub depths : Depths g w
   pub left : NoneLeft g w₀ w
-  pub deepest : Deepest g p runs (map (arc kbwg) (slice i count arcs))
+  pub deepest : Deepest g p runs (map (arc kbwg) (drop i arcs))
   pub short : runs ≤ c - 1
 
 pub arc-walk-start : {g : Graph} {labels w : List ℕ} {t : BlockTally} {p : ℕ} {w₀ : List ℕ} {t₀ : BlockTally} → BlockOpened g labels w t p w₀ t₀
-    → {arcs : List ℕ} {count : ℕ} → take count arcs ≡ arcs_of g labels p → {c : ℕ} → ArcWalk g labels c p arcs count w₀ t₀ w₀ t₀ 0 0
+    → {arcs : List ℕ} → arcs ≡ arcs_of g labels p → {c : ℕ} → ArcWalk g labels c p arcs w₀ t₀ w₀ t₀ 0 0
 arc-walk-start {g} {labels} {p = p} o e = record {
-  within = omega arith;
   past = record { size = refl; rest = refl };
   holds = holds-here o.numbered.holds;
   same = refl;
@@ -134,29 +119,28 @@ arc-walk-start {g} {labels} {p = p} o e = record {
   short = omega arith;
 }
 
-module _ {g : Graph} {labels : List ℕ} {c p : ℕ} {arcs : List ℕ} {count : ℕ} {w₀ : List ℕ} {t₀ : BlockTally} {w : List ℕ} {t : BlockTally} {runs i : ℕ}
-    (k : ArcWalk g labels c p arcs count w₀ t₀ w t runs i) where
-  pub walk-recorded : MacondoReady g labels → 3 * length g ≤ length w₀ → BlocksRecorded g labels w t
-  walk-recorded ready room = record { ready = ready; room = omega (arith, k.past.size); holds = k.holds; depths = k.depths }
+module _ {g : Graph} {labels : List ℕ} {c p : ℕ} {arcs : List ℕ} {w₀ : List ℕ} {t₀ : BlockTally} {w : List ℕ} {t : BlockTally} {runs i : ℕ}
+    (k : ArcWalk g labels c p arcs w₀ t₀ w t runs i) where
+  pub walk-recorded : 3 * length g ≤ length w₀ → BlocksRecorded g labels w t
+  walk-recorded room = record { room = omega (arith, k.past.size); holds = k.holds; depths = k.depths }
 
   -- ---- the next arc
-  module _ (q : ℕ) (h : i < count) (fits : count ≤ length arcs) (e : q ≡ arc kbwg (get_or arcs i 0)) where
+  module _ (q : ℕ) (h : i < length arcs) (e : q ≡ arc kbwg (get_or arcs i 0)) where
     pub walk-next : (w' : List ℕ) (r : Reached) (m : ℕ) → m ≡ max runs r.runs → BlocksReached g labels w t (c - 1) q w' r
-        → ArcWalk g labels c p arcs count w₀ t₀ w' r.tally m (i + 1)
+        → ArcWalk g labels c p arcs w₀ t₀ w' r.tally m (i + 1)
     walk-next w' r m z n =
-        let on : slice i count arcs ≡ get_or arcs i 0 ∷ slice (i + 1) count arcs = rw (add-one i) (slice-cons i count arcs 0 h fits) in
+        let on : drop i arcs ≡ get_or arcs i 0 ∷ drop (i + 1) arcs = rw add-one (drop-cons arcs i 0 h) in
         record {
-          within = omega arith;
           past = kept_then k.past n.numbered.past;
           holds = holds-here n.numbered.holds;
-          same = ap (λ o. met_from g labels c arcs count o (i + 1))
+          same = ap (λ o. met_from g labels c arcs o (i + 1))
               (n.numbered.holds.order ∙ ap (met eqb (children_of g labels) (c - 1) (order_in (length g) w t)) e)
               ∙ ap (λ l. each (λ s q. met eqb (children_of g labels) (c - 1) s q) (order_in (length g) w t) (map (arc kbwg) l)) (sym on) ∙ k.same;
           depths = n.depths;
           left = λ x l f. k.left x l (n.left x l f);
-          deepest = subst (λ x. Deepest g p x (map (arc kbwg) (slice (i + 1) count arcs))) (sym z)
-              (deepest-next g p runs r.runs q (map (arc kbwg) (slice (i + 1) count arcs)) n.depth
-              (subst (Deepest g p runs) (ap (map (arc kbwg)) on ∙ ap (◌∷ map (arc kbwg) (slice (i + 1) count arcs)) (sym e)) k.deepest));
+          deepest = subst (λ x. Deepest g p x (map (arc kbwg) (drop (i + 1) arcs))) (sym z)
+              (deepest-next g p runs r.runs q (map (arc kbwg) (drop (i + 1) arcs)) n.depth
+              (subst (Deepest g p runs) (ap (map (arc kbwg)) on ∙ ap (◌∷ map (arc kbwg) (drop (i + 1) arcs)) (sym e)) k.deepest));
           short = let a = k.short in let b = n.within in omega arith;
         }
 
@@ -169,15 +153,15 @@ module _ {g : Graph} {labels : List ℕ} {c p : ℕ} {arcs : List ℕ} {count : 
     walk-below b q m = below-arc g v w p q b still-but m
 
     -- all arcs walked, and its depth put in: what is met from the block
-    module _ (r : BlocksRecorded g labels v u) (h : p < length g) (new : get_or v p 0 ≡ 0) (z : c ≢ 0) (e : take count arcs ≡ arcs_of g labels p)
-        (done : count ≤ i) where
-      none-to_come : slice i count arcs ≡ []
-      none-to_come = let at-end : i ≡ count = omega (arith, k.within) in rw at-end (slice_empty count arcs)
+    module _ (r : BlocksRecorded g labels v u) (h : p < length g) (new : get_or v p 0 ≡ 0) (z : c ≢ 0) (e : arcs ≡ arcs_of g labels p)
+        (done : length arcs ≤ i) where
+      none-to_come : drop i arcs ≡ []
+      none-to_come = drop_of_length-le arcs done
 
       all-met : order_in (length g) w t ≡ met eqb (children_of g labels) c (order_in (length g) v u) p
       all-met =
           sym (ap (λ l. each (λ s q. met eqb (children_of g labels) (c - 1) s q) (order_in (length g) w t) (map (arc kbwg) l)) none-to_come)
-          ∙ k.same ∙ ap (λ o. met_from g labels c arcs count o 0) o.numbered.holds.order
+          ∙ k.same ∙ ap (λ o. met_from g labels c arcs o 0) o.numbered.holds.order
           ∙ ap (λ l. each (λ s q. met eqb (children_of g labels) (c - 1) s q) (order_in (length g) v u ++ p ∷ []) (map (arc kbwg) l)) e
           ∙ sym (met-new (children_of g labels) c (order_in (length g) v u) p z (fresh_of r.holds p h new))
 
@@ -206,7 +190,7 @@ pub walk-deep : (g : Graph) (c p : ℕ) → c ≢ 0 → (q : ℕ) → Memᴰ q (
 walk-deep g c p z q m d = let s : c ≡ suc (c - 1) = omega arith in ap (λ x. deeper g x p) s ∙ deep-by-arc g (c - 1) p q m d
 
 -- ---- from a cleared list on
-module _ (w w' : List ℕ) {g : Graph} {labels : List ℕ} (ready : MacondoReady g labels) (room : 3 * length g ≤ length w) (e : w' ≡ cleared (length g) w) where
+module _ (w w' : List ℕ) (g : Graph) (room : 3 * length g ≤ length w) (e : w' ≡ cleared (length g) w) where
   pub clear_at : (p : ℕ) → p < length g → get_or w' p 0 ≡ 0
   clear_at p h = ap (λ l. get_or l p 0) e ∙ cleared_at (length g) w p h
 
@@ -215,10 +199,9 @@ module _ (w w' : List ℕ) {g : Graph} {labels : List ℕ} (ready : MacondoReady
       let n = length g in
       subst (Kept (3 * n) w) (sym e) (kept-further (3 * n) n w (cleared n w) (omega arith) (cleared-kept n w (omega arith)))
 
-  pub clear-recorded : (t : BlockTally) → t.blocks ≡ 0 → t.nodes ≡ 0 → BlocksRecorded g labels w' t
-  clear-recorded t b n =
+  pub clear-recorded : (labels : List ℕ) (t : BlockTally) → t.blocks ≡ 0 → t.nodes ≡ 0 → BlocksRecorded g labels w' t
+  clear-recorded labels t b n =
       record {
-        ready = ready;
         room = omega (arith, clear-past.size);
         holds = holds-here (holds-none (length g) (size_of g labels) 0 w' t clear_at b n);
         depths = (depths-none g w' clear_at).0;
@@ -227,9 +210,9 @@ module _ (w w' : List ℕ) {g : Graph} {labels : List ℕ} (ready : MacondoReady
   pub cleared-below : (p : ℕ) → Below g w' p
   cleared-below p = (depths-none g w' clear_at).1 p
 
-  pub clear-numbering : (t : BlockTally) → t.blocks ≡ 0 → (s : ℕ) (v : List ℕ) (r : BlockNumbering) → NumberingFrom g labels w' t 64 s v r
+  pub clear-numbering : (labels : List ℕ) (t : BlockTally) → t.blocks ≡ 0 → (s : ℕ) (v : List ℕ) (r : Result Reached TooDeep) → NumberingFrom g labels w' t 64 s v r
       → NumberingIs g labels s w v r
-  clear-numbering t z s v (Done r) n = (
+  clear-numbering labels t z s v (Ok r) n = (
     record {
       holds = holds_at (ap (λ o. met eqb (children_of g labels) 64 (blocks_in (length g) w' o) s) z) n.numbered.holds;
       past = kept_then clear-past n.numbered.past;
@@ -237,4 +220,4 @@ module _ (w w' : List ℕ) {g : Graph} {labels : List ℕ} (ready : MacondoReady
     n.depth,
     n.depth 64 ∙ le-ltb 64 r.runs n.within,
   )
-  clear-numbering t z s v TooDeep d = d
+  clear-numbering labels t z s v (Err e) d = d

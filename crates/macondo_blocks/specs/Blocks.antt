@@ -1,6 +1,5 @@
 -- What the Macondo writer computes before it writes, named for the contracts of this crate.
-use Rattle.std.specs.Prelude.{◌≡◌, true, false, List, [], ◌∷◌, ◌++◌, ℕ, ◌*◌, ◌≤◌, ◌<◌, eqb, length, take}
-use Rattle.std.proofs.Math.Seq.{slice}
+use Rattle.std.specs.Prelude.{◌≡◌, true, false, List, [], ◌∷◌, ◌++◌, ℕ, ◌*◌, ◌≤◌, ◌<◌, eqb, length, take, drop, Result, Ok, Err}
 use Rattle.laws.specs.Lists.{All, filtered}
 use Rattle.laws.specs.Sorting.{inserted, inserted_all}
 use Rattle.node.specs.Nodes.{kbwg, tile}
@@ -13,19 +12,17 @@ use Rattle.block_record.specs.Depths.{Depth, Depths, NoneLeft}
 use Rattle.block_record.specs.declared.BlockTally.{BlockTally}
 use Rattle.macondo_file.specs.Alphabet.{by_tile}
 use Rattle.macondo_file.specs.File.{children_of, size_of, blocks_from}
-use Rattle.macondo_file.specs.RowLaws.{MacondoReady}
 use Rattle.macondo_blocks.specs.declared.blocks.Reached.{Reached}
-use Rattle.macondo_blocks.specs.declared.blocks.BlockNumbering.{BlockNumbering}
-use Rattle.macondo_blocks.specs.declared.blocks.BlockNumbering.TheVariants.{Done, TooDeep}
+use Rattle.macondo_blocks.specs.declared.blocks.TooDeep.{TooDeep}
 
 -- every node's tile has a label
 abbrev pub AllLabelled : List ℕ → List ℕ → Type 0
 AllLabelled labels vs = All (λ v. tile kbwg v < length labels) vs
 
--- where an entry goes among the first `count` of the list: the place of the first that it precedes, or `count`
-pub record Slot (labels list : List ℕ) (count v r : ℕ) : Type 0 where
-  pub within : r ≤ count
-  pub here : inserted (by_tile labels) v (take count list) ≡ take r list ++ v ∷ slice r count list
+-- where an entry goes in a list: the place of the first that it precedes, or the length
+pub record Slot (labels list : List ℕ) (v r : ℕ) : Type 0 where
+  pub within : r ≤ length list
+  pub here : inserted (by_tile labels) v list ≡ take r list ++ v ∷ drop r list
 
 -- a node put among the arcs in order, if it has an arc
 abbrev pub with_arc : List ℕ → List ℕ → ℕ → List ℕ
@@ -33,7 +30,6 @@ with_arc labels arcs v = inserted_all (by_tile labels) arcs (filtered has_arc (v
 
 -- the work list has room for the record and the depths; it holds the blocks numbered so far, and how deep they are
 pub record BlocksRecorded (g : Graph) (labels : List ℕ) (w : List ℕ) (t : BlockTally) : Type 0 where
-  pub ready : MacondoReady g labels
   pub room : 3 * length g ≤ length w
   pub holds : HoldsBlocks (length g) (size_of g labels) 0 w t (order_in (length g) w t)
   pub depths : Depths g w
@@ -53,12 +49,12 @@ pub record BlocksReached (g : Graph) (labels w : List ℕ) (t : BlockTally) (c p
   pub left : NoneLeft g w w'
 
 -- what numbering from a block answers: where it ends, or that a chain from the block has more than c runs
-abbrev pub NumberingFrom : Graph → List ℕ → List ℕ → BlockTally → ℕ → ℕ → List ℕ → BlockNumbering → Type 0
-NumberingFrom g labels w t c p w' (Done r) = BlocksReached g labels w t c p w' r
-NumberingFrom g labels w t c p w' TooDeep = deeper g c p ≡ true
+abbrev pub NumberingFrom : Graph → List ℕ → List ℕ → BlockTally → ℕ → ℕ → List ℕ → Result Reached TooDeep → Type 0
+NumberingFrom g labels w t c p w' (Ok r) = BlocksReached g labels w t c p w' r
+NumberingFrom g labels w t c p w' (Err e) = deeper g c p ≡ true
 
 -- the blocks of a file whose start is node s: "over 64 runs, each reached by an arc of the one before, from the start", or the record of
 -- the blocks and the runs in the longest chain
-abbrev pub NumberingIs : Graph → List ℕ → ℕ → List ℕ → List ℕ → BlockNumbering → Type 0
-NumberingIs g labels s w w' (Done r) = BlocksNumbered g labels w w' r.tally (blocks_from g labels s) × Depth g s r.runs × (deeper g 64 s ≡ false)
-NumberingIs g labels s w w' TooDeep = deeper g 64 s ≡ true
+abbrev pub NumberingIs : Graph → List ℕ → ℕ → List ℕ → List ℕ → Result Reached TooDeep → Type 0
+NumberingIs g labels s w w' (Ok r) = BlocksNumbered g labels w w' r.tally (blocks_from g labels s) × Depth g s r.runs × (deeper g 64 s ≡ false)
+NumberingIs g labels s w w' (Err e) = deeper g 64 s ≡ true

@@ -1,4 +1,3 @@
 pub mod Blocks
-pub mod EntriesLaws
 pub mod ArcsLaws
 pub mod LettersLaws

@@ -2,12 +2,11 @@
 // the work list.
 ghost use Rattle.std.specs.Prelude.{◌≡◌, ◌*◌, ◌≤◌, ◌<◌, length, get_or};
 ghost use Rattle.block_record.specs.Depths.{Below};
-ghost use Rattle.macondo_file.specs.RowLaws.{MacondoReady};
 ghost use Rattle.macondo_blocks.specs.Blocks.{BlocksRecorded, NumberingIs, NumberingFrom};
 
 use crate::arcs::arcs_of;
-use base::{clear, larger};
-use block_record::{BlockTally, Place, depth_of, keep_depth, place_of, push_block};
+use crate::ready::ReadyGraph;
+use block_record::{BlockTally, depth_of, keep_depth, place_of, push_block};
 use node::Node24;
 
 // The tally after a block and what can be reached from it are numbered, and the runs in the longest chain from the block.
@@ -17,94 +16,79 @@ pub struct Reached {
     pub runs: u32,
 }
 
-// What numbering comes to: an end, or a chain with more runs than are left.
-#[derive(Clone, Copy)]
-pub enum BlockNumbering {
-    Done(Reached),
-    TooDeep,
-}
+// A chain with more runs than are left.
+#[derive(Clone, Copy, Debug, PartialEq, Eq)]
+pub struct TooDeep;
 
 // Numbers the block of node `child`, and what can be reached from it, unless it is numbered already. The work list must hold the
 // record of the blocks numbered so far, and their depths; and every chain from `child` must go on one from each block that is being
 // followed, so that one of these, met again, closes a loop.
 #[cycle(number_arc_number_run)]
 fn number_arc(
-    nodes: &[u32],
-    labels: &[u32],
+    g: ReadyGraph,
     work: &mut [u32],
     child: usize,
     t: BlockTally,
     chain_left: u32,
-) -> BlockNumbering
-    requires blocks_recorded { BlocksRecorded nodes.now labels.now work.old t }
-    requires child_in_bounds { (child < length nodes.now) × Below nodes.now work.old child }
-    ensures { NumberingFrom nodes.now labels.now work.old t chain_left child work.new result }
+) -> Result<Reached, TooDeep>
+    requires blocks_recorded { BlocksRecorded g.nodes.now g.labels.now work.old t }
+    requires child_in_bounds { (child < length g.nodes.now) × Below g.nodes.now work.old child }
+    ensures { NumberingFrom g.entry.nodes.now g.entry.labels.now work.old t chain_left child work.new result }
 {
-    let Place::Numbered(_) = place_of(work, child) else {
-        return number_run(nodes, labels, work, child, t, chain_left);
-    };
-    let runs = depth_of(nodes.len(), work, child);
-    if runs == 0 {
-        return BlockNumbering::TooDeep;
+    if place_of(work, child).is_none() {
+        return number_run(g, work, child, t, chain_left);
     }
-    if chain_left < runs {
-        return BlockNumbering::TooDeep;
+    let runs = depth_of(g.nodes.len(), work, child);
+    if runs == 0 || chain_left < runs {
+        return Err(TooDeep);
     }
-    BlockNumbering::Done(Reached { tally: t, runs })
+    Ok(Reached { tally: t, runs })
 }
 
 // Numbers the block of node p, which must not be numbered yet, and then what its arcs lead to. While they are followed its depth is 0.
 #[cycle(number_arc_number_run)]
 fn number_run(
-    nodes: &[u32],
-    labels: &[u32],
+    g: ReadyGraph,
     work: &mut [u32],
     p: usize,
     t: BlockTally,
     chain_left: u32,
-) -> BlockNumbering
-    requires blocks_recorded { BlocksRecorded nodes.now labels.now work.old t }
-    requires p_in_bounds { (p < length nodes.now) × Below nodes.now work.old p }
+) -> Result<Reached, TooDeep>
+    requires blocks_recorded { BlocksRecorded g.nodes.now g.labels.now work.old t }
+    requires p_in_bounds { (p < length g.nodes.now) × Below g.nodes.now work.old p }
     requires p_value { get_or work.old p 0 ≡ 0 }
-    ensures { NumberingFrom nodes.now labels.now work.old t chain_left p work.new result }
+    ensures { NumberingFrom g.entry.nodes.now g.entry.labels.now work.old t chain_left p work.new result }
 {
     if chain_left == 0 {
-        return BlockNumbering::TooDeep;
+        return Err(TooDeep);
     }
-    let mut arcs = [0u32; 64];
-    let count = arcs_of(nodes, labels, p, &mut arcs);
-    let mut sum = push_block(nodes.len(), work, p, t, count as u32 + 1);
-    keep_depth(nodes.len(), work, p, 0);
+    let mut list = [0u32; 64];
+    let arcs = arcs_of(g, p, &mut list);
+    let mut sum = push_block(g.nodes.len(), work, p, t, arcs.len() as u32 + 1);
+    keep_depth(g.nodes.len(), work, p, 0);
     let mut runs: u32 = 0;
-    let mut i = 0;
-    while i < count {
-        let child = Node24(arcs[i]).arc_index() as usize;
-        let found = number_arc(nodes, labels, work, child, sum, chain_left - 1);
-        let BlockNumbering::Done(reached) = found else {
-            return BlockNumbering::TooDeep;
-        };
+    for arc in arcs {
+        let child = Node24(*arc).arc_index() as usize;
+        let reached = number_arc(g, work, child, sum, chain_left - 1)?;
         sum = reached.tally;
-        runs = larger(runs, reached.runs);
-        i += 1;
+        runs = runs.max(reached.runs);
     }
-    keep_depth(nodes.len(), work, p, runs + 1);
-    BlockNumbering::Done(Reached {
+    keep_depth(g.nodes.len(), work, p, runs + 1);
+    Ok(Reached {
         tally: sum,
         runs: runs + 1,
     })
 }
 
 // Numbers the blocks from node s on, unless a chain from it has more than 64 runs, over a work list that has room for the record and
-// the depths, three numbers a node. The graph must have passed the checks before the walk.
-pub fn number_blocks(nodes: &[u32], labels: &[u32], work: &mut [u32], s: usize) -> BlockNumbering
-    requires macondo_ready { MacondoReady nodes.now labels.now }
-    requires s_in_bounds { (s < length nodes.now) × (3 * length nodes.now ≤ length work.old) }
-    ensures { NumberingIs nodes.now labels.now s work.old work.new result }
+// the depths, three numbers a node.
+pub fn number_blocks(g: ReadyGraph, work: &mut [u32], s: usize) -> Result<Reached, TooDeep>
+    requires { (s < length g.nodes.now) × (3 * length g.nodes.now ≤ length work.old) }
+    ensures { NumberingIs g.entry.nodes.now g.entry.labels.now s work.old work.new result }
 {
-    clear(work, nodes.len());
+    work[..g.nodes.len()].fill(0);
     number_run(
-        nodes,
-        labels,
+        g,
         work,
         s,
         BlockTally {

@@ -5,8 +5,10 @@
 mod alphabet;
 mod arcs;
 mod blocks;
+mod ready;
 mod sorting;
 
 pub use alphabet::{letters, ranks};
 pub use arcs::arcs_of;
-pub use blocks::{BlockNumbering, Reached, number_blocks};
+pub use blocks::{Reached, TooDeep, number_blocks};
+pub use ready::ReadyGraph;

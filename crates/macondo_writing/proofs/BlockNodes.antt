@@ -4,49 +4,25 @@ use mathlib.Core.List.{List, [], ◌++◌, map}
 use Prim.Native.Nat.{ℕ, suc, ◌+◌, ◌-◌, ◌*◌, ◌≤◌, ◌<◌}
 use native.Mathlib.Numerals.{add-one}
 use native.Mathlib.Omega.{arith}
-use lib.ListN.{length, get_or, take, length-map}
-use lib.Seq.{sets, length-take-le}
+use lib.ListN.{length, get_or, length-map}
+use lib.Seq.{sets}
 use Rattle.laws.specs.ListWrites.{sets_append}
 use Rattle.endian.specs.Bytes.{big_endian, big_endians}
 use Rattle.endian.proofs.BigLaws.{bigs_length, bigs_append}
 use Rattle.endian.specs.Putting.{Putting, put-start, put-room, put_next, put-done}
-use Rattle.node.specs.Nodes.{kbwg, tile, arc}
 use Rattle.graph.specs.Runs.{Graph}
-use Rattle.block_record.specs.Record.{place_at}
-use Rattle.block_record.specs.RecordLaws.{place_none, place-value}
-use Rattle.block_record.specs.declared.Place.TheVariants.{Numbered, Unnumbered}
 use Rattle.macondo_file.specs.File.{arcs_of}
 use Rattle.macondo_writing.specs.FileTables.{arc_in, block_in, block_nodes_from}
 
--- ---- an arc, by what the record of blocks says of its child
-module _ (ranks w : List ℕ) (v t a : ℕ) (tiled : t ≡ tile kbwg v) (leads : a ≡ arc kbwg v) where
-  pub arc_unnumbered : place_at w a ≡ Unnumbered → get_or ranks t 0 * 16777216 ≡ arc_in ranks w v
-  unfolding arc_in
-  arc_unnumbered e =
-      let z : get_or w (arc kbwg v) 0 ≡ 0 = rw leads at (place_none w a e) in
-      rw (z, ← tiled) (omega arith)
-
-  pub arc-numbered : (at : ℕ) → place_at w a ≡ Numbered at → get_or ranks t 0 * 16777216 + at ≡ arc_in ranks w v
-  unfolding arc_in
-  arc-numbered at e =
-      let z : get_or w (arc kbwg v) 0 ≡ at + 1 = rw leads at (place-value w a at e) in
-      let y : get_or w (arc kbwg v) 0 - 1 ≡ at = omega arith in
-      rw (y, ← tiled)
-
-  pub number-low : (at : ℕ) → place_at w a ≡ Numbered at → get_or w (arc kbwg v) 0 ≤ 16777216 → at ≤ 16777216
-  number-low at e h = let z : get_or w (arc kbwg v) 0 ≡ at + 1 = rw leads at (place-value w a at e) in omega arith
-
 -- ---- a block: the head, and the arcs after it
-pub block-stored : (ranks w arcs before : List ℕ) (count set at : ℕ) {headed after : List ℕ} → count ≤ length arcs
-    → headed ≡ sets before at (big_endian 4 (count * 16777216 + set))
-    → after ≡ sets headed (at + 4) (big_endians 4 (map (arc_in ranks w) (take count arcs)))
-    → after ≡ sets before at (big_endians 4 (block_in ranks w set (take count arcs)))
+pub block-stored : (ranks w arcs before : List ℕ) (set at : ℕ) {headed after : List ℕ}
+    → headed ≡ sets before at (big_endian 4 (length arcs * 16777216 + set))
+    → after ≡ sets headed (at + 4) (big_endians 4 (map (arc_in ranks w) arcs))
+    → after ≡ sets before at (big_endians 4 (block_in ranks w set arcs))
 unfolding block_in big_endians
-block-stored ranks w arcs before count set at room h a =
-    let l = take count arcs in
-    let e : count ≡ length l = sym (length-take-le count arcs room) in
-    a ∙ ap (λ b. sets b (at + 4) (big_endians 4 (map (arc_in ranks w) l))) (h ∙ ap (λ n. sets before at (big_endian 4 (n * 16777216 + set))) e)
-    ∙ sym (sets_append before at (big_endian 4 (length l * 16777216 + set)) (big_endians 4 (map (arc_in ranks w) l)))
+block-stored ranks w arcs before set at h a =
+    a ∙ ap (λ b. sets b (at + 4) (big_endians 4 (map (arc_in ranks w) arcs))) h
+    ∙ sym (sets_append before at (big_endian 4 (length arcs * 16777216 + set)) (big_endians 4 (map (arc_in ranks w) arcs)))
 
 -- ---- blocks written one by one: those from block j on, written where they go, give all of them written at once
 module _ (g : Graph) (labels ranks w : List ℕ) (blocks : ℕ) where
@@ -78,30 +54,29 @@ module _ (g : Graph) (labels ranks w : List ℕ) (blocks : ℕ) where
         rw e (put-start (big_endians 4 (block_nodes_from g labels ranks w 0 blocks)) before at)
 
     module _ (j : ℕ) {now : List ℕ} {p : ℕ} (h : BlocksFrom j now p) where
-      module _ (l : j < blocks) (count : ℕ) (arcs : List ℕ) (fits : count ≤ length arcs) (e : take count arcs ≡ arcs_of g labels (get_or w (length g + j) 0)) where
-        piece : big_endians 4 (left j) ≡ big_endians 4 (nodes_of j (take count arcs)) ++ big_endians 4 (left (j + 1))
+      module _ (l : j < blocks) (arcs : List ℕ) (e : arcs ≡ arcs_of g labels (get_or w (length g + j) 0)) where
+        piece : big_endians 4 (left j) ≡ big_endians 4 (nodes_of j arcs) ++ big_endians 4 (left (j + 1))
         piece =
             ap (big_endians 4) (left-next j l ∙ ap (λ a. nodes_of j a ++ left (j + 1)) (sym e))
-            ∙ bigs_append 4 (nodes_of j (take count arcs)) (left (j + 1))
+            ∙ bigs_append 4 (nodes_of j arcs) (left (j + 1))
 
-        size : length (big_endians 4 (nodes_of j (take count arcs))) ≡ 4 + 4 * count
+        size : length (big_endians 4 (nodes_of j arcs)) ≡ 4 + 4 * length arcs
         unfolding block_in
         size =
-            let a = bigs_length 4 (nodes_of j (take count arcs)) in
-            let b = length-map (take count arcs) (arc_in ranks w) in
-            let d = length-take-le count arcs fits in
+            let a = bigs_length 4 (nodes_of j arcs) in
+            let b = length-map arcs (arc_in ranks w) in
             omega arith
 
-        pub block-fits : at + 4 * length (block_nodes_from g labels ranks w 0 blocks) ≤ length before → p + (4 + 4 * count) ≤ length now
+        pub block-fits : at + 4 * length (block_nodes_from g labels ranks w 0 blocks) ≤ length before → p + (4 + 4 * length arcs) ≤ length now
         block-fits room =
             let a = bigs_length 4 (block_nodes_from g labels ranks w 0 blocks) in
             let b = size in
-            let r = put-room h (big_endians 4 (nodes_of j (take count arcs))) (big_endians 4 (left (j + 1))) piece (omega arith) in
+            let r = put-room h (big_endians 4 (nodes_of j arcs)) (big_endians 4 (left (j + 1))) piece (omega arith) in
             omega arith
 
-        pub blocks-next : {after : List ℕ} → after ≡ sets now p (big_endians 4 (nodes_of j (take count arcs))) → BlocksFrom (j + 1) after (p + (4 + 4 * count))
+        pub blocks-next : {after : List ℕ} → after ≡ sets now p (big_endians 4 (nodes_of j arcs)) → BlocksFrom (j + 1) after (p + (4 + 4 * length arcs))
         blocks-next s =
-            put_next h (big_endians 4 (nodes_of j (take count arcs))) (big_endians 4 (left (j + 1))) piece (ap (p +◌) (sym size)) s
+            put_next h (big_endians 4 (nodes_of j arcs)) (big_endians 4 (left (j + 1))) piece (ap (p +◌) (sym size)) s
 
       pub blocks-done : blocks ≤ j → now ≡ sets before at (big_endians 4 (block_nodes_from g labels ranks w 0 blocks))
       unfolding big_endians

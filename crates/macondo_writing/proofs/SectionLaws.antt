@@ -1,23 +1,23 @@
 -- Sections of a file: their numbers written one by one, and the sections one after the other. The idea: what is left to write, written
 -- where it goes, gives the whole written at once.
-use mathlib.Core.Path.{◌≡◌, refl, ap, sym, ◌∙◌}
-use mathlib.Core.List.{List, [], ◌∷◌, ◌++◌, map, append-nil}
-use Prim.Native.Nat.{ℕ, suc, ◌+◌, ◌-◌, ◌*◌, ◌≤◌, ◌<◌}
-use native.Mathlib.Numerals.{add-one}
-use native.Mathlib.Omega.{arith}
-use lib.ListN.{length, get_or, set, take, drop, length-map, length-append, drop_of_length-le}
-use lib.Seq.{sets, drop-cons, get_or-take, length-take-le}
+use Rattle.std.specs.Prelude.{◌≡◌, List, [], ◌∷◌, ◌++◌, map, ℕ, suc, ◌+◌, ◌*◌, ◌≤◌, ◌<◌, length, get_or, set, drop}
+use Rattle.std.proofs.Common.{refl, ap, sym, ◌∙◌, arith, add-one, below_more, length-append, drop-cons, drop_of_length-le}
+use Rattle.std.proofs.Math.ListN.{get_or-append, length-map}
+use Rattle.std.proofs.lemmas.List.Edits.{sets}
+use mathlib.Core.List.{append-nil}
+use Rattle.std.proofs.Math.Seq.{get_or-append_seam}
+use Rattle.std.proofs.lemmas.List.{ext_get_or}
 use Rattle.laws.specs.Members.{get_or-map-in}
 use Rattle.laws.specs.ListWrites.{sets_append}
 use Rattle.endian.specs.Bytes.{big_endian, big_endians}
-use Rattle.endian.proofs.BigLaws.{big_length, bigs_length}
+use Rattle.endian.proofs.BigLaws.{big_length, bigs_length, bigs_append}
 use Rattle.endian.specs.Putting.{Putting, put-start, put-room, put_next, put-done}
 use Rattle.laws.specs.Tables.{table-length}
 use Rattle.macondo_file.specs.File.{section}
 use Rattle.macondo_file.proofs.ReadingLaws.{section-length}
 use Rattle.letter_sets.specs.SetNumbers.{set_at, sets_in}
 use Rattle.macondo_writing.specs.declared.tables.SectionCounts.{SectionCounts}
-use Rattle.macondo_writing.specs.FileTables.{block_nodes_from, file_in}
+use Rattle.macondo_writing.specs.FileTables.{block_nodes_from, file_in, MadeOf}
 
 module _ (width : ℕ) (l before : List ℕ) (at : ℕ) where
   -- over the bytes now, the numbers from place i on go to w
@@ -53,6 +53,46 @@ module _ (width : ℕ) (l before : List ℕ) (at : ℕ) where
     pub writing-done : count ≤ i → now ≡ sets before at (big_endians width l)
     writing-done k = put-done h (left-none i (omega arith))
 
+-- ---- what is made of each entry of a list, written one after the other
+module _ (made : ℕ → ℕ → Type 0) (l before : List ℕ) (at : ℕ) where
+  -- over the bytes now, the first i entries are written
+  pub record EachWritten (i : ℕ) (now : List ℕ) : Type 0 where
+    pub numbers : List ℕ
+    pub many : length numbers ≡ i
+    pub each : (k : ℕ) → k < i → made (get_or l k 0) (get_or numbers k 0)
+    pub stored : now ≡ sets before at (big_endians 4 numbers)
+
+  pub each-start : EachWritten 0 before
+  unfolding big_endians
+  each-start = record { numbers = []; many = refl; each = λ k h. absurd (omega arith); stored = refl }
+
+  pub each-next : (i r : ℕ) {now after : List ℕ} → EachWritten i now → made (get_or l i 0) r → after ≡ sets now (at + 4 * i) (big_endian 4 r)
+      → EachWritten (i + 1) after
+  unfolding big_endians
+  each-next i r h m e =
+      let vs = h.numbers in
+      let long = bigs_length 4 vs in
+      let many = h.many in
+      let place : at + 4 * i ≡ at + length (big_endians 4 vs) = omega arith in
+      let last : get_or (vs ++ r ∷ []) i 0 ≡ r = rw (sym many) (get_or-append_seam vs r [] 0) in
+      record {
+        numbers = vs ++ r ∷ [];
+        many = length-append vs (r ∷ []) ∙ ap (λ n. n + 1) many;
+        each = below_more _ _ (λ k b. rw (get_or-append vs (r ∷ []) 0 k (omega arith)) (h.each k b)) (rw last m);
+        stored = e ∙ ap (λ b. sets b (at + 4 * i) (big_endian 4 r)) h.stored ∙ ap (λ p. sets (sets before at (big_endians 4 vs)) p (big_endian 4 r)) place
+            ∙ sym (sets_append before at (big_endians 4 vs) (big_endian 4 r)) ∙ ap (λ b. sets before at (big_endians 4 vs ++ b)) (sym (append-nil (big_endian 4 r)))
+            ∙ ap (sets before at) (sym (bigs_append 4 vs (r ∷ [])));
+      }
+
+  pub each-done : {i : ℕ} {now : List ℕ} → EachWritten i now → i ≡ length l → (vs : List ℕ) × MadeOf made l vs × (now ≡ sets before at (big_endians 4 vs))
+  each-done h e = (h.numbers, record { many = h.many ∙ e; each = λ k b. h.each k (omega arith) }, h.stored)
+
+-- where that is a function's value, they are the list's image
+pub made-map : {made : ℕ → ℕ → Type 0} {l vs : List ℕ} (f : ℕ → ℕ) → ((x r : ℕ) → made x r → r ≡ f x) → MadeOf made l vs → vs ≡ map f l
+made-map {l = l} {vs} f k m =
+    ext_get_or 0 vs (map f l) (m.many ∙ sym (length-map l f))
+    (λ i h. let n = m.many in k (get_or l i 0) (get_or vs i 0) (m.each i (omega arith)) ∙ sym (get_or-map-in f l i 0 0 (omega arith)))
+
 -- the numbers after their count
 pub section-stored : (width : ℕ) (l before : List ℕ) (at k : ℕ) {counted after : List ℕ} → k ≡ length l
     → counted ≡ sets before at (big_endian 4 k) → after ≡ sets counted (at + 4) (big_endians width l) → after ≡ sets before at (section width l)
@@ -66,14 +106,6 @@ pub opening-stored : (before : List ℕ) (magic : ℕ) (text : List ℕ) {a b : 
 opening-stored before magic text i j =
     j ∙ ap (λ l. sets l 4 (length text ∷ text)) i ∙ sym (sets_append before 0 (big_endian 4 magic) (length text ∷ text))
 
--- ---- what f makes of the first `count` entries
-module _ (f : ℕ → ℕ) (l : List ℕ) (count : ℕ) (room : count ≤ length l) where
-  pub made-length : length (map f (take count l)) ≡ count
-  made-length = length-map (take count l) f ∙ length-take-le count l room
-
-  pub made_at : (i : ℕ) → i < count → get_or (map f (take count l)) i 0 ≡ f (get_or l i 0)
-  made_at i h = get_or-map-in f (take count l) i 0 0 (rw (length-take-le count l room) h) ∙ ap f (get_or-take count l i 0 h)
-
 -- ---- how long they are
 opening-length : (magic : ℕ) (name : List ℕ) → length (big_endian 4 magic ++ (length name ∷ name)) ≡ 5 + length name
 opening-length magic name =
@@ -83,26 +115,25 @@ opening-length magic name =
 
 -- ---- the file, section after section
 pub file-stored : (magic : ℕ) (name g labels letters ranks w : List ℕ) (c : SectionCounts) (before : List ℕ) {first second third after : List ℕ}
-    → length labels - 1 ≤ length letters
     → first ≡ sets before 0 (big_endian 4 magic ++ (length name ∷ name))
-    → second ≡ sets first (5 + length name) (section 4 (map (λ t. get_or labels t 0) (take (length labels - 1) letters)))
-    → third ≡ sets second (5 + length name + 4 + 4 * (length labels - 1)) (section 8 (sets_in (length g) w c.sets))
-    → after ≡ sets third (5 + length name + 4 + 4 * (length labels - 1) + 4 + 8 * c.sets) (section 4 (block_nodes_from g labels ranks w 0 c.blocks))
+    → second ≡ sets first (5 + length name) (section 4 (map (λ t. get_or labels t 0) letters))
+    → third ≡ sets second (5 + length name + 4 + 4 * length letters) (section 8 (sets_in (length g) w c.sets))
+    → after ≡ sets third (5 + length name + 4 + 4 * length letters + 4 + 8 * c.sets) (section 4 (block_nodes_from g labels ranks w 0 c.blocks))
     → after ≡ sets before 0 (file_in magic name g labels letters ranks w c)
 unfolding file_in
-file-stored magic name g labels letters ranks w c before fits h1 h2 h3 h4 =
+file-stored magic name g labels letters ranks w c before h1 h2 h3 h4 =
     let opening = big_endian 4 magic ++ (length name ∷ name) in
-    let l = map (λ t. get_or labels t 0) (take (length labels - 1) letters) in
+    let l = map (λ t. get_or labels t 0) letters in
     let s = sets_in (length g) w c.sets in
     let n = block_nodes_from g labels ranks w 0 c.blocks in
     let o = opening-length magic name in
     let a = section-length 4 l in
     let b = section-length 8 s in
-    let d = made-length (λ t. get_or labels t 0) letters (length labels - 1) fits in
+    let d = length-map letters (λ t. get_or labels t 0) in
     let e = table-length c.sets (set_at (length g) w) in
     let e1 : 5 + length name ≡ 0 + length opening = omega arith in
-    let e2 : 5 + length name + 4 + 4 * (length labels - 1) ≡ 5 + length name + length (section 4 l) = omega arith in
-    let e3 : 5 + length name + 4 + 4 * (length labels - 1) + 4 + 8 * c.sets ≡ 5 + length name + 4 + 4 * (length labels - 1) + length (section 8 s) =
+    let e2 : 5 + length name + 4 + 4 * length letters ≡ 5 + length name + length (section 4 l) = omega arith in
+    let e3 : 5 + length name + 4 + 4 * length letters + 4 + 8 * c.sets ≡ 5 + length name + 4 + 4 * length letters + length (section 8 s) =
     omega arith in
     let p0 = put-start (opening ++ (section 4 l ++ (section 8 s ++ section 4 n))) before 0 in
     let p1 = put_next p0 opening (section 4 l ++ (section 8 s ++ section 4 n)) refl e1 h1 in

@@ -8,4 +8,4 @@ mod sections;
 mod tables;
 
 pub use file::write_file;
-pub use tables::{SectionCounts, file_size};
+pub use tables::{SectionCounts, Tables, file_size};

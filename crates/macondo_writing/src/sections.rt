@@ -1,9 +1,10 @@
 // The sections of a Macondo file before its nodes.
-ghost use Rattle.std.specs.Prelude.{◌≡◌, ◌∷◌, ◌++◌, map, ℕ, ◌+◌, ◌*◌, ◌≤◌, ◌<◌, length, get_or, take};
+ghost use Rattle.std.specs.Prelude.{◌≡◌, List, ◌∷◌, ◌++◌, map, ℕ, ◌+◌, ◌*◌, ◌≤◌, ◌<◌, length, get_or};
 ghost use Rattle.std.proofs.lemmas.List.Edits.{sets};
-ghost use Rattle.endian.specs.Bytes.{big_endian};
+ghost use Rattle.endian.specs.Bytes.{big_endian, big_endians};
 ghost use Rattle.letter_sets.specs.SetNumbers.{sets_in};
 ghost use Rattle.macondo_file.specs.File.{section};
+ghost use Rattle.macondo_writing.specs.FileTables.{MadeOf};
 
 use endian::{write_be_halves, write_be_u32, write_bytes};
 
@@ -17,27 +18,25 @@ pub(crate) fn write_opening(magic: u32, name: &[u8], file: &mut [u8])
     write_bytes(file, 5, name);
 }
 
-// Writes the code points of the first `count` letters; each must have a label, and the bytes must be there.
-pub(crate) fn write_code_points(
-    labels: &[u32],
-    letters: &[u32],
-    count: usize,
-    file: &mut [u8],
-    at: usize,
-)
-    requires count_bound { (count ≤ 50) × (count ≤ length letters.now) × (at + 4 + 4 * count ≤ length file.old) }
-    requires by_index { (i : ℕ) → i < count → get_or letters.now i 0 < length labels.now }
-    ensures { file.new ≡ sets file.old at
-        (section 4 (map (λ t. get_or labels.now t 0) (take count letters.now))) }
+// Writes what `number` makes of each entry of a list, one after the other; it must be defined there, and the bytes must be there.
+pub(crate) fn write_each<F: Fn(u32) -> u32>(list: &[u32], number: F, file: &mut [u8], at: usize)
+    requires defined { (i : ℕ) → i < length list.now → F.pre number (get_or list.now i 0) }
+    requires room { at + 4 * length list.now ≤ length file.old }
+    ensures { (vs : List ℕ) × MadeOf (F.post number) list.now vs × (file.new ≡ sets file.old at (big_endians 4 vs)) }
 {
-    write_be_u32(file, at, count as u32);
-    let mut w = at + 4;
-    let mut i = 0;
-    while i < count {
-        write_be_u32(file, w, labels[letters[i] as usize]);
-        w += 4;
-        i += 1;
+    for (i, x) in list.iter().enumerate() {
+        write_be_u32(file, at + 4 * i, number(*x));
     }
+}
+
+// Writes the letters' code points; each must have a label, and the bytes must be there.
+pub(crate) fn write_code_points(labels: &[u32], letters: &[u32], file: &mut [u8], at: usize)
+    requires letters_bound { (length letters.now ≤ 50) × (at + 4 + 4 * length letters.now ≤ length file.old) }
+    requires by_index { (i : ℕ) → i < length letters.now → get_or letters.now i 0 < length labels.now }
+    ensures { file.new ≡ sets file.old at (section 4 (map (λ t. get_or labels.now t 0) letters.now)) }
+{
+    write_be_u32(file, at, letters.len() as u32);
+    write_each(letters, |t| labels[t as usize], file, at + 4);
 }
 
 // Writes the first `count` letter sets of the work list for n nodes, which must hold them; the bytes must be there.
@@ -46,12 +45,8 @@ pub(crate) fn write_sets(work: &[u32], n: usize, count: usize, file: &mut [u8], 
     ensures { file.new ≡ sets file.old at (section 8 (sets_in n work.now count)) }
 {
     write_be_u32(file, at, count as u32);
-    let mut w = at + 4;
-    let mut i = 0;
-    while i < count {
+    for i in 0..count {
         let set = 4 * n + 4 * i;
-        write_be_halves(file, w, work[set + 1], work[set]);
-        w += 8;
-        i += 1;
+        write_be_halves(file, at + 4 + 8 * i, work[set + 1], work[set]);
     }
 }

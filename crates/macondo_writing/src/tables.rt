@@ -9,6 +9,15 @@ pub struct SectionCounts {
     pub nodes: u32,
 }
 
+// What a file is written from: the letters in rank order, the letter of each tile, and the work list with the blocks and the sets.
+#[derive(Clone, Copy)]
+pub struct Tables<'a> {
+    pub letters: &'a [u32],
+    pub ranks: &'a [u8; 64],
+    pub work: &'a [u32],
+    pub counts: SectionCounts,
+}
+
 // The length of a file with a name of so many bytes; there must be a label, and at most 50, and the name must not be too long.
 pub fn file_size(labels: usize, name: usize, counts: SectionCounts) -> usize
     requires { (0 < labels) × (labels ≤ 50) × (name ≤ 255) }

@@ -1,36 +1,19 @@
 -- A turn of the load in pieces: the feeds from one piece on, by the feed of that piece and the feeds after it.
-use mathlib.Core.Path.{◌≡◌, refl, sym, ap, ◌∙◌}
+use mathlib.Core.Path.{◌≡◌, refl, sym, ap}
 use mathlib.Core.List.{List, [], ◌∷◌, map}
-use Prim.Native.Nat.{ℕ, zero, suc, ◌+◌, ◌-◌, ◌≤◌, ◌<◌, min}
+use Prim.Native.Nat.{ℕ, zero, suc, ◌+◌, ◌≤◌, ◌<◌, min}
 use native.Mathlib.Omega.{arith}
-use lib.Dec.{ltb}
 use native.Mathlib.Numerals.{add-one}
-use lib.ListN.{length, get_or, take, drop, set, length-drop, length-set, drop_of_length-le}
-use lib.Seq.{sets, take_all, drop-drop, drop-cons, set_out}
-use borrow.Author.Tests.{ltb-true, ltb-false}
+use lib.ListN.{length, get_or, take, drop, set, length-set, drop_of_length-le}
+use lib.Seq.{sets, drop-cons, set_out}
+use Rattle.std.proofs.lemmas.List.{take_min, drop_min}
 use Rattle.answers.specs.Answers.{refusal_in}
-use Rattle.laws.specs.Cases.{split}
 use Rattle.node.specs.declared.Layout.{Layout}
 use Rattle.graph.specs.Runs.{Graph}
 use Rattle.pieces.specs.Pieces.{feed_all, fed_pieces, load_pieces, cut_at}
 use Rattle.pieces.specs.Said.{LoadLeft, load_leaves}
 use Rattle.load.specs.Loading.{Begins, begin, Feeds, feed, Finishes, finish}
 use Rattle.load.specs.declared.loader.Loader.{Loader}
-
--- the piece from place `from` to the next cut, c bytes on, and the bytes after it
-cut-piece : (bytes : List ℕ) (from c end : ℕ) → from ≤ length bytes → end ≡ min (from + c) (length bytes)
-    → (take (end - from) (drop from bytes) ≡ take c (drop from bytes)) × (drop end bytes ≡ drop c (drop from bytes))
-cut-piece bytes from c end h e =
-    split (ltb c (length bytes - from))
-    (λ t. let l = ltb-true c (length bytes - from) t in
-    let n : end - from ≡ c = omega arith in
-    let m : end ≡ from + c = omega arith in
-    (ap (λ k. take k (drop from bytes)) n, ap (λ k. drop k bytes) m ∙ sym (drop-drop c from bytes)))
-    (λ t. let l = ltb-false c (length bytes - from) t in
-    let r : length (drop from bytes) ≡ length bytes - from = length-drop from bytes in (
-      take_all (end - from) (drop from bytes) (omega arith) ∙ sym (take_all c (drop from bytes) (omega arith)),
-      drop_of_length-le bytes {i = end} (omega arith) ∙ sym (drop_of_length-le (drop from bytes) {i = c} (omega arith)),
-    ))
 
 -- ---- values written into a list that has no room for them
 sets-past : (l xs : List ℕ) (i : ℕ) → length l ≤ i → sets l i xs ≡ l
@@ -49,19 +32,17 @@ fed_from answers i s nodes cuts bytes =
     let all = feed_all s nodes (cut_at cuts bytes) in
     (sets answers i (map refusal_in all.answers), all.state, all.nodes)
 
-module _ (answers : List ℕ) (s : Loader) (nodes : Graph) (cuts bytes : List ℕ) (i from : ℕ) where
-  pub feed-next : (end : ℕ) {after : Feeds} {more : List ℕ} → i < length cuts → from ≤ length bytes
-      → end ≡ min (from + get_or cuts i 0) (length bytes) → after ≡ feed s nodes (take (end - from) (drop from bytes))
-      → more ≡ set answers i (refusal_in after.answer)
-      → fed_from more (i + 1) after.state after.nodes (drop (i + 1) cuts) (drop end bytes) ≡ fed_from answers i s nodes (drop i cuts) (drop from bytes)
+module _ (answers : List ℕ) (s : Loader) (nodes : Graph) (cuts rest : List ℕ) (i : ℕ) where
+  pub feed-next : {n : ℕ} {piece left : List ℕ} {after : Feeds} {more : List ℕ} → i < length cuts → n ≡ min (get_or cuts i 0) (length rest)
+      → piece ≡ take n rest → left ≡ drop n rest → after ≡ feed s nodes piece → more ≡ set answers i (refusal_in after.answer)
+      → fed_from more (i + 1) after.state after.nodes (drop (i + 1) cuts) left ≡ fed_from answers i s nodes (drop i cuts) rest
   unfolding feed_all cut_at
-  feed-next end h l e f t =
-      let p = cut-piece bytes from (get_or cuts i 0) end l e in
-      rw (t, f, p.0, p.1, add-one, drop-cons cuts i 0 h)
+  feed-next h e p q f t =
+      rw (t, f, p, q, e, take_min (get_or cuts i 0) rest, drop_min (get_or cuts i 0) rest, add-one, drop-cons cuts i 0 h)
 
-  pub feed-rest : {after : Feeds} {more : List ℕ} → length cuts ≤ i → after ≡ feed s nodes (drop from bytes)
+  pub feed-rest : {after : Feeds} {more : List ℕ} → length cuts ≤ i → after ≡ feed s nodes rest
       → more ≡ set answers i (refusal_in after.answer)
-      → (more, after.state, after.nodes) ≡ fed_from answers i s nodes (drop i cuts) (drop from bytes)
+      → (more, after.state, after.nodes) ≡ fed_from answers i s nodes (drop i cuts) rest
   unfolding feed_all cut_at
   feed-rest h f t = rw (t, f, drop_of_length-le cuts h)
 

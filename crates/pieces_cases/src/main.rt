@@ -2,9 +2,10 @@
 // finish, the bytes taken, and the nodes. Lent entries that no call may write are 9 among the answers and 7 among the nodes.
 #![tactic(auto)]
 
-use base::{MOST, widened};
+use answers::Refuses;
 use console::Output;
-use load::{BeginAnswer, Finished};
+use graph::NodesRefusal;
+use load::{FinishRefusal, StateRefusal};
 use node::Layout;
 use std::io;
 use std::io::Write;
@@ -115,83 +116,56 @@ fn show_load<W: Write>(
 ) {
     let mut nodes = [7; 6];
     let loaded = pieces::load_in_pieces(announced, Layout::Kwg, bytes, cuts, answers, &mut nodes);
-    let begun = loaded.begun;
-    let finished = loaded.finished;
-    let loader = loaded.loader;
+    let begun = match loaded.begun {
+        Ok(()) => 0,
+        Err(why) => why.number(),
+    };
     output.print(name);
-    print_line(output, b"begin", &[begin_number(begun)]);
+    print_line(output, b"begin", &[begun]);
     print_line(output, b"feeds", answers);
-    print_finished(output, finished);
-    print_line(output, b"taken", &[capped(loader.taken)]);
+    print_finished(output, loaded.finished);
+    print_line(output, b"taken", &[capped(loaded.loader.taken)]);
     print_line(output, b"nodes", &nodes);
 }
 
-fn begin_number(answer: BeginAnswer) -> u32 {
-    match answer {
-        BeginAnswer::Ready => 0,
-        BeginAnswer::NotWholeNodes => 1,
-        BeginAnswer::OverLimit => 2,
-        BeginAnswer::NodesTooShort => 3,
-    }
-}
-
 // The number of the refusal with what it carries, or 0 with the number of nodes.
-fn print_finished<W: Write>(output: &mut Output<W>, answer: Finished) {
+fn print_finished<W: Write>(output: &mut Output<W>, answer: Result<usize, FinishRefusal>) {
     match answer {
-        Finished::Nodes(count) => print_line(output, b"finish", &[0, capped(count)]),
-        Finished::BadState => print_line(output, b"finish", &[4]),
-        Finished::DoesNotFit(m) => {
+        Ok(count) => print_line(output, b"finish", &[0, capped(count)]),
+        Err(FinishRefusal::State(StateRefusal::DoesNotFit(misfit))) => {
+            let tile = u32::from(misfit.tile);
             print_line(
                 output,
                 b"finish",
-                &[6, capped(m.node), widened(m.tile), m.arc_index],
+                &[misfit.number(), capped(misfit.node), tile, misfit.arc_index],
             )
         }
-        Finished::Missing => print_line(output, b"finish", &[7]),
-        Finished::ArcPastEnd(arc) => print_line(output, b"finish", &[8, arc]),
-        Finished::NoEnd => print_line(output, b"finish", &[9]),
+        Err(FinishRefusal::Nodes(why @ NodesRefusal::ArcPastEnd(arc))) => {
+            print_line(output, b"finish", &[why.number(), arc])
+        }
+        Err(why) => print_line(output, b"finish", &[why.number()]),
     }
 }
 
 fn capped(number: usize) -> u32 {
-    if number < MOST as usize {
-        number as u32
-    } else {
-        MOST
-    }
+    u32::try_from(number).unwrap_or(u32::MAX)
 }
 
 fn print_line<W: Write>(output: &mut Output<W>, name: &[u8], numbers: &[u32]) {
     output.print(name);
-    let mut i = 0;
-    while i < numbers.len() {
-        print_hex(output, numbers[i]);
-        i += 1;
+    for number in numbers {
+        print_hex(output, *number);
     }
     output.print(b"\n");
 }
 
 fn print_hex<W: Write>(output: &mut Output<W>, number: u32) {
-    let high = number / 65536;
-    output.print(&[
-        b' ',
-        digit(high / 4096),
-        digit(high / 256),
-        digit(high / 16),
-        digit(high),
-        digit(number / 4096),
-        digit(number / 256),
-        digit(number / 16),
-        digit(number),
-    ]);
-}
-
-// The last digit of a number.
-fn digit(number: u32) -> u8 {
-    let last = (number % 16) as u8;
-    if last < 10 {
-        b'0' + last
-    } else {
-        b'A' + (last - 10)
+    let digits = b"0123456789ABCDEF";
+    output.print(b" ");
+    for byte in number.to_be_bytes() {
+        output.print(&[
+            digits[usize::from(byte / 16)],
+            digits[usize::from(byte % 16)],
+        ]);
     }
 }

@@ -1,12 +1,8 @@
 -- What the proofs of several functions use.
-pub mod NodeLaws
-pub mod LoadLaws
 pub mod LookupLaws
 pub mod TileLaws
 pub mod CountLaws
-pub mod SetLaws
 pub mod FileLaws
-pub mod PageLaws
 pub mod RoomLaws
 pub mod TypedLaws
 pub mod BuildLaws

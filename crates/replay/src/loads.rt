@@ -4,32 +4,21 @@ ghost use Rattle.stored.specs.Answers.{same};
 ghost use Rattle.replay.specs.Loads.{finished_fields, repack_reply, load_reply};
 
 use flat::FlatFinished;
-use stored::{
-    bytes_from, bytes_to, same_then_bytes, same_then_words, same_words, word_at, words_to,
-};
+use stored::{list_from, list_to, same, same_then, word_at};
 
-// FROM TO; so many of the bytes, or all where there are no more.
-pub(crate) fn repack_first(stored: &[u64], words: &[u32], bytes: &mut [u8], count: usize) -> bool
-    ensures { result ≡ same stored.now (repack_reply words.now (take count bytes.old)) }
-{
-    if count < bytes.len() {
-        repack(stored, words, &mut bytes[..count])
-    } else {
-        repack(stored, words, bytes)
-    }
-}
-
-fn repack(stored: &[u64], words: &[u32], bytes: &mut [u8]) -> bool
+// FROM TO; the bytes.
+#[tactic(auto, unfolding(crate::specs::Loads::repack_reply))]
+pub(crate) fn repack(stored: &[u64], words: &[u32], bytes: &mut [u8]) -> bool
     ensures { result ≡ same stored.now (repack_reply words.now bytes.old) }
 {
     let repacked = machirsun::machirsun_repack(bytes, word_at(words, 0), word_at(words, 1));
     let numbers = [
-        repacked.refusal as u64,
-        repacked.arc as u64,
+        u64::from(repacked.refusal),
+        u64::from(repacked.arc),
         repacked.node as u64,
-        repacked.tile as u64,
+        u64::from(repacked.tile),
     ];
-    same_then_bytes(stored, &numbers, bytes)
+    same_then(stored, &numbers, bytes)
 }
 
 // LAYOUT CUT; the bytes of the file, which come in two pieces.
@@ -40,20 +29,19 @@ pub(crate) fn load(stored: &[u64], words: &[u32], bytes: &[u8]) -> bool
     load_lent(stored, words, bytes, &mut nodes)
 }
 
+// By itself: the check finds its proof for any lent nodes, and not at the 8192 numbers of the array.
+#[tactic(auto, using(flat::specs::PlainLaws::plain_refusal), unfolding(crate::specs::Loads::load_reply, crate::specs::Loads::load_fields, pieces::specs::Pieces::load_pieces, pieces::specs::Pieces::fed_pieces, pieces::specs::Pieces::feed_all))]
 fn load_lent(stored: &[u64], words: &[u32], bytes: &[u8], nodes: &mut [u32]) -> bool
     ensures { result ≡ same stored.now (load_reply words.now bytes.now nodes.old) }
 {
     let cut = word_at(words, 1) as usize;
     let begun = machirsun::machirsun_begin(bytes.len(), word_at(words, 0), nodes);
     if begun.refusal != 0 {
-        return same_words(stored, &[begun.refusal]);
+        return same(stored, &[begun.refusal]);
     }
-    let loader = begun.loader;
-    let fed = machirsun::machirsun_feed(loader, bytes_to(bytes, cut), nodes);
-    let loader = fed.loader;
-    let fed = machirsun::machirsun_feed(loader, bytes_from(bytes, cut), nodes);
-    let loader = fed.loader;
-    let finished = machirsun::machirsun_finish(loader, nodes);
+    let fed = machirsun::machirsun_feed(begun.loader, list_to(bytes, cut), nodes);
+    let fed = machirsun::machirsun_feed(fed.loader, list_from(bytes, cut), nodes);
+    let finished = machirsun::machirsun_finish(fed.loader, nodes);
     same_finished(stored, finished, nodes)
 }
 
@@ -61,11 +49,11 @@ fn same_finished(stored: &[u64], finished: FlatFinished, nodes: &[u32]) -> bool
     ensures { result ≡ same stored.now (finished_fields finished ++ take finished.nodes nodes.now) }
 {
     let numbers = [
-        finished.refusal as u64,
-        finished.arc as u64,
+        u64::from(finished.refusal),
+        u64::from(finished.arc),
         finished.nodes as u64,
         finished.node as u64,
-        finished.tile as u64,
+        u64::from(finished.tile),
     ];
-    same_then_words(stored, &numbers, words_to(nodes, finished.nodes))
+    same_then(stored, &numbers, list_to(nodes, finished.nodes))
 }

@@ -181,8 +181,8 @@ module _ {w : Word} {kept : ℕ} {behind₀ : List ℕ} {n : ℕ} {dict₀ : Lis
       }
 
   module _ {behind dict : List ℕ} {d tails : ℕ} (q : Closes w kept behind₀ n dict₀ count behind dict d tails) where
-    pub short : d < 65
-    short = let a = q.within in let b = c.closing.fine.short in omega arith
+    pub shallow : d < 65
+    shallow = let a = q.within in let b = c.closing.fine.short in omega arith
 
     pub holding : HoldsTails n dict tails (close c.sh (drop d w) (drop d c.xs)).shelf
     holding = (q.closed c.sh c.xs c.closing).holds
@@ -192,22 +192,23 @@ module _ {w : Word} {kept : ℕ} {behind₀ : List ℕ} {n : ℕ} {dict₀ : Lis
         let f = q.closed c.sh c.xs c.closing in
         (tile-small c.closing f q.within (omega arith), child-small c.closing f q.within)
 
-    pub closes_next : kept < d → tails + 1 < n → {key : ℕ} {dict' : List ℕ} {r : KeyNumber}
-        → key ≡ key_of (shelf_entry (get_or w (d - 1) 0) (eqb d (length w)) (get_or behind d 0) (get_or behind (d - 1) 0))
+    -- the tile before depth d closed, at the place `above` counted from its own
+    pub closes_next : kept < d → tails + 1 < n → {above key : ℕ} {dict' : List ℕ} {r : KeyNumber} → above ≡ d
+        → key ≡ key_of (shelf_entry (get_or w (d - 1) 0) (eqb above (length w)) (get_or behind above 0) (get_or behind (d - 1) 0))
         → KeyNumbered n dict tails key dict' r → length dict' ≡ length dict
-        → Closes w kept behind₀ n dict₀ count (set (set behind d 0) (d - 1) (r.number + 1)) dict' (d - 1) r.count
-    closes_next h room {key} {dict'} {r} key-is numbered kept-long =
+        → Closes w kept behind₀ n dict₀ count (set (set behind above 0) (d - 1) (r.number + 1)) dict' (d - 1) r.count
+    closes_next h room {above} {key} {dict'} {r} at key-is numbered kept-long =
         let a = q.within in
         let b = q.spent in
         let most = count_most numbered in
-        record {
+        rw at (record {
           from = omega arith;
           within = omega arith;
           long = length-set (set behind d 0) (d - 1) (r.number + 1) ∙ length-set behind d 0 ∙ q.long;
           same-long = kept-long ∙ q.same-long;
           spent = omega arith;
-          closed = λ sh xs k. closed-next k (q.closed sh xs k) q.within (omega arith) room q.long short key-is numbered;
-        }
+          closed = λ sh xs k. closed-next k (q.closed sh xs k) q.within (omega arith) room q.long shallow (rw at at key-is) numbered;
+        })
 
     -- no room for one more: there would be as many tails as a graph has nodes for
     pub no_room : kept < d → n ≤ tails + 1 → (sh : Shelf) (xs : List ℕ) → Closing w behind₀ n dict₀ count sh xs

@@ -3,6 +3,7 @@
 use mathlib.Core.Path.{◌≡◌, refl, sym, ap, ap₂, ◌∙◌, subst}
 use mathlib.Core.Logic.{◌⊎◌, inl, inr, ⊎_elim}
 use mathlib.Core.List.{List, [], ◌∷◌, ◌++◌}
+use Rattle.std.specs.Prelude.{Option, Some, None}
 use Prim.Native.Nat.{ℕ, zero, suc, zero-le, ◌+◌, ◌-◌, ◌*◌, ◌≤◌, ◌<◌, min}
 use native.Mathlib.Omega.{arith}
 use lib.ListN.{length, get_or, take, drop, length-append, replicate}
@@ -19,11 +20,8 @@ use Rattle.shelf.specs.PassLaws.{tile_total, Opened, all-opened}
 use Rattle.shelf.specs.GrowthLaws.{advance-shelf}
 use Rattle.word_list.specs.Words.{rejoined, place_after, last_of, Back, MarkedAs}
 use Rattle.word_list.specs.WordsLaws.{bytes-length, word-here, word-before, place-before, shared_le}
-use Rattle.tails.specs.Tails.{tail_limit, keys_of, HoldsTails, Behind, Closing, Closable, WordClosed, WordClosedAs, WordCloses, TailsIn}
-use Rattle.tails.specs.declared.TailCount.{TailCount}
-use Rattle.tails.specs.declared.TailCount.TheVariants.{Tails, TooMany as NoRoom}
+use Rattle.tails.specs.Tails.{tail_limit, keys_of, HoldsTails, Behind, Closing, Closable, WordClosed, WordCloses}
 use Rattle.tails.proofs.AdvanceLaws.{fresh-zero, advance-behind, opened-length, rejoined-longer}
-use Rattle.tails.proofs.WorkLaws.{dict_of, with_dict, dict-length, dict_at, dict-is, with-dict-length, past-dict, back-kept, holds-tails}
 
 -- ---- the words from one on are a lexicon, with fewer tiles than bytes
 words-from : (us ws : List Word) → Lexicon 64 (rejoined us ws) → Lexicon 64 ws
@@ -90,35 +88,33 @@ last-is : (us : List Word) (ws : List Word) (l : List ℕ) → l ≡ list_bytes 
 last-is [] ws l e = refl
 last-is (v ∷ us) ws l e = word-before v us ws l e
 
-back_is : (base : ℕ) (work : List ℕ) (us : List Word) → Back base work us → get_or work (base + place_after us) 0 ≡ length (last_of us)
+back_is : (marks : List ℕ) (us : List Word) → Back marks us → get_or marks (place_after us) 0 ≡ length (last_of us)
 unfolding place_after
-back_is base work [] b = let z : base + 0 ≡ base = omega arith in ap (λ p. get_or work p 0) z ∙ b
-back_is base work (v ∷ us) b = b.0
+back_is marks [] b = b
+back_is marks (v ∷ us) b = b.0
 
 -- ---- the pass has come to a word
-pub record AtWord (n : ℕ) (ws : List Word) (work : List ℕ) (at : ℕ) (behind : List ℕ) (tails : ℕ) : Type 0 where
+pub record AtWord (n : ℕ) (ws : List Word) (marks dict : List ℕ) (at : ℕ) (behind : List ℕ) (tails : ℕ) : Type 0 where
   pub before : List Word
   pub word : Word
   pub rest : List Word
   pub all : rejoined before (word ∷ rest) ≡ ws
   pub place : at ≡ place_after before
-  pub back : Back (6 * n) work before
-  pub holds : HoldsTails n (dict_of n work) tails (opened (word ∷ rest)).shelf
+  pub back : Back marks before
+  pub holds : HoldsTails n dict tails (opened (word ∷ rest)).shelf
   pub numbers : Behind behind (opened (word ∷ rest)).numbers
 
 -- at the beginning to the last
-pub at_last : {n : ℕ} {ws : List Word} {w w' : List ℕ} {r : ℕ} → 0 < n → n ≤ tail_limit → 6 * n ≤ length w' → ((p : ℕ) → p < n → get_or w (n + p) 0 ≡ 0)
-    → MarkedAs ws (6 * n) w w' r → AtWord n ws w' r (replicate 65 0) 0
+pub at_last : {n : ℕ} {ws : List Word} {marks dict : List ℕ} {r : ℕ} → 0 < n → n ≤ tail_limit → 5 * n ≤ length dict → ((p : ℕ) → p < n → get_or dict p 0 ≡ 0)
+    → MarkedAs ws marks r → AtWord n ws marks dict r (replicate 65 0) 0
 unfolding table keys_of
-at_last {n} {ws} {w} {w'} {r} some small room roots m =
+at_last {n} {ws} {marks} {dict} {r} some small room roots m =
     let e = one-opened m.last in
-    let none : HoldsTails n (dict_of n w') 0 [] = record {
+    let none : HoldsTails n dict 0 [] = record {
       small = small;
       few = some;
       size = refl;
-      tree = tree-none n (dict_of n w')
-          (λ p h. dict_at n w' room p (omega arith) ∙ m.kept (n + p) (omega arith) ∙ roots p h)
-          (let l = dict-length n w' room in omega arith);
+      tree = tree-none n dict roots room;
       shelves = record { are = refl; valid = tt; narrow = tt };
     } in
     record {
@@ -141,11 +137,10 @@ abbrev Left : ℕ → List ℕ → List ℕ → ℕ → List Word → Word → L
 Left n behind dict tails us w rest =
     WordClosed w (shared (last_of us) w) (opened (w ∷ rest)).shelf (opened (w ∷ rest)).numbers n behind dict tails
 
-module _ (n : ℕ) {ws : List Word} (work : List ℕ) {at : ℕ} (behind dict : List ℕ) {tails step : ℕ} (lex : Lexicon 64 ws) (room : 6 * n ≤ length work)
-    (same : length dict ≡ length (dict_of n work)) where
+module _ (n : ℕ) {ws : List Word} {at : ℕ} (behind dict : List ℕ) {tails step : ℕ} (lex : Lexicon 64 ws) where
   -- the word before it open
-  next-from : (us : List Word) (w : Word) (rest : List Word) → rejoined us (w ∷ rest) ≡ ws → at ≡ place_after us → Back (6 * n) work us
-      → step ≡ length (last_of us) → Left n behind dict tails us w rest → (at - step ≡ at → ⊥) → AtWord n ws (with_dict n work dict) (at - step - 1) behind tails
+  next-from : {marks : List ℕ} (us : List Word) (w : Word) (rest : List Word) → rejoined us (w ∷ rest) ≡ ws → at ≡ place_after us → Back marks us
+      → step ≡ length (last_of us) → Left n behind dict tails us w rest → (at - step ≡ at → ⊥) → AtWord n ws marks dict (at - step - 1) behind tails
   unfolding rejoined
   next-from [] w rest all place back is left more = absurd (more (omega arith))
   next-from (v ∷ us) w rest all place back is left more =
@@ -157,37 +152,35 @@ module _ (n : ℕ) {ws : List Word} (work : List ℕ) {at : ℕ} (behind dict : 
         rest = w ∷ rest;
         all = all;
         place = omega arith;
-        back = back-kept (6 * n) work (with_dict n work dict) (past-dict n work room dict same) us back.1;
-        holds = rw (dict-is n work room dict same, before-shelf w rest v us) left.holds;
+        back = back.1;
+        holds = rw (before-shelf w rest v us) left.holds;
         numbers = λ d. left.numbers d ∙ sym (before-numbers w rest v us above d);
       }
 
   -- and, where there is none, all words
   last-from : (us : List Word) (w : Word) (rest : List Word) → rejoined us (w ∷ rest) ≡ ws → at ≡ place_after us
-      → step ≡ length (last_of us) → Left n behind dict tails us w rest → at - step ≡ at → TailsIn n (with_dict n work dict) (shelved ws).shelf × (get_or behind 0 0 ≡ (shelved ws).number)
+      → step ≡ length (last_of us) → Left n behind dict tails us w rest → at - step ≡ at
+      → HoldsTails n dict tails (shelved ws).shelf × (get_or behind 0 0 ≡ (shelved ws).number)
   unfolding rejoined shared
   last-from [] w rest all place is left done =
       let e = closed-first w rest ∙ ap shelved all in
-      let long = with-dict-length n work room dict same in (
-        subst (λ (p : Put). TailsIn n (with_dict n work dict) p.shelf) e (holds-tails {k = tails} (omega arith) (rw (dict-is n work room dict same) left.holds)),
-        left.numbers 0 ∙ ap (λ (p : Put). p.number) e,
-      )
+      (subst (λ (p : Put). HoldsTails n dict tails p.shelf) e left.holds, left.numbers 0 ∙ ap (λ (p : Put). p.number) e)
   last-from (v ∷ us) w rest all place is left done =
       let some = (words-from us (v ∷ w ∷ rest) (subst (Lexicon 64) (sym all) lex)).fine.0.some in
       let within = last_within (v ∷ us) in
       absurd (omega arith)
 
 -- ---- one turn
-pub record Turned (n : ℕ) (ws : List Word) (work : List ℕ) (at : ℕ) (behind dict : List ℕ) (r : TailCount) : Type 0 where
-  pub full : r ≡ NoRoom → tail_limit ≤ suc (length (shelved ws).shelf)
-  pub long : (tails : ℕ) → r ≡ Tails tails → length behind ≡ 65
-  pub next : (tails : ℕ) → r ≡ Tails tails → (at - get_or work (6 * n + at) 0 ≡ at → ⊥)
-      → AtWord n ws (with_dict n work dict) (at - get_or work (6 * n + at) 0 - 1) behind tails
-  pub last : (tails : ℕ) → r ≡ Tails tails → at - get_or work (6 * n + at) 0 ≡ at
-      → TailsIn n (with_dict n work dict) (shelved ws).shelf × (get_or behind 0 0 ≡ (shelved ws).number)
+-- what closing the word at hand leaves
+abbrev pub Turned : ℕ → List Word → List ℕ → ℕ → List ℕ → List ℕ → Option ℕ → Type 0
+Turned n ws marks at behind dict None = tail_limit ≤ suc (length (shelved ws).shelf)
+Turned n ws marks at behind dict (Some tails) =
+    (length behind ≡ 65)
+    × ((at - get_or marks at 0 ≡ at → ⊥) → AtWord n ws marks dict (at - get_or marks at 0 - 1) behind tails)
+    × (at - get_or marks at 0 ≡ at → HoldsTails n dict tails (shelved ws).shelf × (get_or behind 0 0 ≡ (shelved ws).number))
 
 module _ {list : List ℕ} {n : ℕ} {ws : List Word} (lex : Lexicon 64 ws) (bytes : list ≡ list_bytes ws)
-    {work : List ℕ} {at : ℕ} {behind : List ℕ} {tails : ℕ} (q : AtWord n ws work at behind tails) where
+    {marks dict : List ℕ} {at : ℕ} {behind : List ℕ} {tails : ℕ} (q : AtWord n ws marks dict at behind tails) where
   abbrev us : List Word
   us = q.before
 
@@ -199,7 +192,7 @@ module _ {list : List ℕ} {n : ℕ} {ws : List Word} (lex : Lexicon 64 ws) (byt
 
   -- how far back the word before begins, and its bytes and those of the word at hand
   abbrev step_back : ℕ
-  step_back = get_or work (6 * n + at) 0
+  step_back = get_or marks at 0
 
   abbrev before_bytes : List ℕ
   before_bytes = take (at - (at - step_back)) (drop (at - step_back) list)
@@ -232,7 +225,7 @@ module _ {list : List ℕ} {n : ℕ} {ws : List Word} (lex : Lexicon 64 ws) (byt
       ap (λ k. take k (drop (at + 1) list)) a ∙ ap (λ k. take (length w) (drop k list)) b ∙ (word-here us w rest list same_bytes).1
 
   step_is : step_back ≡ length (last_of us)
-  step_is = ap (λ p. get_or work (6 * n + p) 0) q.place ∙ back_is (6 * n) work us q.back
+  step_is = ap (λ p. get_or marks p 0) q.place ∙ back_is marks us q.back
 
   pub step-within : step_back ≤ at
   step-within = let a = step_is in let b = last_within us in let c = q.place in omega arith
@@ -266,7 +259,7 @@ module _ {list : List ℕ} {n : ℕ} {ws : List Word} (lex : Lexicon 64 ws) (byt
         (λ (h : tail_limit ≤ length list). let r : n ≡ tail_limit = omega arith in inr r)
         (below? (length list) tail_limit)
 
-    closing : Closing w behind n (dict_of n work) tails (opened (w ∷ rest)).shelf (opened (w ∷ rest)).numbers
+    closing : Closing w behind n dict tails (opened (w ∷ rest)).shelf (opened (w ∷ rest)).numbers
     closing =
         record {
           holds = q.holds;
@@ -282,7 +275,7 @@ module _ {list : List ℕ} {n : ℕ} {ws : List Word} (lex : Lexicon 64 ws) (byt
       kept-is : kept ≡ shared (last_of us) w
       kept-is = agree ∙ ap₂ shared before-is word-is
 
-      pub can_close : Closable word_bytes kept behind n (dict_of n work) tails
+      pub can_close : Closable word_bytes kept behind n dict tails
       can_close =
           rw word-is (record {
             sh = (opened (w ∷ rest)).shelf;
@@ -291,30 +284,22 @@ module _ {list : List ℕ} {n : ℕ} {ws : List Word} (lex : Lexicon 64 ws) (byt
             within = let a = kept-is in let b = (shared_le (last_of us) w).1 in omega arith;
           })
 
-      module _ (room : 6 * n ≤ length work) (behind' dict' : List ℕ) (r : TailCount)
-          (closes : WordCloses word_bytes kept behind n (dict_of n work) tails behind' dict' r) (same : length dict' ≡ length (dict_of n work)) where
-        left_as : {r' : TailCount} → r ≡ r' → WordClosedAs w (shared (last_of us) w) (opened (w ∷ rest)).shelf (opened (w ∷ rest)).numbers n behind' dict' r'
+      module _ (behind' dict' : List ℕ) where
+        pub turned : (r : Option ℕ) → WordCloses word_bytes kept behind n dict tails behind' dict' r → Turned n ws marks at behind' dict' r
         unfolding WordCloses
-        left_as e =
-            let here : WordCloses w (shared (last_of us) w) behind n (dict_of n work) tails behind' dict' r = rw (word-is, kept-is) at closes in
-            subst (WordClosedAs w (shared (last_of us) w) (opened (w ∷ rest)).shelf (opened (w ∷ rest)).numbers n behind' dict') e
-            (here (opened (w ∷ rest)).shelf (opened (w ∷ rest)).numbers closing)
-
-        pub turned : Turned n ws work at behind' dict' r
-        turned =
-            record {
-              full = λ e.
-                  let h = left_as e in
-                  let g = closed-longer w rest us in
-                  let a = ap (λ l. length (shelved l).shelf) q.all in
-                  omega arith;
-              long = λ more e. (left_as e).long;
-              next = λ more e. next-from n work behind' dict' lex room same us w rest q.all q.place q.back step_is (left_as e);
-              last = λ more e. last-from n work behind' dict' lex room same us w rest q.all q.place step_is (left_as e);
-            }
+        turned None closes =
+            let h = (rw (word-is, kept-is) at closes) (opened (w ∷ rest)).shelf (opened (w ∷ rest)).numbers closing in
+            let g = closed-longer w rest us in
+            let a = ap (λ l. length (shelved l).shelf) q.all in
+            omega arith
+        turned (Some more) closes =
+            let h = (rw (word-is, kept-is) at closes) (opened (w ∷ rest)).shelf (opened (w ∷ rest)).numbers closing in (
+              h.long,
+              next-from n behind' dict' lex us w rest q.all q.place q.back step_is h,
+              last-from n behind' dict' lex us w rest q.all q.place step_is h,
+            )
 
 -- ---- the loop
-pub record Passes (list : List ℕ) (n : ℕ) (work₀ work : List ℕ) (at : ℕ) (behind : List ℕ) (tails : ℕ) : Type 0 where
-  pub same-long : length work ≡ length work₀
+pub record Passes (list : List ℕ) (n : ℕ) (marks dict : List ℕ) (at : ℕ) (behind : List ℕ) (tails : ℕ) : Type 0 where
   pub long : length behind ≡ 65
-  pub reached : (ws : List Word) → Lexicon 64 ws → list ≡ list_bytes ws → AtWord n ws work at behind tails
+  pub reached : (ws : List Word) → Lexicon 64 ws → list ≡ list_bytes ws → AtWord n ws marks dict at behind tails

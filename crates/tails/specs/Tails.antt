@@ -1,5 +1,5 @@
 -- The tails of runs in a work list: the entries of a shelf, each by its key.
-use Rattle.std.specs.Prelude.{◌≡◌, ◌⊎◌, List, [], ◌∷◌, ◌++◌, ℕ, suc, ◌+◌, ◌*◌, ◌≤◌, ◌<◌, eqb, length, get_or, take, drop}
+use Rattle.std.specs.Prelude.{◌≡◌, ◌⊎◌, List, [], ◌∷◌, ◌++◌, ℕ, suc, ◌+◌, ◌*◌, ◌≤◌, ◌<◌, eqb, length, get_or, take, drop, Option, Some, None}
 use Rattle.laws.specs.Lists.{All}
 use Rattle.graph.specs.Words.{Word}
 use Rattle.dictionary.specs.Keys.{keys_in}
@@ -10,10 +10,6 @@ use Rattle.built.specs.Listed.{list_bytes}
 use Rattle.shelf.specs.Shelf.{ShelfEntry, Shelf, SoundShelf}
 use Rattle.shelf.specs.Shelving.{close, shelved}
 use Rattle.shelf.specs.ShelvingLaws.{OpenWord}
-use Rattle.tails.specs.declared.Closed.{Closed}
-use Rattle.tails.specs.declared.Closed.TheVariants.{Run, TooMany}
-use Rattle.tails.specs.declared.TailCount.{TailCount}
-use Rattle.tails.specs.declared.TailCount.TheVariants.{Tails, TooMany as NoRoom}
 
 -- the most tails that a graph has nodes for is below this
 abbrev pub tail_limit : ℕ
@@ -77,11 +73,11 @@ pub record WordClosed (w : Word) (kept : ℕ) (sh : Shelf) (xs : List ℕ) (n : 
   pub long : length behind ≡ 65
   pub numbers : Behind behind (take kept xs ++ (close sh (drop kept w) (drop kept xs)).number ∷ [])
 
-abbrev pub WordClosedAs : Word → ℕ → Shelf → List ℕ → ℕ → List ℕ → List ℕ → TailCount → Type 0
-WordClosedAs w kept sh xs n behind dict (Tails k) = WordClosed w kept sh xs n behind dict k
-WordClosedAs w kept sh xs n behind dict NoRoom = tail_limit ≤ suc (length (close sh (drop kept w) (drop kept xs)).shelf)
+abbrev pub WordClosedAs : Word → ℕ → Shelf → List ℕ → ℕ → List ℕ → List ℕ → Option ℕ → Type 0
+WordClosedAs w kept sh xs n behind dict (Some k) = WordClosed w kept sh xs n behind dict k
+WordClosedAs w kept sh xs n behind dict None = tail_limit ≤ suc (length (close sh (drop kept w) (drop kept xs)).shelf)
 
-unfoldable pub WordCloses : Word → ℕ → List ℕ → ℕ → List ℕ → ℕ → List ℕ → List ℕ → TailCount → Type 0
+unfoldable pub WordCloses : Word → ℕ → List ℕ → ℕ → List ℕ → ℕ → List ℕ → List ℕ → Option ℕ → Type 0
 WordCloses w kept behind n dict k behind' dict' r =
     (sh : Shelf) (xs : List ℕ) → Closing w behind n dict k sh xs → WordClosedAs w kept sh xs n behind' dict' r
 
@@ -94,9 +90,9 @@ pub record TailsIn (n : ℕ) (work : List ℕ) (sh : Shelf) : Type 0 where
   pub low : (i : ℕ) → i < length sh → get_or work (2 * n + 4 * i) 0 < 0x100000000
 
 -- what closing all words leaves
-abbrev pub WordsClosedAs : List Word → ℕ → List ℕ → Closed → Type 0
-WordsClosedAs ws n work (Run i) = TailsIn n work (shelved ws).shelf × (i ≡ (shelved ws).number)
-WordsClosedAs ws n work TooMany = tail_limit ≤ suc (length (shelved ws).shelf)
+abbrev pub WordsClosedAs : List Word → ℕ → List ℕ → Option ℕ → Type 0
+WordsClosedAs ws n work (Some i) = TailsIn n work (shelved ws).shelf × (i ≡ (shelved ws).number)
+WordsClosedAs ws n work None = tail_limit ≤ suc (length (shelved ws).shelf)
 
-unfoldable pub WordsClose : List ℕ → ℕ → List ℕ → Closed → Type 0
+unfoldable pub WordsClose : List ℕ → ℕ → List ℕ → Option ℕ → Type 0
 WordsClose list n work r = (ws : List Word) → Lexicon 64 ws → list ≡ list_bytes ws → WordsClosedAs ws n work r

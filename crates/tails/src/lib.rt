@@ -14,35 +14,24 @@ ghost use Rattle.shelf.specs.Shelving.{shelf_entry};
 ghost use Rattle.word_list.specs.Words.{IsLexicon};
 ghost use Rattle.tails.specs.Tails.{key_of, Closable, WordCloses, WordsClose};
 
-use base::{bit, clear, whole};
 use dictionary::number_key;
 use word_list::{mark_words, shared};
 
-// The tail that the list's own run begins with; or that there are as many tails as a graph has room for.
-#[derive(Clone, Copy)]
-pub enum Closed {
-    Run(u32),
-    TooMany,
-}
-
-// How many tails there are; or that there are as many as a graph has room for.
-#[derive(Drop)]
-enum TailCount {
-    Tails(u32),
-    TooMany,
-}
-
-// The key of a tail. A node ends its run where no tail follows. Tile and child must fit their fields.
+// The key of a tail. A node ends its run where no tail follows. Tile and child must fit their fields, so none is tested, as `Node24::pack` would.
 fn tail_key(tile: u8, accepts: bool, child: u32, next: u32) -> u64
     requires { (tile < 64) × (child < 16777216) }
     ensures { result ≡ key_of (shelf_entry tile accepts child next) }
 {
-    let node = child * 0x100 + bit(accepts) * 0x80 + bit(next == 0) * 0x40 + tile as u32;
-    whole(next, node)
+    let node = child * 0x100
+        + u32::from(accepts) * 0x80
+        + u32::from(next == 0) * 0x40
+        + u32::from(tile);
+    u64::from(next) * 0x1_0000_0000 + u64::from(node)
 }
 
-// Closes a word down to its first `kept` tiles: each of the others becomes a tail, the last one's node an accepting one. The dictionary of the
-// tails must stand in `dict`, with room for n and `count` tails in it, and `behind` must be that of the word.
+// Closes a word down to its first `kept` tiles: each of the others becomes a tail, the last one's node an accepting one. Answers how many tails
+// there are then; or none where there are as many as a graph has room for. The dictionary of the tails must stand in `dict`, with room for n and
+// `count` tails in it, and `behind` must be that of the word.
 fn close_word(
     word: &[u8],
     kept: usize,
@@ -50,61 +39,49 @@ fn close_word(
     dict: &mut [u32],
     n: usize,
     count: u32,
-) -> TailCount
+) -> Option<u32>
     requires { Closable word.now kept behind.old n dict.old count }
     ensures { WordCloses word.now kept behind.old n dict.old count behind.new dict.new result }
 {
-    let tiles = word.len();
-    let mut d = tiles;
     let mut tails = count;
-    while kept < d {
+    for d in (kept..word.len()).rev() {
         if n <= tails as usize + 1 {
-            return TailCount::TooMany;
+            return None;
         }
-        let key = tail_key(word[d - 1], d == tiles, behind[d], behind[d - 1]);
+        let key = tail_key(word[d], d + 1 == word.len(), behind[d + 1], behind[d]);
         let numbered = number_key(dict, n, tails, key);
-        behind[d] = 0;
-        d -= 1;
+        behind[d + 1] = 0;
         behind[d] = numbered.number + 1;
         tails = numbered.count;
     }
-    TailCount::Tails(tails)
+    Some(tails)
 }
 
-// Closes the words one by one, from the last to the first. The list must be that of a lexicon and not empty, n its length or 16,777,216, whichever is
-// less. The work list has numbers that are not used here in its first n places, then the dictionary of the tails with room for n of them, and from
-// 6n on the way back from word to word, with a number for each byte of the list.
-pub fn close_words(list: &[u8], work: &mut [u32], n: usize) -> Closed
+// Closes the words one by one, from the last to the first. Answers the tail that the list's own run begins with; or none where there are as many
+// tails as a graph has room for. The list must be that of a lexicon and not empty, n its length or 16,777,216, whichever is less. The work list has
+// numbers that are not used here in its first n places, then the dictionary of the tails with room for n of them, and from 6n on the way back from
+// word to word, with a number for each byte of the list.
+pub fn close_words(list: &[u8], work: &mut [u32], n: usize) -> Option<u32>
     requires lexicon { IsLexicon list.now }
     requires list_nonzero { 0 < length list.now }
     requires n_value { n ≡ min (length list.now) 16777216 }
     requires list_in_bounds { 6 * n + length list.now ≤ length work.old }
     ensures { WordsClose list.now n work.new result }
 {
-    let base = 6 * n;
-    clear(&mut work[n..base], n);
-    let mut at = mark_words(list, work, base);
+    let (tables, marks) = work.split_at_mut(6 * n);
+    let dict = &mut tables[n..];
+    dict[..n].fill(0);
+    let mut at = mark_words(list, marks);
     let mut behind = [0u32; 65];
     let mut tails: u32 = 0;
     loop {
         let from = at + 1;
-        let to = from + list[at] as usize;
-        let before = at - work[base + at] as usize;
-        let kept = shared(&list[before..at], &list[from..to]);
-        let closed = close_word(
-            &list[from..to],
-            kept,
-            &mut behind,
-            &mut work[n..base],
-            n,
-            tails,
-        );
-        let TailCount::Tails(more) = closed else {
-            return Closed::TooMany;
-        };
-        tails = more;
+        let word = &list[from..from + list[at] as usize];
+        let before = at - marks[at] as usize;
+        let kept = shared(&list[before..at], word);
+        tails = close_word(word, kept, &mut behind, dict, n, tails)?;
         if before == at {
-            return Closed::Run(behind[0]);
+            return Some(behind[0]);
         }
         at = before - 1;
     }

@@ -1,7 +1,9 @@
 -- Reading a text line by line visits exactly its lines.
-use Rattle.std.specs.Prelude.{◌≡◌, refl, true, false, List, [], ◌∷◌, eqb, ltb, get_or, take}
-use Rattle.std.proofs.Common.{sym, ap₂, ◌∙◌, true≢false, suc-add, add-one, eqb-true, ltb-true, ltb-false, length-drop, drop-drop}
+use Rattle.std.specs.Prelude.{◌≡◌, refl, not, min, take_while, nat_eq, true, false, List, [], ◌∷◌, eqb, ltb, get_or, take}
+use Rattle.std.proofs.Common.{sym, ap₂, ◌∙◌, true≢false, suc-add, add-one, one-add, eqb-true, ltb-true, ltb-false, length-drop, drop-drop}
 use Rattle.std.proofs.Math.Path.{ap}
+use Rattle.std.specs.List.{starts_with}
+use Rattle.std.proofs.lemmas.Bool.Decides.{nat_tests}
 use Prim.Native.Nat.{ℕ, zero, suc, ◌+◌, ◌-◌, ◌≤◌, ◌<◌, zero-le}
 use native.Mathlib.Omega.{arith}
 use Rattle.std.proofs.Math.ListN.{length, drop, drop_of_length-le}
@@ -23,6 +25,12 @@ module _ (text : List ℕ) (i : ℕ) where
   pub line-past : length text ≤ i → first_line (drop i text) ≡ []
   unfolding first_line
   line-past h = rw (drop_of_length-le text h)
+
+-- it is all before the first ending
+pub line-while : (s : List ℕ) → take_while (λ b. not (is_ending b)) s ≡ first_line s
+unfolding first_line
+line-while [] = refl
+line-while (b ∷ s) = split (is_ending b) (λ e. rw (e, first_line)) (λ e. rw (e, first_line, one-add) (ap (b ∷◌) (line-while s)))
 
 -- a line stands in the text
 pub line-fits : (s : List ℕ) → length (first_line s) ≤ length s
@@ -58,6 +66,21 @@ module _ (text : List ℕ) (i : ℕ) where
   pub ending_one : i + 1 < length text → is_pair (get_or text i 0) (get_or text (i + 1) 0) ≡ false → ending_width (drop i text) ≡ 1
   unfolding ending_width
   ending_one h e = rw (ending_two h) (rw (e, ending_width))
+
+starts-pair : (b c : ℕ) (s : List ℕ) → starts_with nat_eq (b ∷ c ∷ s) (0x0D ∷ 0x0A ∷ []) ≡ is_pair b c
+starts-pair b c s = grind (arith, nat_tests)
+
+pub width_pair : (s : List ℕ) → starts_with nat_eq s (0x0D ∷ 0x0A ∷ []) ≡ true → ending_width s ≡ 2
+unfolding ending_width
+width_pair [] e = absurd (true≢false (sym e))
+width_pair (b ∷ []) e = grind (arith, nat_tests)
+width_pair (b ∷ c ∷ s) e = rw (sym (starts-pair b c s) ∙ e, ending_width)
+
+pub width_one : (s : List ℕ) → starts_with nat_eq s (0x0D ∷ 0x0A ∷ []) ≡ false → ending_width s ≡ min (length s) 1
+unfolding ending_width
+width_one [] e = refl
+width_one (b ∷ []) e = refl
+width_one (b ∷ c ∷ s) e = rw (sym (starts-pair b c s) ∙ e, ending_width) (omega arith)
 
 pub ending_fits : (s : List ℕ) → ending_width s ≤ length s
 unfolding ending_width
@@ -174,6 +197,16 @@ pub Visits-only : (text : List ℕ) (at : ℕ) (ls : List (List ℕ)) → Visits
 Visits-only text at ls (done h) = sym (lines-past text at h)
 Visits-only text at ls (visit {ls = rest} h v) =
     ap (first_line (drop at text) ∷◌) (Visits-only text (at + line_width (drop at text)) rest v) ∙ sym (lines_at text at h)
+
+-- ---- the line and the ending that a text begins with, by how many bytes they have
+module _ (s : List ℕ) (end width : ℕ) (e : end ≡ length (take_while (λ b. not (is_ending b)) s)) where
+  pub line-before : take end s ≡ first_line s
+  line-before = rw (e ∙ ap length (line-while s)) (line-part s)
+
+  pub line-after : width ≡ ending_width (drop end s) → end + width ≡ line_width s
+  unfolding line_width
+  line-after w = let i : end ≡ length (first_line s) = e ∙ ap length (line-while s) in
+      rw (← i) (ap (λ n. end + n) w)
 
 -- ---- a line and what follows it, by the place where it ends
 module _ (text : List ℕ) (at end : ℕ) (e : end ≡ at + length (first_line (drop at text))) where

@@ -1,15 +1,16 @@
 -- The tile that a text begins with: by what its first bytes are, and by the decimal digits that write it (`leading-written`, `written-leads`).
-use Rattle.std.specs.Prelude.{◌≡◌, refl, true, false, ◌&&◌, not, ◌≢◌, ℕ, ◌+◌, ◌-◌, ◌*◌, ◌/◌, ◌%◌, ◌≤◌, ◌<◌, eqb, leb, ltb, length, get_or, drop}
-use Rattle.std.proofs.Common.{sym, ap, ◌∙◌, subst, add-one, le-leb, leb-true, ne_eqb, ltb-true, ltb-false, drop_of_length-le}
+use Rattle.std.specs.Prelude.{◌≡◌, refl, cond, None, Some, true, false, ◌&&◌, not, ◌≢◌, ℕ, ◌+◌, ◌-◌, ◌*◌, ◌/◌, ◌%◌, ◌≤◌, ◌<◌, eqb, leb, ltb, length, get_or, drop}
+use Rattle.std.proofs.Common.{sym, ap, ◌∙◌, subst, add-one, le-leb, leb-true, ne_eqb, ltb-true, ltb-false, drop_of_length-le, drop-drop}
 use mathlib.Core.List.{List, [], ◌∷◌, ◌++◌}
 use Rattle.std.proofs.Math.Option.{none, some}
 use native.Mathlib.Omega.{arith}
+use Rattle.std.proofs.lemmas.Option.{none-some, same_Some}
 use Rattle.std.proofs.lemmas.Bool.{lt-leb, eqb-false, not-true}
 use Rattle.std.proofs.Math.Seq.{drop-cons}
 use Rattle.laws.specs.Cases.{split, some≢none, and_left, and_right}
 use Rattle.decimal.specs.Decimal.{decimal}
 use Rattle.decimal.specs.DecimalLaws.{decimal-one, decimal-more}
-use Rattle.text.specs.Tiles.{is_digit, tile_within, tile_after, leading_tile}
+use Rattle.text.specs.Tiles.{is_digit, first_digit, tile_within, tile_after, leading_tile}
 
 -- ---- "1 to 63"
 pub within-tile : (t w : ℕ) → 1 ≤ t → t ≤ 63 → tile_within t w ≡ some (t, w)
@@ -68,6 +69,64 @@ module _ (text : List ℕ) (i : ℕ) where
       → leading_tile (drop i text) ≡ tile_after (get_or text i 0 - 0x30) (drop (i + 1) text)
   unfolding leading_tile
   tile-digit h e n = rw (add-one, drop-cons text i 0 h) (rw (e, leading_tile) (rw (ne_eqb (get_or text i 0) 0x30 n)))
+
+-- ---- the tile that a text begins with, by the digits that it begins with
+pub digit-here : (text : List ℕ) (i : ℕ) → i < length text
+    → first_digit (drop i text) ≡ cond (is_digit (get_or text i 0)) (Some (get_or text i 0 - 0x30)) None
+unfolding first_digit
+digit-here text i h = rw (drop-cons text i 0 h)
+
+pub digit-past : (text : List ℕ) (i : ℕ) → length text ≤ i → first_digit (drop i text) ≡ None
+unfolding first_digit
+digit-past text i h = rw (drop_of_length-le text h)
+
+after-second : (d : ℕ) (s : List ℕ) → tile_after d s ≡ elim (first_digit s) [ None ↦ tile_within d 1 | Some e ↦ tile_within (d * 10 + e) 2 ]
+unfolding tile_after first_digit
+after-second d [] = refl
+after-second d (b ∷ s) = split (is_digit b) (λ y. rw (y, tile_after, cond)) (λ y. rw (y, tile_after, cond))
+
+pub digit-none : (s : List ℕ) → first_digit s ≡ None → leading_tile s ≡ none
+unfolding leading_tile first_digit
+digit-none [] e = refl
+digit-none (b ∷ s) e =
+    split (is_digit b)
+    (λ y. absurd (none-some (b - 0x30) (sym (rw (y, cond) at e))))
+    (λ y. rw (y, leading_tile))
+
+pub digit-zero : (s : List ℕ) → first_digit s ≡ Some 0 → leading_tile s ≡ none
+unfolding leading_tile first_digit
+digit-zero [] e = refl
+digit-zero (b ∷ s) e =
+    split (is_digit b)
+    (λ y.
+    let z = same_Some (b - 0x30) 0 (rw (y, cond) at e) in
+    let low = digit_low b y in
+    let is : b ≡ 0x30 = omega arith in
+    rw (is, leading_tile))
+    (λ y. rw (y, leading_tile))
+
+-- the first is not 0
+pub digit-first : (s : List ℕ) (d : ℕ) → first_digit s ≡ Some d → 0 < d → leading_tile s ≡ tile_after d (drop 1 s)
+unfolding leading_tile first_digit
+digit-first [] d e h = absurd (none-some d e)
+digit-first (b ∷ s) d e h =
+    split (is_digit b)
+    (λ y.
+    let i = same_Some (b - 0x30) d (rw (y, cond) at e) in
+    let other = ne_eqb b 0x30 (λ z. absurd (omega arith)) in
+    rw (y, other, i, leading_tile))
+    (λ y. absurd (none-some d (rw (y, cond) at e)))
+
+-- and the second is there, or not
+module _ (text : List ℕ) (at d : ℕ) (e : first_digit (drop at text) ≡ Some d) (h : 0 < d) where
+  pub digit-alone : d ≤ 9 → first_digit (drop (at + 1) text) ≡ None → leading_tile (drop at text) ≡ some (d, 1)
+  digit-alone k f =
+      digit-first (drop at text) d e h ∙ ap (tile_after d) (drop-drop 1 at text)
+      ∙ after-second d (drop (at + 1) text) ∙ rw f (within-tile d 1 h (omega arith))
+
+  pub digit-pair : (f : ℕ) → first_digit (drop (at + 1) text) ≡ Some f → leading_tile (drop at text) ≡ tile_within (d * 10 + f) 2
+  digit-pair f g =
+      digit-first (drop at text) d e h ∙ ap (tile_after d) (drop-drop 1 at text) ∙ after-second d (drop (at + 1) text) ∙ rw g
 
 -- ---- "decimal, no leading zero": the tile that a text begins with is the one that its first digits write
 pub record WrittenTile (s : List ℕ) (t n : ℕ) : Type 0 where

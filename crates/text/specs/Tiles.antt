@@ -1,10 +1,15 @@
 -- A tile in a text: "tile 1 to 63 (decimal, no leading zero)" (02, C-13).
-use Rattle.std.specs.Prelude.{Bool, true, false, ◌&&◌, not, List, [], ◌∷◌, ℕ, ◌+◌, ◌-◌, ◌*◌, eqb, leb}
+use Rattle.std.specs.Prelude.{Bool, true, false, ◌&&◌, not, List, [], ◌∷◌, ℕ, ◌+◌, ◌-◌, ◌*◌, eqb, leb, cond, Option as Maybe, None, Some}
 use Rattle.std.proofs.Math.Option.{Option, none, some}
 
 -- the digits, 30 to 39 hexadecimal
 abbrev pub is_digit : ℕ → Bool
 is_digit b = leb 0x30 b && leb b 0x39
+
+-- the value of the digit that a text begins with
+unfoldable pub first_digit : List ℕ → Maybe ℕ
+first_digit [] = None
+first_digit (b ∷ s) = cond (is_digit b) (Some (b - 0x30)) None
 
 -- the tile where it is one, with the bytes that it takes
 abbrev pub tile_within : ℕ → ℕ → Option (ℕ × ℕ)

@@ -5,4 +5,4 @@ mod line;
 mod tile;
 
 pub use line::{is_ending, next_line};
-pub use tile::{TileRead, read_tile};
+pub use tile::read_tile;

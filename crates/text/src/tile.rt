@@ -1,66 +1,35 @@
 // A tile written in decimal.
-ghost use Rattle.std.specs.Prelude.{◌≡◌, ◌+◌, ◌-◌, ◌*◌, ◌<◌, ◌≤◌, drop};
-ghost use Rattle.text.specs.Tiles.{is_digit, tile_within, tile_after, leading_tile};
+ghost use Rattle.std.specs.Prelude.{◌≡◌, ◌≤◌, ◌<◌, length, drop, IfSome};
+ghost use Rattle.text.specs.Tiles.{first_digit, leading_tile};
 ghost use Rattle.text.specs.Said.{tile_in};
 
-#[derive(Clone, Copy)]
-pub enum TileRead {
-    // the tile, and how many digits it has
-    Tile(u8, usize),
-    NoTile,
-}
-
-// Whether a byte is a digit.
-fn is_digit(b: u8) -> bool
-    ensures { result ≡ is_digit b }
+// The value of the digit that stands at place at of a text.
+fn digit_at(text: &[u8], at: usize) -> Option<u8>
+    ensures value { result ≡ first_digit (drop at text.now) }
+    ensures small { IfSome result (λ d. (d ≤ 9) × (at < length text.now)) }
 {
-    if b < 48 {
-        return false;
+    let b = *text.get(at)?;
+    if b.is_ascii_digit() {
+        Some(b - b'0')
+    } else {
+        None
     }
-    b <= 57
 }
 
-// The tile of two digits, the first of which is not 0.
-fn two_digits(first: u8, second: u8) -> TileRead
-    requires { (1 ≤ first) × (first ≤ 9) × (second ≤ 9) }
-    ensures { tile_in result ≡ tile_within (first * 10 + second) 2 }
-{
-    let tile = first * 10 + second;
-    if 63 < tile {
-        return TileRead::NoTile;
-    }
-    TileRead::Tile(tile, 2)
-}
-
-// The tile whose first digit, not 0, stands before place at of a text.
-fn tile_after(text: &[u8], first: u8, at: usize) -> TileRead
-    requires { (1 ≤ first) × (first ≤ 9) }
-    ensures { tile_in result ≡ tile_after first (drop at text.now) }
-{
-    if text.len() <= at {
-        return TileRead::Tile(first, 1);
-    }
-    let second = text[at];
-    if is_digit(second) {
-        return two_digits(first, second - 48);
-    }
-    TileRead::Tile(first, 1)
-}
-
-// The tile, 1 to 63 in decimal with no leading zero, that stands at place at of a text: one digit, or two. What follows them is not looked at, nor
-// is a third digit.
-pub fn read_tile(text: &[u8], at: usize) -> TileRead
+// The tile, 1 to 63 in decimal with no leading zero, that stands at place at of a text, and how many digits it has: one, or two. What follows
+// them is not looked at, nor is a third digit.
+pub fn read_tile(text: &[u8], at: usize) -> Option<(u8, usize)>
     ensures { tile_in result ≡ leading_tile (drop at text.now) }
 {
-    if text.len() <= at {
-        return TileRead::NoTile;
+    let first = digit_at(text, at)?;
+    if first == 0 {
+        return None;
     }
-    let first = text[at];
-    if first == 48 {
-        return TileRead::NoTile;
+    match digit_at(text, at + 1) {
+        Some(second) => {
+            let tile = first * 10 + second;
+            if tile <= 63 { Some((tile, 2)) } else { None }
+        }
+        None => Some((first, 1)),
     }
-    if is_digit(first) {
-        return tile_after(text, first - 48, at + 1);
-    }
-    TileRead::NoTile
 }

@@ -5,22 +5,20 @@ use mathlib.Core.Option.{Option, none, some}
 use Prim.Native.Nat.{ℕ, zero, suc, ◌+◌, ◌-◌, ◌≤◌, ◌<◌}
 use native.Mathlib.Omega.{arith}
 use borrow.Author.Tests.{lt-ltb, le-ltb}
-use lib.Dec.{eqb}
+use lib.Dec.{eqb, ltb}
 use lib.ListN.{length, take, drop, set, length-append, length-set, length-drop, take-append-drop}
 use lib.Seq.{length-take-le}
+use Rattle.laws.specs.Cases.{split}
 use Rattle.laws.specs.Buffers.{Left, Filled, left-begins, left_is, left-put, left-fill, left-done, part_filled, part-fits}
 use Rattle.answers.specs.Answers.{Answer, gives, nothing, refused}
-use Rattle.text.specs.Lines.{lines}
+use Rattle.text.specs.Lines.{lines, first_line}
 use Rattle.label_index.specs.Labels.{Label, bad_line, labels_in}
-use Rattle.text.specs.Said.{LineRead}
 use Rattle.typed.specs.Words.{typed_word}
-use Rattle.typed.specs.Texts.{line_start, on_line, word_from_place, unless_bad}
+use Rattle.typed.specs.Texts.{line_start, line_end, line_after, on_line, word_of_line, word_from_place, unless_bad}
 use Rattle.typed.specs.Batches.{Batch, stopping, with_word, batch_by, batch_from, or_stop, batch_answer, read_words}
-use Rattle.typed.specs.Said.{said_typed, BatchPut}
-use Rattle.typed.specs.declared.word.WordRead.{WordRead}
-use Rattle.typed.specs.declared.word.WordRead.TheVariants as W
+use Rattle.typed.specs.Said.{BatchPut}
 use Rattle.typed.specs.WordLaws.{word_count}
-use Rattle.typed.proofs.NextLaws.{place_end, place-line, line_word}
+use Rattle.typed.proofs.NextLaws.{place_end}
 
 -- ---- one line more
 module _ (ls : List Label) (text : List ℕ) (slots room at : ℕ) {p : ℕ} (e : p ≡ line_start text at) where
@@ -52,10 +50,11 @@ module _ (ls : List Label) (text : List ℕ) (slots room at : ℕ) (some-slot : 
   batch-word ts start end after n e =
       one-slot ∙ ap (λ (w : List ℕ × Answer). batch_by at w.0 w.1 (λ tiles after. batch_from ls text (slots - 1) (room - tiles) after)) e
 
-  pub batch_refused : (ts : List ℕ) (r : ℕ) (vs : List ℕ) → word_from_place ls text room at ≡ (ts, refused r vs)
-      → batch_from ls text slots room at ≡ stopping at (ts, refused r vs)
-  batch_refused ts r vs e =
+  pub batch_stop : (ts : List ℕ) (r : Answer) → ((next : ℕ → ℕ → Batch) → batch_by at ts r next ≡ stopping at (ts, r))
+      → word_from_place ls text room at ≡ (ts, r) → batch_from ls text slots room at ≡ stopping at (ts, r)
+  batch_stop ts r stops e =
       one-slot ∙ ap (λ (w : List ℕ × Answer). batch_by at w.0 w.1 (λ tiles after. batch_from ls text (slots - 1) (room - tiles) after)) e
+      ∙ stops (λ tiles after. batch_from ls text (slots - 1) (room - tiles) after)
 
 -- ---- the lists
 -- so many words are read, with so many tiles; `left` is the batch from there, and `whole` that from the start
@@ -102,72 +101,76 @@ module _ {whole : Batch} {tiles₀ sizes₀ : List ℕ} {words put : ℕ} {tiles
         record { answer = a ∙ same; tiles = t.front; sizes = s.front }
 
 -- ---- a line read into the part of the tiles from place `put` on
-pub record PartRead (ls : List Label) (text : List ℕ) (at after : ℕ) (tiles : List ℕ) (put : ℕ) (tiles' : List ℕ) (read : WordRead) : Type 0 where
+-- a word's answer says how many tiles it has
+word-answer : (p q t start end after n : ℕ) (r : Answer) → on_line p q t r ≡ gives (start ∷ end ∷ after ∷ n ∷ []) → r ≡ gives (n ∷ [])
+word-answer p q t start end after n (gives ns) e = cc
+word-answer p q t start end after n nothing e = cc
+word-answer p q t start end after n (refused k ns) e = cc
+
+module _ (ls : List Label) (text : List ℕ) (room at start end after n : ℕ) (ts : List ℕ) where
+  line-count : (p : ℕ) → word_of_line ls text room p ≡ (ts, gives (start ∷ end ∷ after ∷ n ∷ [])) → n ≡ length ts
+  unfolding word_of_line
+  line-count p e =
+      let line = first_line (drop p text) in
+      let is = ap (λ (w : List ℕ × Answer). w.1) e in
+      word_count ls line p room n (word-answer p (line_end text p) (line_after text p) start end after n (typed_word ls line p room).1 is)
+      ∙ ap (λ (w : List ℕ × Answer). length w.0) e
+
+  place-count : word_from_place ls text room at ≡ (ts, gives (start ∷ end ∷ after ∷ n ∷ [])) → n ≡ length ts
+  unfolding word_from_place
+  place-count e =
+      split (ltb (line_start text at) (length text))
+      (λ t. line-count (line_start text at) (rw t at e))
+      (λ f. let z = ap (λ (w : List ℕ × Answer). w.1) (rw f at e) in cc)
+
+pub record PartRead (ls : List Label) (text : List ℕ) (at : ℕ) (tiles : List ℕ) (put : ℕ) (tiles' : List ℕ) (said : Answer) : Type 0 where
   pub ts : List ℕ
   pub fits : put + length ts ≤ length tiles
   pub back : tiles' ≡ take put tiles ++ (ts ++ drop (length ts) (drop put tiles))
-  pub start : ℕ
-  pub end : ℕ
-  pub word : word_from_place ls text (length tiles - put) at ≡ (ts, on_line start end after (said_typed read))
-  pub count : (n : ℕ) → read ≡ W.Tiles n → n ≡ length ts
+  pub word : word_from_place ls text (length tiles - put) at ≡ (ts, said)
 
-module _ {text : List ℕ} {p after : ℕ} {line : List ℕ} (l : LineRead text p after line) (ls : List Label) (at : ℕ) (e : p ≡ line_start text at)
-    (there : p < length text) (tiles : List ℕ) (put : ℕ) (room : put ≤ length tiles) where
+module _ (ls : List Label) (text : List ℕ) (at : ℕ) (tiles : List ℕ) (put : ℕ) (room : put ≤ length tiles) where
   abbrev lent : List ℕ
   lent = take (length tiles - put) (drop put tiles)
 
   lent_length : length lent ≡ length tiles - put
   lent_length = let d = length-drop put tiles in length-take-le (length tiles - put) (drop put tiles) (omega arith)
 
-  pub part-read : {ys : List ℕ} {x y : WordRead} → Filled (typed_word ls line p (length lent)) lent ys (said_typed x) → x ≡ y
-      → length ys ≡ length lent
-      → PartRead ls text at after tiles put (take put tiles ++ (ys ++ drop (length tiles - put) (drop put tiles))) y
-  part-read {ys} {x} {y} f i k =
+  pub part-read : {ys : List ℕ} {said : Answer} → Filled (word_from_place ls text (length lent) at) lent ys said → length ys ≡ length lent
+      → PartRead ls text at tiles put (take put tiles ++ (ys ++ drop (length tiles - put) (drop put tiles))) said
+  part-read {ys} {said} f k =
       let n = part-fits tiles put f k in
       record {
-        ts = (typed_word ls line p (length lent)).0;
+        ts = (word_from_place ls text (length lent) at).0;
         fits = omega arith;
         back = part_filled tiles put f;
-        start = p;
-        end = p + length line;
-        word = ap (λ m. word_from_place ls text m at) (sym lent_length) ∙ place-line ls text (length lent) at e there
-            ∙ line_word l ls (length lent) (sym f.answer ∙ ap said_typed i);
-        count = λ m q. word_count ls line p (length lent) m (sym f.answer ∙ ap said_typed (i ∙ q));
+        word = ap (λ m. word_from_place ls text m at) (sym lent_length)
+            ∙ ap (λ r. ((word_from_place ls text (length lent) at).0, r)) (sym f.answer);
       }
 
-pub part-size : {ls : List Label} {text : List ℕ} {at after put : ℕ} {tiles tiles' : List ℕ} {read : WordRead}
-    → PartRead ls text at after tiles put tiles' read → put ≤ length tiles → length tiles' ≡ length tiles
-part-size {ls} {text} {at} {after} {put} {tiles} {tiles'} {read} r h =
-    let f = r.fits in
-    let a = length-take-le put tiles h in
-    let b = length-append (take put tiles) (r.ts ++ drop (length r.ts) (drop put tiles)) in
-    let c = length-append r.ts (drop (length r.ts) (drop put tiles)) in
-    let d = length-drop (length r.ts) (drop put tiles) in
-    let e = length-drop put tiles in
-    ap length r.back ∙ omega arith
-
-module _ {whole : Batch} {tiles₀ sizes₀ : List ℕ} {words put : ℕ} {tiles sizes : List ℕ} {ls : List Label} {text : List ℕ} {at after : ℕ}
-    {tiles' : List ℕ} {read : WordRead} (r : PartRead ls text at after tiles put tiles' read) (h : words < length sizes)
+module _ {whole : Batch} {tiles₀ sizes₀ : List ℕ} {words put : ℕ} {tiles sizes : List ℕ} {ls : List Label} {text : List ℕ} {at : ℕ}
+    {tiles' : List ℕ} {said : Answer} (r : PartRead ls text at tiles put tiles' said) (h : words < length sizes)
     (l : BatchLeft whole tiles₀ sizes₀ words put tiles sizes (batch_from ls text (length sizes - words) (length tiles - put) at)) where
-  pub batch-puts : (n : ℕ) → read ≡ W.Tiles n
+  -- a word
+  pub batch-puts : (start end after n : ℕ) → said ≡ gives (start ∷ end ∷ after ∷ n ∷ [])
       → BatchLeft whole tiles₀ sizes₀ (words + 1) (put + n) tiles' (set sizes words n)
       (batch_from ls text (length (set sizes words n) - (words + 1)) (length tiles' - (put + n)) after)
-  batch-puts n i =
+  batch-puts start end after n i =
       let next = batch_from ls text (length sizes - words - 1) (length tiles - put - n) after in
-      let is = batch-word ls text (length sizes - words) (length tiles - put) at (omega arith) r.ts r.start r.end after n
-      (r.word ∙ ap (λ (x : WordRead). (r.ts, on_line r.start r.end after (said_typed x))) i) in
-      let more = batch-more r.ts r.back r.fits n (r.count n i) h next (batch-is is l) in
+      let word = r.word ∙ ap (λ x. (r.ts, x)) i in
+      let is = batch-word ls text (length sizes - words) (length tiles - put) at (omega arith) r.ts start end after n word in
+      let more = batch-more r.ts r.back r.fits n (place-count ls text (length tiles - put) at start end after n r.ts word) h next (batch-is is l) in
       let size = more.in_tiles.size ∙ sym l.in_tiles.size in
       let a : length sizes - words - 1 ≡ length (set sizes words n) - (words + 1) = rw length-set (omega arith) in
       let b : length tiles - put - n ≡ length tiles' - (put + n) = omega arith in
       batch-is (ap₂ (λ s t. batch_from ls text s t after) a b) more
 
-  pub batch-stops : (k : ℕ) (vs : List ℕ) → said_typed read ≡ refused k vs → (said : Answer)
-      → said ≡ or_stop (eqb words 0) (refused k vs) (gives (words ∷ put ∷ at ∷ [])) → BatchPut whole tiles₀ tiles' sizes₀ sizes said
-  batch-stops k vs i said a =
-      let is = batch_refused ls text (length sizes - words) (length tiles - put) at (omega arith) r.ts k vs
-      (r.word ∙ ap (λ (x : Answer). (r.ts, on_line r.start r.end after x)) i) in
-      batch-done r.ts r.back r.fits at (refused k vs) said a (batch-is is l)
+  -- the end, or a refusal
+  pub batch-stops : ((next : ℕ → ℕ → Batch) → batch_by at r.ts said next ≡ stopping at (r.ts, said)) → (answer : Answer)
+      → answer ≡ or_stop (eqb words 0) said (gives (words ∷ put ∷ at ∷ [])) → BatchPut whole tiles₀ tiles' sizes₀ sizes answer
+  batch-stops stops answer a =
+      let is = batch_stop ls text (length sizes - words) (length tiles - put) at (omega arith) r.ts said stops r.word in
+      batch-done r.ts r.back r.fits at said answer a (batch-is is l)
 
 -- no line is begun
 pub untouched : (w : List ℕ) (n : ℕ) → w ≡ take n w ++ ([] ++ drop (length {A = ℕ} []) (drop n w))

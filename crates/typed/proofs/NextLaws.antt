@@ -2,11 +2,9 @@
 use mathlib.Core.Path.{◌≡◌, refl, sym, ap, ◌∙◌, subst}
 use mathlib.Core.List.{List, [], ◌∷◌, ◌++◌}
 use mathlib.Core.Option.{Option, none, some}
-use Prim.Native.Nat.{ℕ, zero, suc, ◌+◌, ◌-◌, ◌≤◌, ◌<◌}
-use native.Mathlib.Omega.{arith}
+use Prim.Native.Nat.{ℕ, ◌+◌, ◌≤◌, ◌<◌}
 use borrow.Author.Tests.{lt-ltb, le-ltb}
-use lib.ListN.{length, get_or, drop, take, drop_of_length-le, length-drop, replicate, length-replicate}
-use lib.Seq.{take_all}
+use lib.ListN.{length, drop}
 use Rattle.laws.specs.Buffers.{Filled}
 use Rattle.answers.specs.Answers.{Answer, nothing, refused}
 use Rattle.text.specs.Lines.{lines, first_line, line_width}
@@ -14,8 +12,6 @@ use Rattle.text.specs.Said.{LineRead}
 use Rattle.label_index.specs.Labels.{Label, bad_line, labels_in}
 use Rattle.typed.specs.Words.{typed_word}
 use Rattle.typed.specs.Texts.{line_start, on_line, word_of_line, word_from_place, unless_bad, next_word}
-use Rattle.typed.specs.Said.{said_typed, part_of}
-use Rattle.typed.specs.declared.word.WordRead.{WordRead}
 
 pub filled_none : (w : List ℕ) (r : Answer) → Filled ([], r) w w r
 filled_none w r = record { answer = refl; front = refl }
@@ -34,10 +30,10 @@ module _ {text : List ℕ} {p after : ℕ} {line : List ℕ} (l : LineRead text 
       (λ q. ap (λ (a : Answer). ((typed_word ls (first_line s) p room).0, on_line p (p + length (first_line s)) (p + line_width s) a)) q)
       e)
 
-  pub word-on-line : {w w' : List ℕ} {x y : WordRead} → Filled (typed_word ls line p room) w w' (said_typed x) → x ≡ y
-      → Filled (word_of_line ls text room p) w w' (on_line p (p + length line) after (said_typed y))
-  word-on-line {w} {w'} {x} {y} f e =
-      let is = line_word (sym f.answer ∙ ap said_typed e) in
+  pub word-on-line : {w w' : List ℕ} {r : Answer} → Filled (typed_word ls line p room) w w' r
+      → Filled (word_of_line ls text room p) w w' (on_line p (p + length line) after r)
+  word-on-line {w} {w'} {r} f =
+      let is = line_word (sym f.answer) in
       record {
         answer = sym (ap (λ (v : List ℕ × Answer). v.1) is);
         front = f.front ∙ ap (λ (v : List ℕ × Answer). v.0 ++ drop (length v.0) w) (sym is);
@@ -65,28 +61,3 @@ module _ (file text : List ℕ) (room at : ℕ) where
   pub call-good : bad_line 1 (lines file) ≡ none → next_word file text room at ≡ word_from_place (labels_in file) text room at
   unfolding next_word
   call-good e = ap (λ (o : Option ℕ). unless_bad o (λ r. ([], r)) (word_from_place (labels_in file) text room at)) e
-
--- ---- arrays of zeros
-abbrev all_zero : ℕ → List ℕ
-all_zero n = replicate n 0
-
-pub zero-at : (n b : ℕ) → get_or (all_zero n) b 0 ≡ 0
-zero-at zero b = refl
-zero-at (suc n) zero = refl
-zero-at (suc n) (suc b) = zero-at n b
-
-pub zeros-length : 256 ≤ length (all_zero 256)
-zeros-length = let none : ℕ = 0 in let e = length-replicate 256 none in omega arith
-
--- ---- a part of a text
-module _ (text : List ℕ) (start end : ℕ) where
-  pub part-past : length text ≤ start → part_of text start end ≡ []
-  part-past h = ap (take (end - start)) (drop_of_length-le text h) ∙ take_all (end - start) [] (omega arith)
-
-  pub part-empty : end ≤ start → part_of text start end ≡ []
-  part-empty h = let z : end - start ≡ 0 = omega arith in rw z
-
-  pub part-rest : length text ≤ end → part_of text start end ≡ take (length text - start) (drop start text)
-  part-rest h =
-      let d = length-drop start text in
-      take_all (end - start) (drop start text) (omega arith) ∙ sym (take_all (length text - start) (drop start text) (omega arith))

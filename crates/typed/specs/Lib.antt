@@ -1,6 +1,7 @@
 pub mod Words
 pub mod Texts
 pub mod Batches
+pub mod Refusals
 pub mod Said
 pub mod WordLaws
 pub mod Reading

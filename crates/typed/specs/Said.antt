@@ -1,32 +1,31 @@
 -- What the answers of the calls say, and what the calls leave in the lent lists.
-use Rattle.std.specs.Prelude.{◌≡◌, List, [], ◌∷◌, ◌++◌, ℕ, ◌-◌, length, take, drop}
-use Rattle.answers.specs.Answers.{Answer, gives, nothing, refused}
+use Rattle.std.specs.Prelude.{◌≡◌, List, [], ◌∷◌, ◌++◌, ℕ, ◌-◌, length, take, drop, Option as Maybe, Some, None, Result, Ok, Err}
+use Rattle.answers.specs.Answers.{Answer, gives, said_result, said_option}
 use Rattle.typed.specs.Batches.{Batch, batch_answer}
-use Rattle.typed.specs.declared.word.WordRead.{WordRead}
-use Rattle.typed.specs.declared.word.WordRead.TheVariants as W
-use Rattle.typed.specs.declared.next.NextWord.{NextWord}
-use Rattle.typed.specs.declared.next.NextWord.TheVariants as N
-use Rattle.typed.specs.declared.batch.WordsRead.{WordsRead}
-use Rattle.typed.specs.declared.batch.WordsRead.TheVariants as B
+use Rattle.typed.specs.Refusals.{typed_refusal}
+use Rattle.typed.specs.declared.refusal.TypedRefusal.{TypedRefusal}
+use Rattle.typed.specs.declared.next.TypedWord.{TypedWord}
+use Rattle.typed.specs.declared.batch.TypedWords.{TypedWords}
 
-abbrev pub said_typed : WordRead → Answer
-said_typed (W.Tiles n) = gives (n ∷ [])
-said_typed (W.Unreadable p) = refused 28 (p ∷ [])
-said_typed W.BufferFull = refused 16 []
+-- how many tiles
+abbrev pub said_typed : Result ℕ TypedRefusal → Answer
+said_typed r = said_result (λ n. gives (n ∷ [])) typed_refusal r
 
-abbrev pub said_next : NextWord → Answer
-said_next (N.Word start end after n) = gives (start ∷ end ∷ after ∷ n ∷ [])
-said_next N.End = nothing
-said_next (N.BadLabelLine n) = refused 27 (n ∷ [])
-said_next (N.Unreadable p) = refused 28 (p ∷ [])
-said_next N.BufferFull = refused 16 []
+abbrev pub word_given : TypedWord → Answer
+word_given w = gives (w.start ∷ w.end ∷ w.after ∷ w.tiles ∷ [])
 
-abbrev pub said_batch : WordsRead → Answer
-said_batch (B.Words words tiles after) = gives (words ∷ tiles ∷ after ∷ [])
-said_batch B.End = nothing
-said_batch (B.BadLabelLine n) = refused 27 (n ∷ [])
-said_batch (B.Unreadable p) = refused 28 (p ∷ [])
-said_batch B.BufferFull = refused 16 []
+abbrev pub said_word : Result TypedWord TypedRefusal → Answer
+said_word r = said_result word_given typed_refusal r
+
+-- none at the end
+abbrev pub said_next : Result (Maybe TypedWord) TypedRefusal → Answer
+said_next r = said_result (said_option word_given) typed_refusal r
+
+abbrev pub words_given : TypedWords → Answer
+words_given w = gives (w.words ∷ w.tiles ∷ w.after ∷ [])
+
+abbrev pub said_batch : Result (Maybe TypedWords) TypedRefusal → Answer
+said_batch r = said_result (said_option words_given) typed_refusal r
 
 -- "after 28 or 16 the tiles already put stay" (`Filled`); of several words: their tiles, then those of a refused line, and a number for each word
 pub record BatchPut (batch : Batch) (tiles_before tiles_after sizes_before sizes_after : List ℕ) (said : Answer) : Type 0 where
@@ -38,9 +37,10 @@ pub record BatchPut (batch : Batch) (tiles_before tiles_after sizes_before sizes
 abbrev pub part_of : List ℕ → ℕ → ℕ → List ℕ
 part_of text start end = take (end - start) (drop start text)
 
-abbrev pub line_handed : List ℕ → NextWord → List ℕ
-line_handed text (N.Word start end after n) = part_of text start end
-line_handed text N.End = []
-line_handed text (N.BadLabelLine n) = []
-line_handed text (N.Unreadable p) = []
-line_handed text N.BufferFull = []
+abbrev pub line_of : List ℕ → Maybe TypedWord → List ℕ
+line_of text (Some w) = part_of text w.start w.end
+line_of text None = []
+
+abbrev pub line_handed : List ℕ → Result (Maybe TypedWord) TypedRefusal → List ℕ
+line_handed text (Ok w) = line_of text w
+line_handed text (Err e) = []

@@ -3,7 +3,9 @@
 
 mod batch;
 mod next;
+mod refusal;
 mod word;
 
-pub use batch::{WordsRead, read_words};
-pub use next::{NextWord, line_read, next_word};
+pub use batch::{TypedWords, read_words};
+pub use next::{TypedWord, line_read, next_word};
+pub use refusal::TypedRefusal;

@@ -1,127 +1,92 @@
 -- A list checked word by word. The idea: the rows of the words passed refuse nothing, so that those of the bytes left answer for the list.
-use mathlib.Core.Path.{◌≡◌, refl, sym, ap, ap₂, ◌∙◌}
-use mathlib.Core.Bool.{Bool, true, false, ◌||◌, not, or-true}
-use mathlib.Core.List.{List, []}
-use mathlib.Core.Option.{none, some}
-use Prim.Native.Nat.{ℕ, zero, suc, ◌+◌, ◌-◌, ◌≤◌, ◌<◌}
-use native.Mathlib.Numerals.{add-one}
-use native.Mathlib.Omega.{arith}
-use borrow.Author.Tests.{ltb-false, ne_eqb, lt-ltb, le-ltb}
-use lib.Dec.{eqb, ltb}
-use lib.ListN.{length, get_or, take, drop, length-drop, drop_of_length-le}
-use lib.Seq.{drop-cons, drop-drop}
+use Rattle.std.proofs.Common.{◌≡◌, refl, ap, ◌∙◌, List, [], ◌∷◌, ◌++◌, ℕ, zero, suc, ◌-◌, ◌≤◌, ◌<◌, true, false, ◌||◌, not, eqb, ltb, length, take, drop, arith, length-append, take_at, drop_at, le-ltb}
+use Rattle.std.proofs.Math.Option.{none, some}
 use Rattle.laws.specs.Lists.{some_of}
-use Rattle.answers.specs.Answers.{Answer, refused, first_of}
+use Rattle.answers.specs.Answers.{refused, Row, first_of}
 use Rattle.answers.specs.RowLaws.{row_ends, rows_refuse, rows_pass, stops_at, all_pass}
 use Rattle.graph.specs.Words.{Word}
 use Rattle.built.specs.Listed.{word_below, no_tile, word_row, rows_ahead, list_row}
-use Rattle.word_list.specs.declared.checking.WordFound.TheVariants.{Bad}
-use Rattle.word_list.specs.Checks.{IsWord, Found}
+use Rattle.word_list.specs.Checks.{IsWord, NoWord}
 
--- ---- a word at a place, or none
--- the tiles, as a part of the list
-pub tiles-part : (l : List ℕ) (at n : ℕ) → take (at + 1 + n - (at + 1)) (drop (at + 1) l) ≡ take n (drop (suc at) l)
-tiles-part l at n = let e : at + 1 + n - (at + 1) ≡ n = omega arith in rw (e, add-one at)
+-- ---- no word at the head of a list
+module _ {l : List ℕ} (n : ℕ) (bytes : List ℕ) (is : l ≡ n ∷ bytes) where
+  refused_at : ((before : Word) → first_of (word_row before n bytes) ≡ some (refused 32 [])) → NoWord l
+  unfolding rows_ahead
+  refused_at e left before = rw (is, rows_ahead) (rows_refuse (word_row before n bytes) _ (e before))
 
-module _ (l : List ℕ) (at : ℕ) where
-  abbrev size : ℕ
-  size = get_or l at 0
+  pub bad_length : (eqb n 0 || ltb 64 n) ≡ true → NoWord l
+  bad_length e = refused_at (λ before. stops_at 0 (word_row before n bytes) e)
 
-  abbrev bytes : List ℕ
-  bytes = drop (suc at) l
+  module _ (fits : (eqb n 0 || ltb 64 n) ≡ false) where
+    pub bad-end : ltb (length bytes) n ≡ true → NoWord l
+    bad-end e = refused_at (λ before. stops_at 1 (word_row before n bytes) (fits, e))
 
-  pub good_length : (size ≡ 0 → ⊥) → size ≤ 64 → (eqb size 0 || ltb 64 size) ≡ false
-  good_length h k = rw (ne_eqb size 0 h, le-ltb 64 size k)
+    pub bad-tile : ltb (length bytes) n ≡ false → some_of no_tile (take n bytes) ≡ true → NoWord l
+    bad-tile i e = refused_at (λ before. stops_at 2 (word_row before n bytes) (fits, (i, e)))
 
-  pub no-tiles : size ≡ 0 → Found l at Bad
-  no-tiles e before = stops_at 0 (word_row before size bytes) (rw e)
+-- ---- a word at the head
+module _ {l w after : List ℕ} (b : IsWord l w after) (left : ℕ) (before : Word) where
+  abbrev row : Row
+  row = word_row before (length w) (w ++ after)
 
-  pub too_long : 64 < size → Found l at Bad
-  too_long h before = stops_at 0 (word_row before size bytes) (rw (lt-ltb 64 size h) (or-true (eqb size 0)))
+  there : ltb (length (w ++ after)) (length w) ≡ false
+  there = le-ltb (length (w ++ after)) (length w) (let n = length-append w after in omega arith)
 
-  module _ (fits : (eqb size 0 || ltb 64 size) ≡ false) where
-    pub bad-end : ltb (length bytes) size ≡ true → Found l at Bad
-    bad-end e before = stops_at 1 (word_row before size bytes) (fits, e)
+  front : take (length w) (w ++ after) ≡ w
+  front = take_at w after (length w) refl
 
-    pub bad-tile : ltb (length bytes) size ≡ false → some_of no_tile (take size bytes) ≡ true → Found l at Bad
-    bad-tile i e before = stops_at 2 (word_row before size bytes) (fits, (i, e))
+  pub not-above : word_below before w ≡ false → first_of (rows_ahead (suc left) before l) ≡ some (refused 33 [])
+  unfolding rows_ahead
+  not-above e = rw b.bytes
+      (rows_refuse row _ (stops_at 3 row (b.length-fits, (there, (ap (some_of no_tile) front ∙ b.tiles, ap (λ u. not (word_below before u)) front ∙ ap not e)))))
 
--- ---- the bytes left
-nothing_left : (left : ℕ) (before : Word) → first_of (rows_ahead left before []) ≡ none
-unfolding rows_ahead
-nothing_left zero before = row_ends
-nothing_left (suc left) before = row_ends
-
-word_refused : (left : ℕ) (before : Word) (l : List ℕ) (at : ℕ) {r : Answer} → at < length l → length (drop at l) ≤ left
-    → first_of (word_row before (get_or l at 0) (drop (suc at) l)) ≡ some r → first_of (rows_ahead left before (drop at l)) ≡ some r
-unfolding rows_ahead
-word_refused zero before l at h k e = absurd (let d = length-drop at l in omega arith)
-word_refused (suc left) before l at h k e = rw (drop-cons l at 0 h) (rows_refuse (word_row before (get_or l at 0) (drop (suc at) l)) _ e)
-
-word-taken : (left : ℕ) (before : Word) (l : List ℕ) (at n : ℕ) → at < length l → n ≡ get_or l at 0
-    → first_of (word_row before n (drop (suc at) l)) ≡ none
-    → first_of (rows_ahead (suc left) before (drop at l)) ≡ first_of (rows_ahead left (take n (drop (suc at) l)) (drop n (drop (suc at) l)))
-unfolding rows_ahead
-word-taken left before l at n h i e = rw (drop-cons l at 0 h, sym i) (rows_pass (word_row before n (drop (suc at) l)) _ e)
+  pub word-passed : word_below before w ≡ true → first_of (rows_ahead (suc left) before l) ≡ first_of (rows_ahead left w after)
+  unfolding rows_ahead
+  word-passed e =
+      let back : drop (length w) (w ++ after) ≡ after = drop_at w after (length w) refl in
+      let passes = all_pass row (b.length-fits, (there, (ap (some_of no_tile) front ∙ b.tiles, (ap (λ u. not (word_below before u)) front ∙ ap not e, tt)))) in
+      rw (b.bytes, rows_ahead) (rows_pass row _ passes ∙ rw (front, back))
 
 -- ---- the loop
-pub record Checking (l : List ℕ) (before size at : ℕ) : Type 0 where
-  pub left : ℕ
-  pub enough : length (drop at l) ≤ left
-  pub inside : before + size ≤ length l
-  pub whole : first_of (list_row l) ≡ first_of (rows_ahead left (take size (drop before l)) (drop at l))
+pub record Checking (l before left : List ℕ) : Type 0 where
+  pub most : ℕ
+  pub enough : length left ≤ most
+  pub whole : first_of (list_row l) ≡ first_of (rows_ahead most before left)
 
-pub checking-begins : (l : List ℕ) → Checking l 0 0 0
+pub checking-begins : (l : List ℕ) → Checking l [] l
 unfolding list_row
-checking-begins l = record { left = length l; enough = omega arith; inside = omega arith; whole = refl }
+checking-begins l = record { most = length l; enough = omega arith; whole = refl }
 
-module _ {l : List ℕ} {before size at : ℕ} (c : Checking l before size at) where
-  abbrev word_before : Word
-  word_before = take size (drop before l)
+nothing_left : (most : ℕ) (before : Word) (left : List ℕ) → length left ≡ 0 → first_of (rows_ahead most before left) ≡ none
+unfolding rows_ahead
+nothing_left zero before left e = row_ends
+nothing_left (suc most) before [] e = row_ends
+nothing_left (suc most) before (n ∷ bytes) e = absurd (omega arith)
 
-  pub checking-ends : length l ≤ at → first_of (list_row l) ≡ none
-  checking-ends h =
-      c.whole ∙ ap (λ x. first_of (rows_ahead c.left word_before x)) (drop_of_length-le l h) ∙ nothing_left c.left word_before
+module _ {l before left : List ℕ} (c : Checking l before left) where
+  pub checking-ends : length left ≡ 0 → first_of (list_row l) ≡ none
+  checking-ends e = c.whole ∙ nothing_left c.most before left e
 
-  module _ (h : at < length l) where
-    refuses : {r : Answer} → first_of (word_row word_before (get_or l at 0) (drop (suc at) l)) ≡ some r → first_of (list_row l) ≡ some r
-    refuses e = c.whole ∙ word_refused c.left word_before l at h c.enough e
+  module _ (some_left : 0 < length left) where
+    one_more : c.most ≡ suc (c.most - 1)
+    one_more = let h = c.enough in omega arith
 
-    pub no_word : Found l at Bad → first_of (list_row l) ≡ some (refused 32 [])
-    no_word f = refuses (f word_before)
+    pub no_word : NoWord left → first_of (list_row l) ≡ some (refused 32 [])
+    no_word f = c.whole ∙ ap (λ k. first_of (rows_ahead k before left)) one_more ∙ f (c.most - 1) before
 
-    module _ {n : ℕ} (w : IsWord l at n) where
-      pub found_inside : at + 1 + n ≤ length l
-      found_inside = let d = length-drop (suc at) l in let i = ltb-false (length (drop (suc at) l)) n w.inside in omega arith
+    module _ {w after : List ℕ} (b : IsWord left w after) where
+      pub word-refused : word_below before w ≡ false → first_of (list_row l) ≡ some (refused 33 [])
+      word-refused e = c.whole ∙ ap (λ k. first_of (rows_ahead k before left)) one_more ∙ not-above b (c.most - 1) before e
 
-      -- the two words, as parts of the list
-      abbrev above : Bool → Type 0
-      above t = t ≡ word_below (take (before + size - before) (drop before l)) (take (at + 1 + n - (at + 1)) (drop (at + 1) l))
+      pub fewer_left : length after < length left
+      fewer_left = let n = length-append w after in omega (arith, ap length b.bytes)
 
-      the_words : {t : Bool} → above t → word_below word_before (take n (drop (suc at) l)) ≡ t
-      the_words e =
-          let a : before + size - before ≡ size = omega arith in
-          sym (rw (a, tiles-part l at n) at e)
-
-      pub not-above : above false → first_of (list_row l) ≡ some (refused 33 [])
-      not-above e =
-          refuses (ap (λ k. first_of (word_row word_before k (drop (suc at) l))) (sym w.size)
-          ∙ stops_at 3 (word_row word_before n (drop (suc at) l)) (w.length-fits, (w.inside, (w.tiles, ap not (the_words e)))))
-
-      pub checking-next : above true → Checking l (at + 1) n (at + 1 + n)
+      pub checking-next : word_below before w ≡ true → Checking l w after
       checking-next e =
-          let k = c.left - 1 in
-          let enough = c.enough in
-          let d = length-drop at l in
-          let d' = length-drop (at + 1 + n) l in
-          let some_left : c.left ≡ suc k = omega arith in
-          let passes = all_pass (word_row word_before n (drop (suc at) l)) (w.length-fits, (w.inside, (w.tiles, (ap not (the_words e), tt)))) in
-          let to : suc at + n ≡ at + 1 + n = omega arith in
+          let f = fewer_left in
+          let h = c.enough in
           record {
-            left = k;
+            most = c.most - 1;
             enough = omega arith;
-            inside = found_inside;
-            whole = c.whole
-                ∙ ap (λ m. first_of (rows_ahead m word_before (drop at l))) some_left ∙ word-taken k word_before l at n h w.size passes
-                ∙ ap₂ (λ i b. first_of (rows_ahead k (take n (drop i l)) b)) (sym (add-one at)) (drop-drop n (suc at) l ∙ ap (λ m. drop m l) to);
+            whole = c.whole ∙ ap (λ k. first_of (rows_ahead k before left)) one_more ∙ word-passed b (c.most - 1) before e;
           }

@@ -1,36 +1,30 @@
--- Two words tile by tile: what they share is what they share from a place on, that they are the same up to, and the tiles before it.
-use mathlib.Core.Path.{◌≡◌, refl}
-use mathlib.Core.Logic.{◌≢◌}
-use mathlib.Core.List.{[], ◌∷◌}
-use Prim.Native.Nat.{ℕ, suc, ◌+◌, ◌≤◌, ◌<◌}
-use native.Mathlib.Numerals.{add-one}
-use borrow.Author.Tests.{eq-eqb, ne_eqb}
-use lib.ListN.{length, get_or, drop, drop_of_length-le}
-use lib.Seq.{drop-cons}
+-- Two words tile by tile.
+use Rattle.std.proofs.Common.{◌≡◌, refl, ◌∙◌, [], ◌∷◌, ℕ, zero, suc, ◌≤◌, min, ap, Bool, eqb, length, take, arith}
+use Rattle.std.specs.List.{prefix_len, zip}
+use Rattle.std.proofs.lemmas.List.Folds.{length-prefix_len}
+use Rattle.laws.specs.Cases.{split}
 use Rattle.graph.specs.Words.{Word}
 use Rattle.graph.specs.Order.{shared}
 
-none-shared : (v : Word) → shared v [] ≡ 0
+abbrev pub equal_pair : ℕ × ℕ → Bool
+equal_pair p = eqb p.0 p.1
+
+before_parting : (v w : Word) → prefix_len equal_pair (zip v w) ≡ shared v w
 unfolding shared
-none-shared [] = refl
-none-shared (t ∷ v) = refl
+before_parting [] w = refl
+before_parting (t ∷ v) [] = refl
+before_parting (t ∷ v) (s ∷ w) = split (eqb t s) (λ e. rw (e, shared) (let h = before_parting v w in omega arith)) (λ e. rw (e, shared))
 
-module _ (v w : Word) (c : ℕ) where
-  abbrev pub shared_from : ℕ
-  shared_from = shared (drop c v) (drop c w)
+-- what goes on past the end of either has no pair
+cut_pairs : (v w : Word) (n : ℕ) → min (length v) (length w) ≤ n → zip (take n v) (take n w) ≡ zip v w
+cut_pairs [] w zero h = refl
+cut_pairs (t ∷ v) [] zero h = refl
+cut_pairs (t ∷ v) (s ∷ w) zero h = absurd (omega arith)
+cut_pairs [] w (suc n) h = refl
+cut_pairs (t ∷ v) [] (suc n) h = refl
+cut_pairs (t ∷ v) (s ∷ w) (suc n) h = ap (λ ps. (t, s) ∷ ps) (cut_pairs v w n (omega arith))
 
-  pub first_ended : length v ≤ c → shared_from ≡ 0
-  unfolding shared
-  first_ended h = rw (drop_of_length-le v h)
-
-  pub second_ended : length w ≤ c → shared_from ≡ 0
-  second_ended h = rw (drop_of_length-le w h) (none-shared (drop c v))
-
-  pub parted : c < length v → c < length w → get_or v c 0 ≢ get_or w c 0 → shared_from ≡ 0
-  unfolding shared
-  parted h k n = rw (drop-cons v c 0 h, drop-cons w c 0 k) (rw (ne_eqb (get_or v c 0) (get_or w c 0) n, shared))
-
-pub one_more : (v w : Word) (c : ℕ) → c < length v → c < length w → get_or v c 0 ≡ get_or w c 0 → shared_from v w c ≡ suc (shared_from v w (c + 1))
-unfolding shared
-one_more v w c h k e =
-    rw (drop-cons v c 0 h, drop-cons w c 0 k, add-one c) (rw (eq-eqb (get_or v c 0) (get_or w c 0) e, shared))
+-- what they share is the pairs of equal tiles before the first other pair
+pub shared-pairs : (v w : Word) (n : ℕ) → n ≡ min (length v) (length w)
+    → (let ps = zip (take n v) (take n w) in length (take (prefix_len equal_pair ps) ps)) ≡ shared v w
+shared-pairs v w n e = rw (cut_pairs v w n (omega arith)) (length-prefix_len equal_pair (zip v w) ∙ before_parting v w)

@@ -1,5 +1,5 @@
 -- The words of a list that is a lexicon's, by their places.
-use Rattle.std.specs.Prelude.{◌≡◌, List, [], ◌∷◌, ℕ, suc, ◌+◌, ◌<◌, length, get_or}
+use Rattle.std.specs.Prelude.{◌≡◌, List, [], ◌∷◌, ℕ, suc, ◌+◌, length, get_or}
 use Rattle.graph.specs.Words.{Word}
 use Rattle.built.specs.Lexicon.{Lexicon}
 use Rattle.built.specs.Listed.{list_bytes}
@@ -24,18 +24,17 @@ last_of [] = []
 last_of (v ∷ us) = v
 
 -- the place of each word, and that after them, keeps how many tiles the word before it has
-abbrev pub Back : ℕ → List ℕ → List Word → Type 0
-Back base w [] = get_or w base 0 ≡ 0
-Back base w (v ∷ us) = (get_or w (base + place_after (v ∷ us)) 0 ≡ length v) × Back base w us
+abbrev pub Back : List ℕ → List Word → Type 0
+Back marks [] = get_or marks 0 0 ≡ 0
+Back marks (v ∷ us) = (get_or marks (place_after (v ∷ us)) 0 ≡ length v) × Back marks us
 
--- what marking leaves: of the lexicon's words the last stands at the place answered, with a way back from it; numbers before `base` are as they were
-pub record MarkedAs (ws : List Word) (base : ℕ) (w w' : List ℕ) (r : ℕ) : Type 0 where
+-- what marking leaves: of the lexicon's words the last stands at the place answered, with a way back from it
+pub record MarkedAs (ws : List Word) (marks : List ℕ) (r : ℕ) : Type 0 where
   pub before : List Word
   pub last : Word
   pub all : rejoined before (last ∷ []) ≡ ws
   pub place : r ≡ place_after before
-  pub back : Back base w' before
-  pub kept : (p : ℕ) → p < base → get_or w' p 0 ≡ get_or w p 0
+  pub back : Back marks before
 
-abbrev pub Marked : List ℕ → ℕ → List ℕ → List ℕ → ℕ → Type 0
-Marked l base w w' r = (ws : List Word) → Lexicon 64 ws → l ≡ list_bytes ws → MarkedAs ws base w w' r
+abbrev pub Marked : List ℕ → List ℕ → ℕ → Type 0
+Marked l marks r = (ws : List Word) → Lexicon 64 ws → l ≡ list_bytes ws → MarkedAs ws marks r

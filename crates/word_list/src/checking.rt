@@ -2,87 +2,66 @@
 ghost use Rattle.std.specs.Prelude.{◌≡◌, not, ◌<◌, length};
 ghost use Rattle.laws.specs.Lists.{some_of};
 ghost use Rattle.built.specs.Listed.{no_tile};
-ghost use Rattle.word_list.specs.Checks.{Found, ChecksAs};
+ghost use Rattle.word_list.specs.Checks.{list_why, Found, ChecksAs};
 
 use crate::words::is_above;
+use answers::Refuses;
 
-// What the check of a list answers.
-#[derive(Clone, Copy)]
-pub enum Checked {
-    Sound,
+// Why a list is refused.
+#[derive(Clone, Copy, Debug, PartialEq, Eq)]
+pub enum ListRefusal {
     BadWord,
     NotAbove,
 }
 
-// The number of a word's tiles, or that there is no word.
-#[derive(Drop)]
-enum WordFound {
-    Tiles(usize),
-    Bad,
+impl Refuses for ListRefusal {
+    ghost refusal = { list_why };
+
+    fn number(&self) -> u32 {
+        match self {
+            ListRefusal::BadWord => 32,
+            ListRefusal::NotAbove => 33,
+        }
+    }
 }
 
 // Whether each byte is a tile of a word.
 fn are_tiles(word: &[u8]) -> bool
     ensures { result ≡ not (some_of no_tile word.now) }
 {
-    let mut i: usize = 0;
-    while i < word.len() {
-        let tile = word[i];
-        if tile == 0 {
-            return false;
-        }
-        if 63 < tile {
-            return false;
-        }
-        i += 1;
-    }
-    true
+    word.iter().all(|tile| (1..=63).contains(tile))
 }
 
-// The word at a place of the list, which must be there.
-fn word_at(list: &[u8], at: usize) -> WordFound
-    requires { at < length list.now }
-    ensures { Found list.now at result }
+// The word that a list begins with, and what follows it; the list must not be empty.
+fn next_word(list: &[u8]) -> Option<(&[u8], &[u8])>
+    requires { 0 < length list.now }
+    ensures { Found list.now result }
 {
-    let tiles = list[at] as usize;
-    if tiles == 0 {
-        return WordFound::Bad;
+    let (tiles, rest) = list.split_first()?;
+    if !(1..=64).contains(tiles) {
+        return None;
     }
-    if 64 < tiles {
-        return WordFound::Bad;
+    let (word, after) = rest.split_at_checked(*tiles as usize)?;
+    if are_tiles(word) {
+        Some((word, after))
+    } else {
+        None
     }
-    let from = at + 1;
-    if list.len() - from < tiles {
-        return WordFound::Bad;
-    }
-    let to = from + tiles;
-    if are_tiles(&list[from..to]) {
-        return WordFound::Tiles(tiles);
-    }
-    WordFound::Bad
 }
 
 // Checks the words one by one: each must be a word, and above the one before it. Before the first there is the empty word.
-pub fn check_list(list: &[u8]) -> Checked
+pub fn check_list(list: &[u8]) -> Result<(), ListRefusal>
     ensures { ChecksAs list.now result }
 {
-    let mut before: usize = 0;
-    let mut size: usize = 0;
-    let mut at: usize = 0;
-    while at < list.len() {
-        let found = word_at(list, at);
-        let WordFound::Tiles(tiles) = found else {
-            return Checked::BadWord;
-        };
-        let from = at + 1;
-        let to = from + tiles;
-        let end = before + size;
-        if !is_above(&list[before..end], &list[from..to]) {
-            return Checked::NotAbove;
+    let mut before: &[u8] = &[];
+    let mut left = list;
+    while !left.is_empty() {
+        let (word, after) = next_word(left).ok_or(ListRefusal::BadWord)?;
+        if !is_above(before, word) {
+            return Err(ListRefusal::NotAbove);
         }
-        before = from;
-        size = tiles;
-        at = to;
+        before = word;
+        left = after;
     }
-    Checked::Sound
+    Ok(())
 }

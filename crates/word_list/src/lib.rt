@@ -4,5 +4,5 @@
 mod checking;
 mod words;
 
-pub use checking::{Checked, check_list};
+pub use checking::{ListRefusal, check_list};
 pub use words::{mark_words, shared};

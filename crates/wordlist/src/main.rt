@@ -1,7 +1,7 @@
 // Lists the words of a KWG on standard input, a line each: the number, a tab, the tiles.
 #![tactic(auto)]
 
-use listing::{BLOCK, BlockMade, INPUT, NODES, WORK};
+use listing::{BLOCK, INPUT, NODES, WORK};
 use std::io;
 use std::io::Write;
 
@@ -18,15 +18,9 @@ fn print_list<W: Write>(writer: &mut W, input: &[u8; INPUT], read: usize) -> io:
     let mut work = [0u32; WORK];
     let mut block = [0u8; BLOCK];
     let mut unprinted = listing::open(input, read, &mut nodes, &mut counts, &mut work);
-    loop {
-        let BlockMade::Bytes {
-            written,
-            unprinted: left,
-        } = listing::next_block(&nodes, &counts, unprinted, &mut block)
-        else {
-            return Ok(());
-        };
-        writer.write_all(&block[..written])?;
-        unprinted = left;
+    while let Some(made) = listing::next_block(&nodes, &counts, unprinted, &mut block) {
+        writer.write_all(&block[..made.written])?;
+        unprinted = made.unprinted;
     }
+    Ok(())
 }

@@ -1,12 +1,14 @@
--- `write_be_halves` meets its contract: the eight bytes are stored as one part.
-use Rattle.std.proofs.Common.{◌≡◌, ◌+◌, ◌*◌, arith, ◌∙◌}
-use Rattle.std.proofs.Math.Nat.{div-div-eq-div-mul}
-use Rattle.endian.proofs.PartStores.{part-stored}
-use Rattle.endian.specs.Bytes.{big_endian}
+-- `write_be_halves` meets its contract: the bytes of the high half and then of the low one are those of the whole number.
+use native.Mathlib.Omega.{arith}
+use mathlib.Core.Path.{◌∙◌}
+use Rattle.endian.proofs.BigStores.{stores_halves}
 use Rattle.endian.proofs.write_be_halves.Goals as goal
 
 pub returns : goal.returns
-returns c = let a = c.args in
-    let same : c.to_be_bytes.result ≡ big_endian 8 (a.high * 4294967296 + a.low) =
-    rw (c.to_be_bytes.ensures, c.from.ensures, c.from-2.ensures) (simp div-div-eq-div-mul) in
-    part-stored a.bytes.now a.p _ _ (big_endian 8 (a.high * 4294967296 + a.low)) (c.copy_from_slice.ensures.after ∙ same) (omega arith) (omega arith)
+returns c =
+    let lower = c in
+    let higher = lower in
+    let s = higher in
+    let a = s.args in
+    lower.write_be_u32-2.ensures
+    ∙ rw higher.write_be_u32.ensures (stores_halves a.bytes.now a.p a.high a.low (omega (arith, s.ranges)))

@@ -1,11 +1,18 @@
--- `write_be_u32` meets its contract: the four bytes are stored as one part.
-use Rattle.std.proofs.Common.{◌≡◌, arith, ◌∙◌}
-use Rattle.std.proofs.Math.Nat.{div-div-eq-div-mul}
-use Rattle.endian.proofs.PartStores.{part-stored}
-use Rattle.endian.specs.Bytes.{big_endian}
+-- `write_be_u32` meets its contract: the four bytes stored one by one are those of the number, the highest first.
+use native.Mathlib.Omega.{arith}
+use native.Mathlib.Numerals.{add-one, add-two, add-three}
+use lib.ListN.{length-set}
+use native.Mathlib.Nat.{div-div-eq-div-mul}
 use Rattle.endian.proofs.write_be_u32.Goals as goal
 
+pub bounds-bytes-p-2 : goal.bounds-bytes-p-2
+bounds-bytes-p-2 c = simp length-set (omega arith)
+
+pub bounds-bytes-p-3 : goal.bounds-bytes-p-3
+bounds-bytes-p-3 c = simp length-set (omega arith)
+
+pub bounds-bytes-p-4 : goal.bounds-bytes-p-4
+bounds-bytes-p-4 c = simp length-set (omega arith)
+
 pub returns : goal.returns
-returns c = let a = c.args in
-    let same : c.to_be_bytes.result ≡ big_endian 4 a.v = c.to_be_bytes.ensures ∙ simp div-div-eq-div-mul in
-    part-stored a.bytes.now a.p _ _ (big_endian 4 a.v) (c.copy_from_slice.ensures.after ∙ same) (omega arith) (omega arith)
+returns c = simp (add-one, add-two, add-three, div-div-eq-div-mul)

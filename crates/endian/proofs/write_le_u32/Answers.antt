@@ -1,9 +1,14 @@
--- `write_le_u32` meets its contract: the four bytes are stored as one part.
-use Rattle.std.proofs.Common.{arith, ◌∙◌}
-use Rattle.endian.proofs.PartStores.{part-stored}
-use Rattle.endian.specs.Bytes.{to_bytes}
+-- `write_le_u32` meets its contract: the four bytes are stored one by one, the lowest first.
+use native.Mathlib.Omega.{arith}
+use native.Mathlib.Numerals.{add-one, add-two, add-three}
+use lib.ListN.{length-set}
 use Rattle.endian.proofs.write_le_u32.Goals as goal
 
+pub bounds-bytes-p-2 : goal.bounds-bytes-p-2
+bounds-bytes-p-2 c = simp length-set (omega arith)
+
+pub bounds-bytes-p-3 : goal.bounds-bytes-p-3
+bounds-bytes-p-3 c = simp length-set (omega arith)
+
 pub returns : goal.returns
-returns c = let a = c.args in
-    part-stored a.bytes.now a.p _ _ (to_bytes a.v) (c.copy_from_slice.ensures.after ∙ c.to_le_bytes.ensures) (omega arith) (omega arith)
+returns c = simp (add-one, add-two, add-three)

@@ -4,6 +4,3 @@ use Rattle.tails.proofs.close_word.Given as goal
 
 abbrev pub invariant-loop-d : goal.invariant-loop-d
 invariant-loop-d l = Closes l.word l.kept l.initial.behind l.n l.initial.dict l.count l.behind l.dict l.d l.tails
-
-abbrev pub decreases-loop-d : goal.decreases-loop-d
-decreases-loop-d l = l.d

@@ -3,8 +3,8 @@
 use Rattle.tails.proofs.TurnLaws.{Passes}
 use Rattle.tails.proofs.close_words.Given as goal
 
-abbrev pub invariant-loop-more : goal.invariant-loop-more
-invariant-loop-more l = Passes l.list l.n l.initial.work l.work l.at l.behind l.tails
+abbrev pub invariant-loop-tails : goal.invariant-loop-tails
+invariant-loop-tails l = Passes l.list l.n l.marks l.dict l.at l.behind l.tails
 
-abbrev pub decreases-loop-more : goal.decreases-loop-more
-decreases-loop-more l = l.at
+abbrev pub decreases-loop-tails : goal.decreases-loop-tails
+decreases-loop-tails l = l.at

@@ -2,5 +2,5 @@
 use Rattle.listing.specs.NextLaws.{made-block}
 use Rattle.wordlist.proofs.print_list.Goals as goal
 
-pub loop-written-smaller : goal.loop-written-smaller
-loop-written-smaller g c = (made-block _ _ c.loop-written.unprinted _ _ _ c.in-Bytes.is c.next_block.ensures).1
+pub loop-made-smaller : goal.loop-made-smaller
+loop-made-smaller g c = (made-block _ _ c.loop-made.unprinted _ _ _ c.in-Some.is c.next_block.ensures).1

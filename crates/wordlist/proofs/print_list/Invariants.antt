@@ -2,5 +2,5 @@
 use Rattle.listing.specs.Printing.{lines_left}
 use Rattle.wordlist.proofs.print_list.Given as goal
 
-abbrev pub decreases-loop-written : goal.decreases-loop-written
-decreases-loop-written g l = lines_left l.unprinted
+abbrev pub decreases-loop-made : goal.decreases-loop-made
+decreases-loop-made g l = lines_left l.unprinted

@@ -2,72 +2,59 @@
 -- to the other and back.
 use mathlib.Core.Path.{◌≡◌, refl, sym, ap, ◌∙◌, subst}
 use mathlib.Core.List.{List}
+use Rattle.std.specs.Prelude.{Option, Some, None, true, false, ◌≢◌}
+use Rattle.std.specs.Option.{is_some}
+use Rattle.std.proofs.lemmas.Bool.{false≢true}
 use Prim.Native.Nat.{ℕ, ◌+◌, ◌-◌, ◌*◌, ◌≤◌, ◌<◌}
 use native.Mathlib.Omega.{arith}
 use lib.Dec.{eqb}
 use lib.ListN.{length, get_or, drop}
 use Rattle.node.specs.Nodes.{kbwg, arc}
 use Rattle.export.specs.Blocks.{met, met_by, total}
-use Rattle.block_record.specs.Record.{order_in}
+use Rattle.block_record.specs.Record.{order_in, place_at}
 use Rattle.block_record.specs.RecordLaws.{met-by-none, met-by-arc, place_none, place-some}
 use Rattle.block_record.specs.declared.BlockTally.{BlockTally}
 use Rattle.shelf.specs.Shelf.{Shelf, run_entries, child_numbers}
 use Rattle.tails.specs.TailsLaws.{TailAt}
 use Rattle.build.specs.Numbering.{most_nodes, run_length, Recorded, RunsNumberedAs}
-use Rattle.build.specs.declared.places.Numbering.{Numbering}
-use Rattle.build.specs.declared.places.Numbering.TheVariants.{Done, TooMany}
 use Rattle.build.proofs.RunLaws.{entry-child}
 use Rattle.build.proofs.NumberingLaws.{numbers-none, numbers-old, numbers-new, blocks-left, run_over, pushed-recorded, pushed-tails, pushed-order}
 use Rattle.build.proofs.NumberingLaws.{walk, run-met, placed_as, Along, along-starts, along-done, here, along_over, along-goes}
 use Rattle.build.proofs.places.+number_arc_number_run.Goals as goal
-use Rattle.build.proofs.places.+number_arc_number_run.Goals.{number_arc-Else-child-eq0, number_arc-Start, number_run-After-number_arc-numbered, number_run-After-push_block-tally, number_run-After-tail_after-after, number_run-At-loop-at, number_run-Else-chain_left-eq0, number_run-Else-t-size, number_run-In-loop-at, number_run-Start}
+use Rattle.build.proofs.places.+number_arc_number_run.Goals.{number_arc-then-child-eq0-via-then-child-eq0, number_arc-then-child-eq0-via-else-child-eq0+then-is_some, number_run-After-number_arc, number_run-After-push_block-tally, number_run-After-tail_after-after, number_run-At-loop-at, number_run-Else-chain_left-eq0, number_run-Else-t-size, number_run-In-loop-at, number_run-Start}
+
+-- an arc's run by the record
+held : (w : List ℕ) (p : ℕ) (o : Option ℕ) → o ≡ place_at w p → true ≡ is_some o → get_or w p 0 ≢ 0
+held w p None e t = absurd (false≢true (sym t))
+held w p (Some x) e t = place-some w p x (sym e)
+
+free : (w : List ℕ) (p : ℕ) (o : Option ℕ) → o ≡ place_at w p → false ≡ is_some o → get_or w p 0 ≡ 0
+free w p None e t = place_none w p (sym e)
+free w p (Some x) e t = absurd (false≢true t)
+
+pub number_arc-place_of-requires : goal.number_arc-place_of-requires
+number_arc-place_of-requires b c = let h = c.requires.2 in omega (arith, c.requires.1.tails.few, c.requires.1.tails.room)
 
 pub number_arc-returns-then-child-eq0 : goal.number_arc-returns-then-child-eq0
-number_arc-returns-then-child-eq0 b c = λ sh r h. numbers-none r (met-by-none (child_numbers sh) _ _ _ c.if-child-eq0.true)
-
--- the call, and the child by the tails that it is asked with
-module _ {b : ℕ} (c : number_arc-Else-child-eq0 b) where
-  abbrev asked : number_arc-Start b
-  asked = (goal.at.number_arc-Else-child-eq0 b c).Start
-
-  abbrev work : List ℕ
-  work = asked.args.work.now
-
-  abbrev child : ℕ
-  child = asked.args.child
-
-  child-inside : child < length work
-  child-inside =
-      let r = asked.requires.1.tails in
-      let h = asked.requires.2 in
-      omega (arith, r.few, r.room)
-
-  led : (w : List ℕ) (r : Numbering) (sh : Shelf)
-      → let n = asked.args.n in
-      let seen = order_in n asked.args.work.now asked.args.t in
-      RunsNumberedAs sh n asked.args.work.now w (met eqb (child_numbers sh) asked.args.chain_left seen child) r
-      → RunsNumberedAs sh n asked.args.work.now w (met_by (child_numbers sh) asked.args.chain_left seen child) r
-  led w r sh h = rw (met-by-arc (child_numbers sh) asked.args.chain_left _ child c.if-child-eq0.false) h
-
-pub number_arc-place_of-place-requires : goal.number_arc-place_of-place-requires
-number_arc-place_of-place-requires b c = child-inside c
+number_arc-returns-then-child-eq0 b c = λ sh r h.
+    let a = c.args in
+    elim c.then-child-eq0.branch [
+      | number_arc-then-child-eq0-via-then-child-eq0 w ↦ numbers-none r (met-by-none (child_numbers sh) _ _ _ w.if-child-eq0.true)
+      | number_arc-then-child-eq0-via-else-child-eq0+then-is_some w ↦
+          rw (met-by-arc (child_numbers sh) a.chain_left _ a.child w.if-child-eq0.false)
+          (numbers-old r a.child h a.chain_left (held a.work.now a.child w.place_of.result w.place_of.ensures w.if-is_some.ensures))
+    ]
 
 pub number_arc-number_run-requires : goal.number_arc-number_run-requires
 number_arc-number_run-requires b c =
-    let e = (goal.at.number_arc-number_run-requires b c).Else-child-eq0 in
-    let new = place_none (work e) (child e) (sym c.place_of-place.ensures ∙ c.in_default.is) in
-    (omega (arith, (asked e).decreases), (((asked e).requires, omega (arith, e.if-child-eq0.false)), new))
-
-pub number_arc-returns-in_default : goal.number_arc-returns-in_default
-number_arc-returns-in_default b c = λ sh r h.
-    let run = c.number_run in
-    led (goal.at.number_arc-returns-in_default b c).Else-child-eq0 (run.new.work) (run.result) sh (run.ensures sh r h)
+    let a = c.args in
+    let new = free a.work.now a.child c.place_of.result c.place_of.ensures c.if-is_some.ensures in
+    (omega (arith, c.decreases), ((c.requires, omega (arith, c.if-child-eq0.false)), new))
 
 pub number_arc-returns : goal.number_arc-returns
 number_arc-returns b c = λ sh r h.
-    let e = (goal.at.number_arc-returns b c).Else-child-eq0 in
-    let some = place-some (work e) (child e) _ (sym c.place_of-place.ensures ∙ c.in-Numbered.is) in
-    led e _ (Done (asked e).args.t) sh (numbers-old r (child e) h (asked e).args.chain_left some)
+    let a = c.args in
+    rw (met-by-arc (child_numbers sh) a.chain_left _ a.child c.if-child-eq0.false) (c.number_run.ensures sh r h)
 
 -- the call
 module _ {b : ℕ} (s : number_run-Start b) where
@@ -209,9 +196,9 @@ module _ {b : ℕ} (c : number_run-After-tail_after-after b) where
   child-is : (sh : Shelf) (r : TailAt (n (s (turn in-turn))) (turn in-turn).loop-at.work sh (turn in-turn).loop-at.at) → child-read ≡ r.entry.child
   child-is sh r = c.arc_index-child.ensures ∙ ap (arc kbwg) c.node_of.ensures ∙ entry-child r
 
-pub number_run-number_arc-numbered-requires : goal.number_run-number_arc-numbered-requires
-number_run-number_arc-numbered-requires b c =
-    let a = (goal.at.number_run-number_arc-numbered-requires b c).After-tail_after-after in
+pub number_run-number_arc-requires : goal.number_run-number_arc-requires
+number_run-number_arc-requires b c =
+    let a = (goal.at.number_run-number_arc-requires b c).After-tail_after-after in
     let k = in-turn a in
     let t = turn k in
     let child = child-is a (own (s t)) (tail k) in
@@ -220,15 +207,15 @@ number_run-number_arc-numbered-requires b c =
     (omega (arith, (some_left (first t)).if-chain_left-eq0.false, (s t).decreases), (own (s t), (own-along t).recorded, omega arith))
 
 -- the arc of the tail at hand followed
-module _ {b : ℕ} (c : number_run-After-number_arc-numbered b) where
+module _ {b : ℕ} (c : number_run-After-number_arc b) where
   abbrev read : number_run-After-tail_after-after b
-  read = (goal.at.number_run-After-number_arc-numbered b c).After-tail_after-after
+  read = (goal.at.number_run-After-number_arc b c).After-tail_after-after
 
   abbrev at_turn : number_run-At-loop-at b
-  at_turn = (goal.at.number_run-After-number_arc-numbered b c).At-loop-at
+  at_turn = (goal.at.number_run-After-number_arc b c).At-loop-at
 
-  as_long : length c.number_arc-numbered.new.work ≡ length at_turn.loop-at.work
-  as_long = c.number_arc-numbered.auto.work
+  as_long : length c.number_arc.new.work ≡ length at_turn.loop-at.work
+  as_long = c.number_arc.auto.work
 
   module _ (sh : Shelf) (r : Recorded sh (n (s at_turn)) (begun (first at_turn)) (begun-tally (first at_turn))) (h : (s at_turn).args.i ≤ length sh) where
     abbrev k : Along sh (n (s at_turn)) (left_below at_turn) (order_in (n (s at_turn)) (begun (first at_turn)) (begun-tally (first at_turn))) (s at_turn).args.i
@@ -238,35 +225,35 @@ module _ {b : ℕ} (c : number_run-After-number_arc-numbered b) where
     abbrev tail_here : TailAt (n (s at_turn)) at_turn.loop-at.work sh at_turn.loop-at.at
     tail_here = here k (some (in-turn read))
 
-    answers : (a : Numbering) → c.number_arc-numbered.result ≡ a
-        → RunsNumberedAs sh (n (s at_turn)) at_turn.loop-at.work c.number_arc-numbered.new.work
+    answers : (a : Option BlockTally) → c.number_arc.result ≡ a
+        → RunsNumberedAs sh (n (s at_turn)) at_turn.loop-at.work c.number_arc.new.work
         (met_by (child_numbers sh) (left_below at_turn) (order_in (n (s at_turn)) at_turn.loop-at.work at_turn.loop-at.tally) tail_here.entry.child) a
     answers a e =
         let child = child-is read sh tail_here in
         let known = k.known in
         let lower = tail_here.child-below in
-        rw (← child, ← e) (c.number_arc-numbered.ensures sh k.recorded (omega arith))
+        rw (← child, ← e) (c.number_arc.ensures sh k.recorded (omega arith))
 
-pub number_run-returns-in_default : goal.number_run-returns-in_default
-number_run-returns-in_default b c = λ sh r h.
-    let a = (goal.at.number_run-returns-in_default b c).After-number_arc-numbered in
+pub number_run-returns-in_err-tally : goal.number_run-returns-in_err-tally
+number_run-returns-in_err-tally b c = rw c.from_residual.ensures (λ sh r h.
+    let a = (goal.at.number_run-returns-in_err-tally b c).After-number_arc in
     let t = at_turn a in
     let begun-here = begun-recorded (first t) sh r h in
     subst (λ (x : List ℕ). most_nodes < 2 + total (run_length sh) x) (whole (first t) sh r h)
-    (along_over (k a sh begun-here h) (some (in-turn (read a))) (answers a sh begun-here h TooMany c.in_default.is))
+    (along_over (k a sh begun-here h) (some (in-turn (read a))) (answers a sh begun-here h None c.in_err-tally.was)))
 
 pub number_run-loop-at-smaller : goal.number_run-loop-at-smaller
 number_run-loop-at-smaller b c =
-    let a = (goal.at.number_run-loop-at-smaller b c).After-number_arc-numbered in
+    let a = (goal.at.number_run-loop-at-smaller b c).After-number_arc in
     let x = tail (in-turn (read a)) in
     omega (arith, (read a).tail_after-after.ensures, x.next-is, x.next-below)
 
 pub number_run-loop-at-preserved : goal.number_run-loop-at-preserved
 number_run-loop-at-preserved b c =
-    let a = (goal.at.number_run-loop-at-preserved b c).After-number_arc-numbered in
+    let a = (goal.at.number_run-loop-at-preserved b c).After-number_arc in
     let t = at_turn a in (
       as_long a ∙ t.loop-at.invariant.0,
-      λ sh r h. along-goes (k a sh r h) (some (in-turn (read a))) (answers a sh r h (Done c.in-Done.next) c.in-Done.is)
+      λ sh r h. along-goes (k a sh r h) (some (in-turn (read a))) (answers a sh r h (Some c.in_ok-tally.tally) c.in_ok-tally.was)
           (as_long a) (read a).tail_after-after.ensures,
     )
 

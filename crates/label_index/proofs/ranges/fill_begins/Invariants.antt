@@ -1,12 +1,6 @@
 -- `ranges::fill_begins` meets its contract: the lines from the place reached on stand at or after their range's beginning.
-use mathlib.Core.Path.{◌≡◌}
-use Prim.Native.Nat.{◌≤◌}
-use lib.ListN.{length}
 use Rattle.label_index.proofs.RangeLaws.{BegunFrom}
 use Rattle.label_index.proofs.ranges.fill_begins.Given as goal
 
 abbrev pub invariant-loop-i : goal.invariant-loop-i
-invariant-loop-i l = (l.i ≤ l.n) × (length l.begin ≡ length l.initial.begin) × BegunFrom l.i l.n l.order l.begin
-
-abbrev pub decreases-loop-i : goal.decreases-loop-i
-decreases-loop-i l = l.i
+invariant-loop-i l = BegunFrom l.i l.n l.order l.begin

@@ -7,13 +7,14 @@ use lib.Seq.{length-take-le}
 use Rattle.answers.specs.Answers.{Answer}
 use Rattle.graph.specs.Words.{Word}
 use Rattle.lookup.specs.Said.{said_word}
+use Rattle.lookup.specs.Refusals.{word_refusal}
 use Rattle.lookup.specs.WalkedLaws.{WalkLeaves, by-index-walked}
 use Rattle.listing.specs.Wordlist.{most_tiles}
 use Rattle.listing.specs.Printing.{walk_from}
 use Rattle.listing.proofs.LinesLaws.{refusal-length}
-use Rattle.listing.proofs.WordLaws.{Tiled, tiled, WordIn, word_in, line-room, word_line, word_refused, word_none}
+use Rattle.listing.proofs.WordLaws.{Tiled, tiled, WordIn, word_in, line-room, word_line, word_refused}
 use Rattle.listing.proofs.blocks.put_word.Goals as goal
-use Rattle.listing.proofs.blocks.put_word.Goals.{After-get_word_by_index, In-Tiles, Start}
+use Rattle.listing.proofs.blocks.put_word.Goals.{After-get_word_by_index, In-Ok-Some, Start}
 
 -- the walk, and what it left
 module _ (c : After-get_word_by_index) where
@@ -36,53 +37,35 @@ module _ (c : After-get_word_by_index) where
   walked = by-index-walked from.args.counts.now from.args.nodes.now most_tiles from.args.start number
 
 -- the word, where it has one
-abbrev asked : In-Tiles → After-get_word_by_index
-asked s = (goal.at.In-Tiles s).After-get_word_by_index
+abbrev asked : In-Ok-Some → After-get_word_by_index
+asked s = (goal.at.In-Ok-Some s).After-get_word_by_index
 
-word_at : (s : In-Tiles) → WordIn (walk (asked s)) s.in-Tiles.tiles (buffer (asked s))
-word_at s = word_in (walked (asked s)) (in_buffer (asked s)) s.in-Tiles.is
+word_at : (s : In-Ok-Some) → WordIn (walk (asked s)) s.in-Ok-Some.tiles (buffer (asked s))
+word_at s = word_in (walked (asked s)) (in_buffer (asked s)) (cc)
 
 pub slice_bounds-word-end : goal.slice_bounds-word-end
 slice_bounds-word-end c = omega (arith, (word_at c).few)
 
 pub slice_bounds-put_line-end : goal.slice_bounds-put_line-end
-slice_bounds-put_line-end c = sym (length-take-le _ _ (omega (arith, (word_at (goal.at.slice_bounds-put_line-end c).In-Tiles).few)))
+slice_bounds-put_line-end c = sym (length-take-le _ _ (omega (arith, (word_at (goal.at.slice_bounds-put_line-end c).In-Ok-Some).few)))
 
 pub put_line-requires : goal.put_line-requires
 put_line-requires c =
-    let s = (goal.at.put_line-requires c).In-Tiles in
+    let s = (goal.at.put_line-requires c).In-Ok-Some in
     let w = asked s in
     omega (arith, (from w).requires, line-room (number w) (walk w) (omega arith) (walked w) (word_at s))
 
 pub put_refusal-requires : goal.put_refusal-requires
-put_refusal-requires c = omega (arith, (from (goal.at.put_refusal-requires c).After-get_word_by_index).requires, refusal-length 14 (omega arith))
+put_refusal-requires c = omega (arith, c.requires, refusal-length c.number.result (omega arith))
 
-pub put_refusal-requires-in-OutOfRange : goal.put_refusal-requires-in-OutOfRange
-put_refusal-requires-in-OutOfRange c = omega (arith, (from (goal.at.put_refusal-requires-in-OutOfRange c).After-get_word_by_index).requires, refusal-length 15 (omega arith))
-
-pub put_refusal-requires-in-BufferFull : goal.put_refusal-requires-in-BufferFull
-put_refusal-requires-in-BufferFull c = omega (arith, (from (goal.at.put_refusal-requires-in-BufferFull c).After-get_word_by_index).requires, refusal-length 16 (omega arith))
-
-pub returns-in-Tiles : goal.returns-in-Tiles
-returns-in-Tiles c =
-    let s = (goal.at.returns-in-Tiles c).In-Tiles in
+pub returns-in-Ok-Some : goal.returns-in-Ok-Some
+returns-in-Ok-Some c =
+    let s = (goal.at.returns-in-Ok-Some c).In-Ok-Some in
     let w = asked s in
     word_line (number w) (walk w) (omega arith) (walked w) (word_at s) c.put_line.ensures
 
-pub returns-in-Absent : goal.returns-in-Absent
-returns-in-Absent c = let w = (goal.at.returns-in-Absent c).After-get_word_by_index in word_none (number w) (walk w) (in_buffer w) (ap said_word c.in-Absent.is)
-
-pub returns-in-NotLent : goal.returns-in-NotLent
-returns-in-NotLent c =
-    let w = (goal.at.returns-in-NotLent c).After-get_word_by_index in
-    word_refused (number w) (walk w) 14 (omega arith) (in_buffer w) (ap said_word c.in-NotLent.is) c.put_refusal.ensures
-
-pub returns-in-OutOfRange : goal.returns-in-OutOfRange
-returns-in-OutOfRange c =
-    let w = (goal.at.returns-in-OutOfRange c).After-get_word_by_index in
-    word_refused (number w) (walk w) 15 (omega arith) (in_buffer w) (ap said_word c.in-OutOfRange.is) c.put_refusal-in-OutOfRange.ensures
-
-pub returns-in-BufferFull : goal.returns-in-BufferFull
-returns-in-BufferFull c =
-    let w = (goal.at.returns-in-BufferFull c).After-get_word_by_index in
-    word_refused (number w) (walk w) 16 (omega arith) (in_buffer w) (ap said_word c.in-BufferFull.is) c.put_refusal-in-BufferFull.ensures
+pub returns-in-Err : goal.returns-in-Err
+returns-in-Err c =
+    let w = (goal.at.returns-in-Err c).After-get_word_by_index in
+    let n = c.number.ensures in
+    word_refused (number w) (walk w) (word_refusal c.in-Err.why).number (omega arith) (in_buffer w) (ap said_word c.in-Err.is) (rw (← n) c.put_refusal.ensures)

@@ -1,58 +1,27 @@
 -- `number_blocks` meets its contract: a cleared list holds the record of no block, and none is being followed.
-use mathlib.Core.Path.{◌≡◌, refl}
-use mathlib.Core.List.{List}
-use Prim.Native.Nat.{ℕ}
-use lib.ListN.{get_or}
-use Rattle.block_record.specs.Depths.{Below}
-use Rattle.block_record.specs.declared.BlockTally.{BlockTally}
-use Rattle.macondo_blocks.specs.declared.blocks.BlockNumbering.{BlockNumbering}
-use Rattle.macondo_blocks.specs.Blocks.{BlocksRecorded, NumberingFrom, NumberingIs}
+use Rattle.std.specs.Prelude.{◌≡◌, ◌++◌, length, drop}
+use Rattle.std.proofs.Common.{refl, rules}
+use Rattle.laws.specs.Cleared.{cleared}
 use Rattle.macondo_blocks.proofs.BlockNumberingLaws.{clear_at, clear-recorded, cleared-below, clear-numbering}
 use Rattle.macondo_blocks.proofs.blocks.number_blocks.Goals as goal
-use Rattle.macondo_blocks.proofs.blocks.number_blocks.Goals.{After-clear, Start}
+use Rattle.macondo_blocks.proofs.blocks.number_blocks.Goals.{After-fill}
 
 -- the list is cleared
-module _ (c : After-clear) where
-  abbrev asked : Start
-  asked = (goal.at.After-clear c).Start
-
-  abbrev g : List ℕ
-  g = asked.args.nodes.now
-
-  abbrev labels : List ℕ
-  labels = asked.args.labels.now
-
-  abbrev work : List ℕ
-  work = asked.args.work.now
-
-  abbrev cleared : List ℕ
-  cleared = c.clear.new.work
-
-  -- no block is numbered
-  abbrev none : BlockTally
-  none = record { blocks = 0; nodes = 0 }
-
-  nothing-recorded : BlocksRecorded g labels cleared none
-  nothing-recorded = clear-recorded work cleared asked.requires.macondo_ready asked.requires.s_in_bounds.1 c.clear.ensures none refl refl
-
-  none-followed : Below g cleared asked.args.s
-  none-followed = cleared-below work cleared asked.requires.macondo_ready asked.requires.s_in_bounds.1 c.clear.ensures asked.args.s
-
-  start-new : get_or cleared asked.args.s 0 ≡ 0
-  start-new = clear_at work cleared asked.requires.macondo_ready asked.requires.s_in_bounds.1 c.clear.ensures asked.args.s asked.requires.s_in_bounds.0
-
-  answered : (after : List ℕ) (r : BlockNumbering) → NumberingFrom g labels cleared none 64 asked.args.s after r
-      → NumberingIs g labels asked.args.s work after r
-  answered = clear-numbering work cleared asked.requires.macondo_ready asked.requires.s_in_bounds.1 c.clear.ensures none refl asked.args.s
+zeros : (c : After-fill) → c.fill.new.self ++ drop (length c.args.g.nodes.now) c.args.work.now ≡ cleared (length c.args.g.nodes.now) c.args.work.now
+zeros c = search rules
 
 pub number_run-requires : goal.number_run-requires
 number_run-requires c =
-    let k = (goal.at.number_run-requires c).After-clear in
-    let s = asked k in
-    record { blocks_recorded = nothing-recorded k; p_in_bounds = (s.requires.s_in_bounds.0, none-followed k); p_value = start-new k }
+    let z = zeros (goal.at.number_run-requires c).After-fill in
+    let g = c.args.g.nodes.now in
+    record {
+      blocks_recorded = clear-recorded c.args.work.now _ g c.requires.1 z c.args.g.labels.now _ refl refl;
+      p_in_bounds = (c.requires.0, cleared-below c.args.work.now _ g c.requires.1 z c.args.s);
+      p_value = clear_at c.args.work.now _ g c.requires.1 z c.args.s c.requires.0;
+    }
 
 pub returns : goal.returns
 returns c =
-    let r = c.number_run in
-    let k = (goal.at.returns c).After-clear in
-    answered k r.new.work r.result r.ensures
+    let z = zeros (goal.at.returns c).After-fill in
+    clear-numbering c.args.work.now _ c.args.g.nodes.now c.requires.1 z c.args.g.labels.now _ refl c.args.s c.number_run.new.work c.number_run.result
+    c.number_run.ensures

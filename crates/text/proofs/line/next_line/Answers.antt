@@ -1,39 +1,18 @@
--- `line::next_line` meets its contract: the line ends where `line_end` says, and the cursor moves past the ending there.
-use native.Mathlib.Omega.{arith}
-use mathlib.Core.Path.{◌≡◌, sym}
-use mathlib.Core.List.{List}
-use Prim.Native.Nat.{ℕ, ◌+◌}
-use lib.ListN.{drop}
-use Rattle.text.specs.Lines.{line_width}
-use Rattle.text.specs.LineLaws.{line-past, after_line, line-between, end_fits}
+-- `line::next_line` meets its contract: what stands at the place is the line and its ending, and then the rest.
+use Rattle.std.proofs.Common.{◌≡◌, ◌∙◌, ◌-◌, ◌+◌, ap, not, length, take, drop, take_while}
+use Rattle.std.proofs.lemmas.List.{drop_min, take_rest}
+use Rattle.text.specs.Lines.{is_ending, ending_width}
+use Rattle.text.specs.LineLaws.{line-before, line-after}
 use Rattle.text.proofs.line.next_line.Goals as goal
-use Rattle.text.proofs.line.next_line.Goals.{After-after_ending, After-line_end-end, Start}
-
--- the line's end and the place after its ending
-module _ (c : After-after_ending) where
-  abbrev ended : After-line_end-end
-  ended = (goal.at.After-after_ending c).After-line_end-end
-
-  abbrev start : Start
-  start = (goal.at.After-after_ending c).Start
-
-  abbrev text : List ℕ
-  text = start.args.text.now
-
-  abbrev at : ℕ
-  at = start.args.at.now
-
-  abbrev end : ℕ
-  end = ended.line_end-end.result
-
-  moved : c.after_ending.result ≡ at + line_width (drop at text)
-  moved = after_line text at end ended.line_end-end.ensures _ c.after_ending.ensures
-
-pub returns-then-text-start : goal.returns-then-text-start
-returns-then-text-start c = let s = (goal.at.returns-then-text-start c).After-after_ending in record { part = sym (line-past (text s) (at s) c.if-text-start.true); cursor = moved s }
-
-pub slice_bounds-result-end-2 : goal.slice_bounds-result-end-2
-slice_bounds-result-end-2 c = let s = (goal.at.slice_bounds-result-end-2 c).After-after_ending in end_fits (text s) (at s) (end s) (ended s).line_end-end.ensures (omega arith)
 
 pub returns : goal.returns
-returns c = let s = (goal.at.returns c).After-after_ending in record { part = line-between (text s) (at s) (end s) (ended s).line_end-end.ensures; cursor = moved s }
+returns c =
+    let text = c.args.text.now in
+    let rest : take (length text - c.min.result) (drop c.min.result text) ≡ drop c.args.at.now text = take_rest text c.min.result ∙ ap (λ i. drop i text) c.min.ensures ∙ drop_min c.args.at.now text in
+    let end = c.line_length-end.result in
+    let e : end ≡ length (take_while (λ b. not (is_ending b)) (drop c.args.at.now text)) = rw rest at c.line_length-end.ensures.line in
+    let w : c.ending_width.result ≡ ending_width (drop end (drop c.args.at.now text)) = rw take_rest at (rw rest at c.ending_width.ensures.width) in
+    record {
+      part = rw rest (line-before (drop c.args.at.now text) end c.ending_width.result e);
+      cursor = ap (λ n. c.args.at.now + n) (line-after (drop c.args.at.now text) end c.ending_width.result e w);
+    }

@@ -1,60 +1,24 @@
--- `tile::read_tile` meets its contract: no byte is there, or one that is 0, a digit from 1 on, or none.
-use native.Mathlib.Omega.{arith}
-use mathlib.Core.Path.{◌≡◌, sym, ◌∙◌}
-use mathlib.Core.Bool.{true}
-use mathlib.Core.List.{List}
-use Prim.Native.Nat.{ℕ}
-use lib.ListN.{get_or}
-use Rattle.text.specs.Tiles.{is_digit}
-use Rattle.text.specs.TileLaws.{digit_low, digit-high, tile-end, tile-zero, tile-other, tile-digit}
+-- `tile::read_tile` meets its contract: by the two digits that may stand there.
+use Rattle.std.proofs.Common.{sym, ◌∙◌, ◌+◌, ◌*◌, arith, drop}
+use Rattle.text.specs.TileLaws.{within-tile, within_none, digit-none, digit-zero, digit-alone, digit-pair}
 use Rattle.text.proofs.tile.read_tile.Goals as goal
-use Rattle.text.proofs.tile.read_tile.Goals.{After-is_digit, Else-text-at, Start, Then-is_digit}
 
--- the byte there is tested
-module _ (c : After-is_digit) where
-  abbrev there : Else-text-at
-  there = (goal.at.After-is_digit c).Else-text-at
+pub returns-in_err-first : goal.returns-in_err-first
+returns-in_err-first c = rw c.from_residual.ensures (sym (digit-none (drop c.args.at c.args.text.now) (sym c.in_err-first.ensures.value)))
 
-  abbrev start : Start
-  start = (goal.at.After-is_digit c).Start
+pub returns-then-first-eq0 : goal.returns-then-first-eq0
+returns-then-first-eq0 c = let e = sym c.in_ok-first.ensures.value in sym (digit-zero (drop c.args.at c.args.text.now) (rw c.if-first-eq0.true at e))
 
-  abbrev text : List ℕ
-  text = start.args.text.now
+pub returns-then-tile-le63 : goal.returns-then-tile-le63
+returns-then-tile-le63 c = let e = sym c.in_ok-first.ensures.value in
+    sym (digit-pair c.args.text.now c.args.at c.in_ok-first.first e (omega arith) c.in-Some.second (sym c.in-Some.ensures.value)
+    ∙ within-tile _ 2 (omega arith) (omega arith))
 
-  abbrev at : ℕ
-  at = start.args.at
+pub returns-else-tile-le63 : goal.returns-else-tile-le63
+returns-else-tile-le63 c = let e = sym c.in_ok-first.ensures.value in
+    sym (digit-pair c.args.text.now c.args.at c.in_ok-first.first e (omega arith) c.in-Some.second (sym c.in-Some.ensures.value)
+    ∙ within_none (c.in_ok-first.first * 10 + c.in-Some.second) 2 (omega arith))
 
-  abbrev byte : ℕ
-  byte = get_or text at 0
-
-  tested : is_digit byte ≡ c.is_digit.result
-  tested = sym c.is_digit.ensures
-
--- it is a digit
-digit_there : (c : Then-is_digit) → is_digit (byte (goal.at.Then-is_digit c).After-is_digit) ≡ true
-digit_there c = tested (goal.at.Then-is_digit c).After-is_digit ∙ c.if-is_digit.true
-
-pub returns-then-text-at : goal.returns-then-text-at
-returns-then-text-at c = let a = c.args in sym (tile-end a.text.now a.at c.if-text-at.true)
-
-pub returns-then-first-eq48 : goal.returns-then-first-eq48
-returns-then-first-eq48 c = let there = c in
-    let a = there.args in
-    sym (tile-zero a.text.now a.at there.if-text-at.false c.if-first-eq48.true)
-
-pub overflow_sub-first : goal.overflow_sub-first
-overflow_sub-first c = digit_low (byte (goal.at.overflow_sub-first c).After-is_digit) (digit_there c)
-
-pub tile_after-requires : goal.tile_after-requires
-tile_after-requires c =
-    let low = digit_low (byte (goal.at.tile_after-requires c).After-is_digit) (digit_there c) in
-    let high = digit-high (byte (goal.at.tile_after-requires c).After-is_digit) (digit_there c) in
-    let not-zero = c.if-first-eq48.false in
-    (omega arith, omega arith)
-
-pub returns-then-is_digit : goal.returns-then-is_digit
-returns-then-is_digit c = let s = (goal.at.returns-then-is_digit c).After-is_digit in
-    c.tile_after.ensures ∙ sym (tile-digit (text s) (at s) (there s).if-text-at.false (digit_there (goal.at.returns-then-is_digit c).Then-is_digit) s.if-first-eq48.false)
-
-pub returns : goal.returns
-returns c = let s = (goal.at.returns c).After-is_digit in sym (tile-other (text s) (at s) (there s).if-text-at.false (tested s ∙ c.if-is_digit.false))
+pub returns-in-None : goal.returns-in-None
+returns-in-None c = let e = sym c.in_ok-first.ensures.value in
+    sym (digit-alone c.args.text.now c.args.at c.in_ok-first.first e (omega arith) (omega (arith, c.in_ok-first.ensures.small)) (sym c.in-None.ensures.value))

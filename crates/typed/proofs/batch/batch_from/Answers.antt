@@ -1,149 +1,84 @@
 -- `batch::batch_from` meets its contract: each line's tiles go into what is left of the buffer, and the batch from the place after it answers
 -- for the whole.
-use native.Mathlib.Nat.{sub-zero}
-use native.Mathlib.Omega.{arith}
-use mathlib.Core.Path.{◌≡◌, refl, sym, ap₂}
-use mathlib.Core.List.{List, [], ◌++◌}
-use Prim.Native.Nat.{ℕ, ◌+◌, ◌-◌, ◌*◌, ◌^◌, ◌<◌}
-use lib.ListN.{length, take, drop}
-use Rattle.answers.specs.Answers.{nothing, refused}
-use Rattle.text.specs.LineLaws.{line-inside, width-moves}
+use Rattle.std.proofs.Common.{◌≡◌, ℕ, List, [], ◌++◌, ◌-◌, ◌<◌, refl, ap, ◌∙◌, subst, arith, length, take, drop, Ok}
+use Rattle.answers.specs.Answers.{Answer, nothing, refused}
 use Rattle.label_index.specs.Labels.{Label, labels_in}
-use Rattle.typed.specs.Batches.{Batch, batch_from}
-use Rattle.typed.specs.declared.word.WordRead.{WordRead}
-use Rattle.typed.proofs.BatchLaws.{batch-begins, batch-is, batch-end, batch-full, batch-done, untouched}
-use Rattle.typed.proofs.BatchLaws.{PartRead, part-read, batch-puts, batch-stops}
-use borrow.Author.Rules.{rules}
+use Rattle.typed.specs.Said.{said_next, word_given}
+use Rattle.typed.proofs.BatchLaws.{PartRead, part-read, batch-is, batch-end, batch-full, batch-done, batch-puts, batch-stops, untouched}
 use Rattle.typed.proofs.batch.batch_from.Goals as goal
-use Rattle.typed.proofs.batch.batch_from.Goals.{After-read_word-read, After-skip_empty-start, At-loop-at, Start}
+use Rattle.typed.proofs.batch.batch_from.Goals.{After-word_from_place, Start}
 
--- the next line is looked for
-module _ (s : After-skip_empty-start) where
-  abbrev given : Start
-  given = (goal.at.After-skip_empty-start s).Start
-
+module _ (s : Start) where
   abbrev ls : List Label
-  ls = labels_in given.args.file.now
+  ls = labels_in s.args.index.now.file.now
 
   abbrev text : List ℕ
-  text = given.args.text.now
+  text = s.args.text.now
 
-  text-fits : length text < 2 ^ 64
-  text-fits = given.well_formed.1.1.1.1.1.0.0
-
-  tiles-fit : length given.args.tiles.now < 2 ^ 64
-  tiles-fit = given.well_formed.1.1.1.1.1.1.1.0.0
-
-  sizes-fit : length given.args.sizes.now * 8 < 2 ^ 63
-  sizes-fit = given.well_formed.1.1.1.1.1.1.1.1.0.1
-
-  abbrev slots : ℕ
-  slots = length s.loop-at.sizes - s.loop-at.words
-
-  abbrev room : ℕ
-  room = length s.loop-at.tiles - s.loop-at.put
-
--- and its tiles are read
-module _ (r : After-read_word-read) where
-  abbrev sought : After-skip_empty-start
-  sought = (goal.at.After-read_word-read r).After-skip_empty-start
-
-  abbrev head : At-loop-at
-  head = (goal.at.After-read_word-read r).At-loop-at
-
-  line-there : sought.skip_empty-start.result < length (text sought)
-  line-there = r.if-text-start.false
-
-  slot-there : head.loop-at.words < length head.loop-at.sizes
-  slot-there = r.if-sizes-words.false
-
-  slot-fits : (head.loop-at.words + 1) * 8 < 2 ^ 64
-  slot-fits = let h = slot-there in let z = head.loop-at.invariant.in_sizes.size in let f = sizes-fit sought in omega arith
+-- the next word is read into what is left of the tiles
+module _ (r : After-word_from_place) where
+  abbrev given : Start
+  given = (goal.at.After-word_from_place r).Start
 
   abbrev tiles : List ℕ
-  tiles = head.loop-at.tiles
+  tiles = r.loop-words.tiles
 
   abbrev put : ℕ
-  put = head.loop-at.put
+  put = r.loop-words.read.tiles
 
-  into-part : {y : WordRead} → r.read_word-read.result ≡ y
-      → PartRead (ls sought) (text sought) head.loop-at.place r.next_line-line.new.at tiles put
-      (take put tiles ++ (r.read_word-read.new.word ++ drop (length tiles - put) (drop put tiles))) y
+  abbrev tiles' : List ℕ
+  tiles' = take put tiles ++ (r.word_from_place.new.word ++ drop (length tiles - put) (drop put tiles))
+
+  into-part : {a : Answer} → said_next r.word_from_place.result ≡ a → PartRead (ls given) (text given) r.loop-words.read.after tiles put tiles' a
   into-part e =
-      part-read r.next_line-line.ensures (ls sought) head.loop-at.place sought.skip_empty-start.ensures line-there tiles put
-      head.loop-at.invariant.in_tiles.room r.read_word-read.ensures e r.read_word-read.auto.word
+      subst (PartRead (ls given) (text given) r.loop-words.read.after tiles put tiles') e
+      (part-read (ls given) (text given) r.loop-words.read.after tiles put r.loop-words.invariant.1.in_tiles.room r.word_from_place.ensures r.word_from_place.auto.word)
 
-pub loop-at-init : goal.loop-at-init
-loop-at-init c =
-    let a = c.args in
-    let whole : ℕ → ℕ → Batch = λ slots room. batch_from (labels_in a.file.now) a.text.now slots room a.at in
-    batch-is (ap₂ whole (sym (sub-zero _)) (sym (sub-zero _)))
-    (batch-begins (whole (length a.sizes.now) (length a.tiles.now)) a.tiles.now a.sizes.now)
+  slot-there : r.loop-words.words < length r.loop-words.sizes
+  slot-there = omega (arith, r.loop-words-test.true, r.loop-words.auto.sizes)
 
-pub returns-then-text-start : goal.returns-then-text-start
-returns-then-text-start c =
-    let s = (goal.at.returns-then-text-start c).After-skip_empty-start in
-    let l = s.loop-at in
-    let fits = l.invariant.in_tiles.room in
-    batch-done [] (untouched l.tiles l.put) (omega arith) l.place nothing _ c.words_or.ensures
-    (batch-is (batch-end (ls s) (text s) (slots s) (room s) l.place s.skip_empty-start.ensures c.if-text-start.true) l.invariant)
+pub returns-in-Ok-None : goal.returns-in-Ok-None
+returns-in-Ok-None c =
+    let r = (goal.at.returns-in-Ok-None c).After-word_from_place in
+    let e = ap said_next (c.in-Ok-None.is ∙ ap Ok c.in-Ok-None.field-0-is) in
+    batch-stops (into-part r e) (slot-there r) c.loop-words.invariant.1 (λ _. refl) _ (rw c.loop-words.invariant.0 at c.words_or.ensures)
 
-pub returns-then-sizes-words : goal.returns-then-sizes-words
-returns-then-sizes-words c =
-    let s = (goal.at.returns-then-sizes-words c).After-skip_empty-start in
-    let l = s.loop-at in
-    let full = c.if-sizes-words.true in
-    let fits = l.invariant.in_tiles.room in
-    let stop = batch-full (ls s) (text s) (slots s) (room s) l.place s.skip_empty-start.ensures c.if-text-start.false (omega arith) in
-    batch-done [] (untouched l.tiles l.put) (omega arith) l.place (refused 16 []) _ c.words_or-then-sizes-words.ensures (batch-is stop l.invariant)
+pub returns-in-Err : goal.returns-in-Err
+returns-in-Err c =
+    let r = (goal.at.returns-in-Err c).After-word_from_place in
+    let e = ap said_next c.in-Err.is in
+    batch-stops (into-part r e) (slot-there r) c.loop-words.invariant.1 (λ _. refl) _ (rw c.loop-words.invariant.0 at c.words_or-in-Err.ensures)
 
-pub slice_bounds-read_word-count : goal.slice_bounds-read_word-count
-slice_bounds-read_word-count c = let h = c.loop-at.invariant.in_tiles.room in search rules
+pub overflow_add-read-in-loop-words : goal.overflow_add-read-in-loop-words
+overflow_add-read-in-loop-words c =
+    let r = (goal.at.overflow_add-read-in-loop-words c).After-word_from_place in
+    let w = c.in-Ok-Some.word in
+    let e : said_next r.word_from_place.result ≡ word_given w = ap said_next (c.in-Ok-Some.is ∙ ap Ok c.in-Ok-Some.field-0-is) in
+    let more = batch-puts (into-part r e) (slot-there r) c.loop-words.invariant.1 w.start w.end w.after w.tiles refl in
+    omega (arith, more.in_tiles.room, more.in_tiles.size)
 
-pub slice_bounds-read_word-start : goal.slice_bounds-read_word-start
-slice_bounds-read_word-start c = let h = c.loop-at.invariant.in_tiles.room in search rules
+pub loop-words-preserved : goal.loop-words-preserved
+loop-words-preserved c =
+    let r = (goal.at.loop-words-preserved c).After-word_from_place in
+    let w = c.in-Ok-Some.word in
+    let e : said_next r.word_from_place.result ≡ word_given w = ap said_next (c.in-Ok-Some.is ∙ ap Ok c.in-Ok-Some.field-0-is) in
+    (refl, batch-puts (into-part r e) (slot-there r) c.loop-words.invariant.1 w.start w.end w.after w.tiles refl)
 
-pub slice_bounds-read_word-end : goal.slice_bounds-read_word-end
-slice_bounds-read_word-end c = let h = c.loop-at.invariant.in_tiles.room in search rules
+pub returns-then-line_start-text : goal.returns-then-line_start-text
+returns-then-line_start-text c =
+    let s = (goal.at.returns-then-line_start-text c).Start in
+    let l = c.loop-words in
+    let left = l.invariant.1 in
+    let full : length l.sizes - l.words ≡ 0 = omega arith in
+    let stop = batch-full (ls s) (text s) (length l.sizes - l.words) (length l.tiles - l.read.tiles) l.read.after c.line_start.ensures c.if-line_start-text.true full in
+    batch-done [] (untouched l.tiles l.read.tiles) (omega (arith, left.in_tiles.room)) l.read.after (refused 16 []) _
+    (rw l.invariant.0 at c.words_or-then-line_start-text.ensures) (batch-is stop left)
 
-pub read_word-read-requires : goal.read_word-read-requires
-read_word-read-requires c =
-    let s = (goal.at.read_word-read-requires c).After-skip_empty-start in
-    let h = c.if-text-start.false in
-    let i = line-inside (text s) _ s.skip_empty-start.result (omega arith) c.next_line-line.ensures.part in
-    let f = text-fits s in ((given s).requires, omega arith)
-
-pub offset_bounds-sizes-words : goal.offset_bounds-sizes-words
-offset_bounds-sizes-words c = let f = slot-fits (goal.at.offset_bounds-sizes-words c).After-read_word-read in omega arith
-
-pub overflow_add-words : goal.overflow_add-words
-overflow_add-words c = let f = slot-fits (goal.at.overflow_add-words c).After-read_word-read in omega arith
-
-pub overflow_add-put : goal.overflow_add-put
-overflow_add-put c =
-    let r = (goal.at.overflow_add-put c).After-read_word-read in
-    let p = into-part r c.in-Tiles.is in
-    let k = p.count _ refl in let f = p.fits in let z = (head r).loop-at.invariant.in_tiles.size in let t = tiles-fit (sought r) in omega arith
-
-pub loop-at-smaller : goal.loop-at-smaller
-loop-at-smaller c =
-    let r = (goal.at.loop-at-smaller c).After-read_word-read in
-    let s = sought r in
-    let e = s.skip_empty-start.ensures in
-    let h = line-there r in
-    let m = width-moves (text s) s.skip_empty-start.result h in
-    let w = r.next_line-line.ensures.cursor in omega arith
-
-pub loop-at-preserved : goal.loop-at-preserved
-loop-at-preserved c =
-    let r = (goal.at.loop-at-preserved c).After-read_word-read in batch-puts (into-part r c.in-Tiles.is) (slot-there r) (head r).loop-at.invariant _ refl
-
-pub returns-in-Unreadable : goal.returns-in-Unreadable
-returns-in-Unreadable c =
-    let r = (goal.at.returns-in-Unreadable c).After-read_word-read in
-    batch-stops (into-part r c.in-Unreadable.is) (slot-there r) (head r).loop-at.invariant 28 _ refl _ c.words_or-in-Unreadable.ensures
-
-pub returns-in-BufferFull : goal.returns-in-BufferFull
-returns-in-BufferFull c =
-    let r = (goal.at.returns-in-BufferFull c).After-read_word-read in
-    batch-stops (into-part r c.in-BufferFull.is) (slot-there r) (head r).loop-at.invariant 16 _ refl _ c.words_or-in-BufferFull.ensures
+pub returns-else-line_start-text : goal.returns-else-line_start-text
+returns-else-line_start-text c =
+    let s = (goal.at.returns-else-line_start-text c).Start in
+    let l = c.loop-words in
+    let left = l.invariant.1 in
+    let stop = batch-end (ls s) (text s) (length l.sizes - l.words) (length l.tiles - l.read.tiles) l.read.after c.line_start.ensures c.if-line_start-text.false in
+    batch-done [] (untouched l.tiles l.read.tiles) (omega (arith, left.in_tiles.room)) l.read.after nothing _
+    (rw l.invariant.0 at c.words_or-else-line_start-text.ensures) (batch-is stop left)

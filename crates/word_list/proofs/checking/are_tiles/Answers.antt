@@ -1,42 +1,18 @@
--- `checking::are_tiles` meets its contract: what is left of the word answers for all of it.
-use native.Mathlib.Omega.{arith}
-use mathlib.Core.Path.{refl, ap}
-use mathlib.Core.Bool.{not}
-use mathlib.Core.List.{List}
-use Prim.Native.Nat.{ℕ}
-use lib.ListN.{get_or}
-use borrow.Author.Tests.{ne_eqb, lt-ltb, le-ltb}
-use Rattle.laws.specs.Searching.{Tested, search-begins, search_finds, search-passes, search-ends}
+-- `checking::are_tiles` meets its contract.
+use Rattle.std.proofs.Common.{rules, tests, ◌≡◌, refl, ◌∙◌, Bool, not, List, [], ◌∷◌, ℕ}
+use Rattle.std.specs.List.{list_all}
+use Rattle.std.proofs.lemmas.Iterator.{YieldsList-from_slice}
+use Rattle.std.proofs.lemmas.Iterator.Search.{all_from_yields_List}
+use Rattle.laws.specs.Cases.{split}
+use Rattle.laws.specs.Lists.{some_of}
 use Rattle.built.specs.Listed.{no_tile}
 use Rattle.word_list.proofs.checking.are_tiles.Goals as goal
-use Rattle.word_list.proofs.checking.are_tiles.Goals.{After-shared_slice_known-1}
 
-pub loop-i-init : goal.loop-i-init
-loop-i-init c = search-begins
-
--- a turn of the loop, its tile read
-module _ (s : After-shared_slice_known-1) where
-  abbrev word : List ℕ
-  word = s.args.word.now
-
-  abbrev tile : ℕ
-  tile = get_or word s.loop-i.i 0
-
-  tested : Tested no_tile word 0 s.loop-i.i (no_tile tile)
-  tested = record { left = s.loop-i.invariant; there = s.loop-i-test.true; test = refl }
-
-pub returns-then-tile-eq0 : goal.returns-then-tile-eq0
-returns-then-tile-eq0 c = ap not (search_finds (tested (goal.at.returns-then-tile-eq0 c).After-shared_slice_known-1) (rw c.if-tile-eq0.true))
-
-pub returns-then-tile-gt63 : goal.returns-then-tile-gt63
-returns-then-tile-gt63 c =
-    let s = (goal.at.returns-then-tile-gt63 c).After-shared_slice_known-1 in
-    ap not (search_finds (tested s) (rw (ne_eqb (tile s) 0 c.if-tile-eq0.false, lt-ltb 63 (tile s) (omega arith))))
-
-pub loop-i-preserved : goal.loop-i-preserved
-loop-i-preserved c =
-    let s = (goal.at.loop-i-preserved c).After-shared_slice_known-1 in
-    search-passes (tested s) (rw (ne_eqb (tile s) 0 c.if-tile-eq0.false, le-ltb 63 (tile s) (omega arith)))
+each_not : (f : ℕ → Bool) (xs : List ℕ) → list_all (λ x. not (f x)) xs ≡ not (some_of f xs)
+each_not f [] = refl
+each_not f (x ∷ xs) = split (f x) (λ e. rw e) (λ e. rw e (each_not f xs))
 
 pub returns : goal.returns
-returns c = ap not (search-ends c.loop-i.invariant c.loop-i-test.false)
+returns c =
+    all_from_yields_List (λ t. not (no_tile t)) _ _ _ c.all.ensures.ran (YieldsList-from_slice c.args.word.now cc) (λ x b q k. search (rules, tests))
+    ∙ each_not no_tile c.args.word.now

@@ -1,11 +1,10 @@
 -- `checking::check_list` meets its contract: the words passed refuse nothing, and the rows of the bytes left answer for the list.
-use Prim.Native.Nat.{◌-◌}
-use lib.ListN.{length}
+use Rattle.std.proofs.Common.{length}
 use Rattle.word_list.proofs.CheckLaws.{Checking}
 use Rattle.word_list.proofs.checking.check_list.Given as goal
 
-abbrev pub invariant-loop-at : goal.invariant-loop-at
-invariant-loop-at l = Checking l.list l.before l.size l.at
+abbrev pub invariant-loop-before : goal.invariant-loop-before
+invariant-loop-before l = Checking l.list l.before l.left
 
-abbrev pub decreases-loop-at : goal.decreases-loop-at
-decreases-loop-at l = length l.list - l.at
+abbrev pub decreases-loop-before : goal.decreases-loop-before
+decreases-loop-before l = length l.left

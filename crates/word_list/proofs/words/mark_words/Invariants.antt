@@ -11,7 +11,7 @@ use Rattle.word_list.proofs.words.mark_words.Given as goal
 
 abbrev pub invariant-loop-at : goal.invariant-loop-at
 invariant-loop-at l =
-    (length l.work ≡ length l.initial.work) × ((ws : List Word) → Lexicon 64 ws → l.list ≡ list_bytes ws → Marking ws l.base l.initial.work l.work l.last l.before l.at)
+    (ws : List Word) → Lexicon 64 ws → l.list ≡ list_bytes ws → Marking ws l.marks l.last l.before l.at
 
 abbrev pub decreases-loop-at : goal.decreases-loop-at
 decreases-loop-at l = length l.list - l.at

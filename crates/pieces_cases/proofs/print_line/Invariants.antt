@@ -1,9 +1,0 @@
--- each turn prints one number of those left
-use Rattle.std.proofs.Common.{length, ◌-◌, ◌≤◌}
-use Rattle.pieces_cases.proofs.print_line.Given as goal
-
-abbrev pub invariant-loop-i : goal.invariant-loop-i
-invariant-loop-i g l = l.i ≤ length l.numbers
-
-abbrev pub decreases-loop-i : goal.decreases-loop-i
-decreases-loop-i g l = length l.numbers - l.i

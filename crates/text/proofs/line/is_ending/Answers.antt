@@ -1,9 +1,0 @@
--- `line::is_ending` meets its contract: one test after the other.
-use borrow.Author.Tests.{ne_eqb}
-use Rattle.text.proofs.line.is_ending.Goals as goal
-
-pub returns-then-b-eq10 : goal.returns-then-b-eq10
-returns-then-b-eq10 c = rw c.if-b-eq10.true
-
-pub returns : goal.returns
-returns c = rw (ne_eqb c.args.b 10 c.if-b-eq10.false)

@@ -1,9 +1,0 @@
--- `batch::words_or` meets its contract: by whether there are words.
-use borrow.Author.Tests.{eq-eqb, ne_eqb}
-use Rattle.typed.proofs.batch.words_or.Goals as goal
-
-pub returns-then-words-eq0 : goal.returns-then-words-eq0
-returns-then-words-eq0 c = rw (eq-eqb c.args.words 0 c.if-words-eq0.true)
-
-pub returns : goal.returns
-returns c = rw (ne_eqb c.args.words 0 c.if-words-eq0.false)
