@@ -1,4 +1,4 @@
--- The flat answer of building has the fields of the reply, and the nodes that it counts follow.
+-- What building replies over the lists that are lent, of which only so much matters.
 use mathlib.Core.Path.{◌≡◌, ap, ◌∙◌}
 use mathlib.Core.List.{List, ◌++◌}
 use Prim.Native.Nat.{ℕ, min}
@@ -9,12 +9,6 @@ use Rattle.flat.specs.FlatBuilds.{built_of, building_of, flat_built}
 use Rattle.flat.specs.declared.building.FlatBuilt.{FlatBuilt}
 use Rattle.replay.specs.Builds.{built_fields, built_reply, build_reply_in, build_reply}
 use Rattle.replay.proofs.RoomLaws.{take_same, lent-size}
-
-pub build-replies : (list : List ℕ) (work : ℕ) (lent : List ℕ) (r : FlatBuilt) (after : List ℕ) → building_of r after ≡ build_as list work lent
-    → r ≡ flat_built (built_of r) → built_fields r ++ take r.nodes after ≡ build_reply_in list work lent
-unfolding build_reply_in
-build-replies list work lent r after e flat =
-    ap (λ (x : FlatBuilt). built_fields x ++ take x.nodes after) flat ∙ ap built_reply e
 
 -- so much of the lists that a case has is lent
 pub build-reply : (ws list : List ℕ) (work nodes : ℕ) → work ≡ min (get_or ws 0 0) 4096 → nodes ≡ min (get_or ws 1 0) 512

@@ -1,4 +1,4 @@
--- The flat answers of lookups, over the inputs read from the words of a case, have the fields of the reply.
+-- The flat answer of a number's word, over the inputs read from the words of a case, has the fields of the reply.
 use mathlib.Core.Path.{◌≡◌, ap, ◌∙◌}
 use mathlib.Core.List.{List, [], ◌∷◌, ◌++◌}
 use Prim.Native.Nat.{ℕ, ◌%◌}
@@ -17,32 +17,6 @@ use Rattle.flat.specs.declared.lookups.FlatWord.{FlatWord}
 use Rattle.replay.specs.Lookups.{sought_fields, cursor_fields, index_fields, word_fields, seek_reply, step_reply, index_reply, word_walk, word_reply_in, unmarked}
 
 module _ (ws : List ℕ) where
-  pub seek-fields : (r : FlatSought) (rest g counts : List ℕ) (n p t b : ℕ) → rest ≡ drop 3 ws → n ≡ get_or ws 2 0 → g ≡ take n rest
-      → counts ≡ drop n rest → p ≡ get_or ws 0 0 → t ≡ get_or ws 1 0 % 256 → b ≡ flag r.found → sought_of r ≡ seek g counts p t
-      → r ≡ flat_sought (sought_of r) → r.refusal ∷ b ∷ r.place ∷ r.before ∷ [] ≡ seek_reply ws
-  unfolding seek_reply
-  seek-fields r rest g counts n p t b er en eg ec ep et eb said flat =
-      let args : seek g counts p t ≡ seek (take (get_or ws 2 0) (drop 3 ws)) (drop (get_or ws 2 0) (drop 3 ws)) (get_or ws 0 0) (get_or ws 1 0 % 256)
-      = rw (eg, ec, ep, et, en, er) in
-      rw eb (ap sought_fields (flat ∙ ap flat_sought (said ∙ args)))
-
-  pub step-fields : (r : FlatCursor) (g : List ℕ) (p b : ℕ) → g ≡ drop 1 ws → p ≡ get_or ws 0 0 → b ≡ flag r.done
-      → cursor_of r ≡ moves g p → r ≡ flat_cursor (cursor_of r) → r.refusal ∷ b ∷ r.at ∷ [] ≡ step_reply ws
-  unfolding step_reply
-  step-fields r g p b eg ep eb said flat =
-      let args : moves g p ≡ moves (drop 1 ws) (get_or ws 0 0) = rw (eg, ep) in
-      rw eb (ap cursor_fields (flat ∙ ap flat_cursor (said ∙ args)))
-
-  pub index-fields : (r : FlatIndex) (tiles rest g counts : List ℕ) (n p b : ℕ) → rest ≡ drop 2 ws → n ≡ get_or ws 1 0 → g ≡ take n rest
-      → counts ≡ drop n rest → p ≡ get_or ws 0 0 → b ≡ flag r.found → index_of r ≡ word_index count_limit g counts p tiles
-      → r ≡ flat_index (index_of r) → r.refusal ∷ b ∷ r.number ∷ [] ≡ index_reply ws tiles
-  unfolding index_reply
-  index-fields r tiles rest g counts n p b er en eg ec ep eb said flat =
-      let args : word_index count_limit g counts p tiles
-      ≡ word_index count_limit (take (get_or ws 1 0) (drop 2 ws)) (drop (get_or ws 1 0) (drop 2 ws)) (get_or ws 0 0) tiles
-      = rw (eg, ec, ep, en, er) in
-      rw eb (ap index_fields (flat ∙ ap flat_index (said ∙ args)))
-
   walk_is : (rest g counts : List ℕ) (n p idx room : ℕ) → rest ≡ drop 3 ws → n ≡ get_or ws 2 0 → g ≡ take n rest → counts ≡ drop n rest → p ≡ get_or ws 0 0
       → idx ≡ get_or ws 1 0 → word_by_index counts g room p idx ≡ word_walk ws room
   unfolding word_walk

@@ -1,32 +1,35 @@
 -- No tile is 165, so the tiles that a walk put into a word of 165s are those before the first of these.
-use mathlib.Core.Path.{◌≡◌, refl, ap, ◌∙◌}
+use mathlib.Core.Path.{◌≡◌, refl, sym, ap, ◌∙◌}
 use mathlib.Core.List.{List, [], ◌∷◌, ◌++◌, append-nil}
-use Prim.Native.Nat.{ℕ, zero, suc, ◌+◌, ◌<◌, ◌≤◌}
-use native.Mathlib.Numerals.{add-one}
+use Prim.Native.Nat.{ℕ, zero, suc, ◌+◌}
 use native.Mathlib.Omega.{arith}
-use borrow.Author.Tests.{eq-eqb, ne_eqb}
-use lib.ListN.{length, get_or, take, drop, replicate, length-replicate, drop_of_length-le}
-use lib.Seq.{drop-cons, take-suc, take_all, append_snoc}
+use borrow.Author.Tests.{ne_eqb, ltb-false}
+use lib.Dec.{eqb, ltb}
+use lib.ListN.{length, get_or, take, drop, replicate, length-replicate}
+use lib.Seq.{take_all}
+use Rattle.std.specs.List.{position_or_len}
+use Rattle.std.specs.Prelude.{Option, Some, None, cond, unwrap_or}
+use Rattle.laws.specs.Cases.{split}
 use Rattle.lookup.specs.WalkedLaws.{Tiles, by-index-walked}
 use Rattle.flat.specs.FlatLookups.{flat_word}
 use Rattle.replay.specs.Lookups.{word_fields, word_walk, unmarked, word_reply_in, word_reply}
 
--- ---- along a word
-module _ (word : List ℕ) (i : ℕ) where
-  pub marked-here : i < length word → get_or word i 0 ≡ 165 → unmarked (drop i word) ≡ []
-  unfolding unmarked
-  marked-here h e = rw (drop-cons word i 0 h, eq-eqb (get_or word i 0) 165 e)
+-- ---- the tiles before the first mark
+after-first : (k t : ℕ) (ts : List ℕ) → take (1 + k) (t ∷ ts) ≡ t ∷ take k ts
+after-first k t ts = let e : 1 + k ≡ suc k = omega arith in ap (λ n. take n (t ∷ ts)) e
 
-  pub tile-here : i < length word → (get_or word i 0 ≡ 165 → ⊥)
-      → take (i + 1) word ++ unmarked (drop (i + 1) word) ≡ take i word ++ unmarked (drop i word)
-  unfolding unmarked
-  tile-here h n =
-      rw (drop-cons word i 0 h, ne_eqb (get_or word i 0) 165 n, add-one, take-suc word i 0 h)
-      (append_snoc (take i word) (get_or word i 0) (unmarked (drop (suc i) word)))
+unmarked-first : (word : List ℕ) → unmarked word ≡ take (position_or_len (λ t. eqb t 165) word) word
+unfolding unmarked
+unmarked-first [] = refl
+unmarked-first (t ∷ ts) = split (eqb t 165) (λ e. rw e) (λ e. rw e (ap (t ∷◌) (unmarked-first ts) ∙ sym (after-first _ t ts)))
 
-  pub no-mark-left : length word ≤ i → take i word ++ unmarked (drop i word) ≡ word
-  unfolding unmarked
-  no-mark-left h = rw (drop_of_length-le word h, take_all i word h) (append-nil word)
+pub put-tiles : (word : List ℕ) {put : Option ℕ} → put ≡ cond (ltb (position_or_len (λ t. eqb t 165) word) (length word)) (Some (position_or_len (λ t. eqb t 165) word)) None
+    → take (unwrap_or put (length word)) word ≡ unmarked word
+put-tiles word e =
+    let k = position_or_len (λ t. eqb t 165) word in
+    split (ltb k (length word))
+    (λ t. rw (e, t, unmarked-first word))
+    (λ t. rw (e, t, unmarked-first word) (take_all _ word (omega arith) ∙ sym (take_all k word (ltb-false _ _ t))))
 
 -- ---- over a walk
 tiles-unmarked : (ts rest : List ℕ) → Tiles ts → unmarked (ts ++ rest) ≡ ts ++ unmarked rest

@@ -14,7 +14,7 @@ use Rattle.stored.specs.Answers.{same, verdict_of}
 use Rattle.stored.specs.Inputs.{list_in, count_of, copied_to}
 use Rattle.stored.specs.CountLaws.{not-counted, list_counted}
 use Rattle.stored.specs.declared.answers.Verdict.{Verdict}
-use Rattle.stored.specs.declared.inputs.Count.{Count}
+use Rattle.std.specs.Prelude.{Some, None}
 use Rattle.replay.specs.Counts.{count_reply, CountReplied, replied}
 use Rattle.replay.specs.Judged.{after_bytes, after_words, Reply, counting, Replied, by, Judged, no_call, unread, compared}
 
@@ -39,18 +39,18 @@ pub copied-front : (lent : List ℕ) (o : Option (List ℕ)) (l : List ℕ) (n :
 copied-front lent o l n after e s c = rw (c, e, ← s) (take-append_seam l (drop (length l) lent))
 
 module _ (wr br call : ℕ) (case : List ℕ) where
-  pub words-unread : count_of (list_in 4294967295 wr case) ≡ Count.Malformed → Judged wr br call case Verdict.Malformed
+  pub words-unread : count_of (list_in 4294967295 wr case) ≡ None → Judged wr br call case Verdict.Malformed
   words-unread e = unread (ap (after_words br case) (not-counted (list_in 4294967295 wr case) e))
 
-  module _ (n : ℕ) (rest : List ℕ) (e : count_of (list_in 4294967295 wr case) ≡ Count.Are n) (er : rest ≡ drop (n + 1) case) where
-    pub bytes-unread : count_of (list_in 255 br rest) ≡ Count.Malformed → Judged wr br call case Verdict.Malformed
+  module _ (n : ℕ) (rest : List ℕ) (e : count_of (list_in 4294967295 wr case) ≡ Some n) (er : rest ≡ drop (n + 1) case) where
+    pub bytes-unread : count_of (list_in 255 br rest) ≡ None → Judged wr br call case Verdict.Malformed
     bytes-unread f =
         let (ws, is, sized) = list_counted (list_in 4294967295 wr case) n e in
         let at : rest ≡ drop (length ws + 1) case = er ∙ ap (λ (k : ℕ). drop (k + 1) case) (sym sized) in
         unread (ap (after_words br case) is ∙ ap (λ (r : List ℕ). after_bytes ws r (list_in 255 br r)) (sym at)
         ∙ ap (after_bytes ws rest) (not-counted (list_in 255 br rest) f))
 
-    pub case-judged : (m : ℕ) (words bytes after_words' after_bytes' stored part : List ℕ) {b : Bool} → count_of (list_in 255 br rest) ≡ Count.Are m
+    pub case-judged : (m : ℕ) (words bytes after_words' after_bytes' stored part : List ℕ) {b : Bool} → count_of (list_in 255 br rest) ≡ Some m
         → wr ≡ length words → br ≡ length bytes → after_words' ≡ copied_to words (list_in 4294967295 wr case)
         → after_bytes' ≡ copied_to bytes (list_in 255 br rest) → stored ≡ drop (m + 1) rest → part ≡ take n after_words'
         → Replied part (take m after_bytes') call stored b → Judged wr br call case (verdict_of b)
@@ -64,17 +64,3 @@ module _ (wr br call : ℕ) (case : List ℕ) where
         compared {r = record { words = ws; bytes = bs; answer = drop (length bs + 1) rest }} {b = b}
         (ap (after_words br case) is ∙ ap (λ (l : List ℕ). after_bytes ws l (list_in 255 br l)) (sym at) ∙ ap (after_bytes ws rest) has)
         (rw (← end, ← front, ← first) r)
-
--- ---- the last call
-up : {n : ℕ} (k : ℕ) → k ≤ n → (n ≡ k → ⊥) → k + 1 ≤ n
-up {n} k h other = split (ltb k n) (λ t. let l = ltb-true k n t in omega arith) (λ t. let l = ltb-false k n t in absurd (other (omega arith)))
-
-pub last-call : (n : ℕ) → 1 ≤ n → n ≤ 19 → (n ≡ 4 → ⊥) → (n ≡ 1 → ⊥) → (n ≡ 2 → ⊥) → (n ≡ 3 → ⊥) → (n ≡ 5 → ⊥) → (n ≡ 6 → ⊥) → (n ≡ 7 → ⊥)
-    → (n ≡ 8 → ⊥) → (n ≡ 9 → ⊥) → (n ≡ 10 → ⊥) → (n ≡ 11 → ⊥) → (n ≡ 12 → ⊥) → (n ≡ 13 → ⊥) → (n ≡ 14 → ⊥) → (n ≡ 15 → ⊥)
-    → (n ≡ 16 → ⊥) → (n ≡ 17 → ⊥) → (n ≡ 18 → ⊥) → n ≡ 19
-last-call n low high d a b c e f g h i j k l m o q r s t =
-    let past4 = up 4 (up 3 (up 2 (up 1 low a) b) c) d in
-    let past9 = up 9 (up 8 (up 7 (up 6 (up 5 past4 e) f) g) h) i in
-    let past14 = up 14 (up 13 (up 12 (up 11 (up 10 past9 j) k) l) m) o in
-    let past18 = up 18 (up 17 (up 16 (up 15 past14 q) r) s) t in
-    omega arith

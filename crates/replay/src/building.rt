@@ -3,9 +3,7 @@ ghost use Rattle.std.specs.Prelude.{◌≡◌, ◌++◌, length, take};
 ghost use Rattle.stored.specs.Answers.{same};
 ghost use Rattle.replay.specs.Builds.{built_fields, build_reply, build_reply_in};
 
-use crate::typing::room_of;
-use flat::FlatBuilt;
-use stored::{same_then_words, word_at, words_to};
+use stored::{list_to, same_then, word_at};
 
 // The most that a case has room for: numbers of the work list, and nodes.
 const WORK_ROOM: usize = 4096;
@@ -18,8 +16,8 @@ pub(crate) fn build(stored: &[u64], words: &[u32], list: &[u8]) -> bool
 {
     let mut work = [0u32; WORK_ROOM];
     let mut nodes = [0u32; NODE_ROOM];
-    let work_room = room_of(word_at(words, 0), WORK_ROOM);
-    let node_room = room_of(word_at(words, 1), NODE_ROOM);
+    let work_room = (word_at(words, 0) as usize).min(WORK_ROOM);
+    let node_room = (word_at(words, 1) as usize).min(NODE_ROOM);
     build_lent(
         stored,
         list,
@@ -28,17 +26,14 @@ pub(crate) fn build(stored: &[u64], words: &[u32], list: &[u8]) -> bool
     )
 }
 
+#[tactic(auto, unfolding(crate::specs::Builds::build_reply_in))]
 fn build_lent(stored: &[u64], list: &[u8], work: &mut [u32], nodes: &mut [u32]) -> bool
     ensures { result ≡ same stored.now (build_reply_in list.now (length work.old) nodes.old) }
 {
     let built = machirsun::machirsun_build(list, work, nodes);
-    same_built(stored, built, nodes)
-}
-
-fn same_built(stored: &[u64], built: FlatBuilt, nodes: &[u32]) -> bool
-    ensures { result ≡ same stored.now (built_fields built ++ take built.nodes nodes.now) }
-{
-    let numbers = [built.refusal as u64, built.nodes as u64];
-    let count = built.nodes as usize;
-    same_then_words(stored, &numbers, words_to(nodes, count))
+    same_then(
+        stored,
+        &[built.refusal, built.nodes],
+        list_to(nodes, built.nodes as usize),
+    )
 }

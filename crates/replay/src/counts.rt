@@ -1,8 +1,8 @@
 // Counting.
-ghost use Rattle.std.specs.Prelude.{length, replicate};
+ghost use Rattle.std.specs.Prelude.{replicate};
 ghost use Rattle.replay.specs.Counts.{CountReplied};
 
-use stored::{same_then_words, words_to};
+use stored::{list_to, same_then};
 
 // The words of the case are the nodes.
 pub(crate) fn count(stored: &[u64], nodes: &[u32]) -> bool
@@ -10,17 +10,10 @@ pub(crate) fn count(stored: &[u64], nodes: &[u32]) -> bool
 {
     let mut counts = [0u32; 512];
     let mut work = [0u32; 1024];
-    count_lent(stored, nodes, &mut counts, &mut work)
-}
-
-fn count_lent(stored: &[u64], nodes: &[u32], counts: &mut [u32], work: &mut [u32]) -> bool
-    ensures { CountReplied nodes.now counts.old (length work.old) stored.now result }
-{
-    let counted = machirsun::machirsun_count_words(nodes, counts, work);
-    let numbers = [
-        counted.refusal as u64,
-        counted.arc as u64,
-        counted.node as u64,
-    ];
-    same_then_words(stored, &numbers, words_to(counts, nodes.len()))
+    let counted = machirsun::machirsun_count_words(nodes, &mut counts, &mut work);
+    same_then(
+        stored,
+        &[counted.refusal, counted.arc, counted.node],
+        list_to(&counts, nodes.len()),
+    )
 }

@@ -4,7 +4,7 @@ ghost use Rattle.stored.specs.Answers.{same};
 ghost use Rattle.replay.specs.Files.{file_fields, macondo_reply, lxd_reply};
 
 use flat::FlatFile;
-use stored::{bytes_to, same_then_bytes, word_at, words_from, words_to};
+use stored::{list_from, list_to, same_then, word_at};
 
 // FORMAT L, L labels and the nodes; the name.
 pub(crate) fn to_macondo(stored: &[u64], words: &[u32], name: &[u8]) -> bool
@@ -12,29 +12,17 @@ pub(crate) fn to_macondo(stored: &[u64], words: &[u32], name: &[u8]) -> bool
 {
     let mut work = [0u32; 4096];
     let mut file = [0u8; 4096];
-    macondo_lent(stored, words, name, &mut work, &mut file)
-}
-
-fn macondo_lent(
-    stored: &[u64],
-    words: &[u32],
-    name: &[u8],
-    work: &mut [u32],
-    file: &mut [u8],
-) -> bool
-    ensures { result ≡ same stored.now (macondo_reply words.now name.now (length work.old) file.old) }
-{
     let count = word_at(words, 1) as usize;
-    let rest = words_from(words, 2);
+    let rest = list_from(words, 2);
     let written = machirsun::machirsun_to_macondo(
-        words_from(rest, count),
-        words_to(rest, count),
+        list_from(rest, count),
+        list_to(rest, count),
         name,
         word_at(words, 0),
-        work,
-        file,
+        &mut work,
+        &mut file,
     );
-    same_file(stored, written, file)
+    same_file(stored, written, &file)
 }
 
 // L T D, L labels, T code points of the title, D of the date, and the nodes.
@@ -43,36 +31,30 @@ pub(crate) fn to_lxd(stored: &[u64], words: &[u32]) -> bool
 {
     let mut work = [0u32; 4096];
     let mut file = [0u8; 4096];
-    lxd_lent(stored, words, &mut work, &mut file)
-}
-
-fn lxd_lent(stored: &[u64], words: &[u32], work: &mut [u32], file: &mut [u8]) -> bool
-    ensures { result ≡ same stored.now (lxd_reply words.now (length work.old) file.old) }
-{
-    let labels = words_from(words, 3);
+    let labels = list_from(words, 3);
     let label_count = word_at(words, 0) as usize;
-    let title = words_from(labels, label_count);
+    let title = list_from(labels, label_count);
     let title_length = word_at(words, 1) as usize;
-    let date = words_from(title, title_length);
+    let date = list_from(title, title_length);
     let date_length = word_at(words, 2) as usize;
     let written = machirsun::machirsun_to_lxd(
-        words_from(date, date_length),
-        words_to(labels, label_count),
-        words_to(title, title_length),
-        words_to(date, date_length),
-        work,
-        file,
+        list_from(date, date_length),
+        list_to(labels, label_count),
+        list_to(title, title_length),
+        list_to(date, date_length),
+        &mut work,
+        &mut file,
     );
-    same_file(stored, written, file)
+    same_file(stored, written, &file)
 }
 
 fn same_file(stored: &[u64], written: FlatFile, file: &[u8]) -> bool
     ensures { result ≡ same stored.now (file_fields written ++ take written.written file.now) }
 {
     let numbers = [
-        written.refusal as u64,
-        written.arc as u64,
+        u64::from(written.refusal),
+        u64::from(written.arc),
         written.written as u64,
     ];
-    same_then_bytes(stored, &numbers, bytes_to(file, written.written))
+    same_then(stored, &numbers, list_to(file, written.written))
 }

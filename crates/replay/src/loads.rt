@@ -6,17 +6,9 @@ ghost use Rattle.replay.specs.Loads.{finished_fields, repack_reply, load_reply};
 use flat::FlatFinished;
 use stored::{list_from, list_to, same, same_then, word_at};
 
-// FROM TO; so many of the bytes, or all where there are no more.
-#[tactic(auto, using(std::proofs::lemmas::List::take_min))]
-pub(crate) fn repack_first(stored: &[u64], words: &[u32], bytes: &mut [u8], count: usize) -> bool
-    ensures { result ≡ same stored.now (repack_reply words.now (take count bytes.old)) }
-{
-    let end = count.min(bytes.len());
-    repack(stored, words, &mut bytes[..end])
-}
-
+// FROM TO; the bytes.
 #[tactic(auto, unfolding(crate::specs::Loads::repack_reply))]
-fn repack(stored: &[u64], words: &[u32], bytes: &mut [u8]) -> bool
+pub(crate) fn repack(stored: &[u64], words: &[u32], bytes: &mut [u8]) -> bool
     ensures { result ≡ same stored.now (repack_reply words.now bytes.old) }
 {
     let repacked = machirsun::machirsun_repack(bytes, word_at(words, 0), word_at(words, 1));
@@ -37,6 +29,7 @@ pub(crate) fn load(stored: &[u64], words: &[u32], bytes: &[u8]) -> bool
     load_lent(stored, words, bytes, &mut nodes)
 }
 
+// By itself: the check finds its proof for any lent nodes, and not at the 8192 numbers of the array.
 #[tactic(auto, using(flat::specs::PlainLaws::plain_refusal), unfolding(crate::specs::Loads::load_reply, crate::specs::Loads::load_fields, pieces::specs::Pieces::load_pieces, pieces::specs::Pieces::fed_pieces, pieces::specs::Pieces::feed_all))]
 fn load_lent(stored: &[u64], words: &[u32], bytes: &[u8], nodes: &mut [u32]) -> bool
     ensures { result ≡ same stored.now (load_reply words.now bytes.now nodes.old) }

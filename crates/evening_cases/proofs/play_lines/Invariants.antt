@@ -1,9 +1,0 @@
--- each turn takes a byte
-use Rattle.std.proofs.Common.{◌-◌, ◌≤◌, length}
-use Rattle.evening_cases.proofs.play_lines.Given as goal
-
-abbrev pub invariant-loop-i : goal.invariant-loop-i
-invariant-loop-i g l = l.i ≤ length l.text
-
-abbrev pub decreases-loop-i : goal.decreases-loop-i
-decreases-loop-i g l = length l.text - l.i

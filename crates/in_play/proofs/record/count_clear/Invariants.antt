@@ -1,8 +1,0 @@
--- `in_play::count_clear` meets its contract: those counted and those left from a group on are all.
-use Rattle.std.proofs.Common.{◌≡◌, ◌+◌, length}
-use Rattle.in_play.specs.InPlay.{not_in_play}
-use Rattle.in_play.proofs.ScanLaws.{left_from}
-use Rattle.in_play.proofs.record.count_clear.Given as goal
-
-abbrev pub invariant-loop-group : goal.invariant-loop-group
-invariant-loop-group l = l.count + length (left_from l.bits l.total l.group-index) ≡ length (not_in_play l.bits l.total)

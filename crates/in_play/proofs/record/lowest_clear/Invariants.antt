@@ -1,8 +1,0 @@
--- `in_play::lowest_clear` meets its contract: the groups passed have no clear bit, so those left from a group on are all.
-use Rattle.std.proofs.Common.{◌≡◌}
-use Rattle.in_play.specs.InPlay.{not_in_play}
-use Rattle.in_play.proofs.ScanLaws.{left_from}
-use Rattle.in_play.proofs.record.lowest_clear.Given as goal
-
-abbrev pub invariant-loop-g : goal.invariant-loop-g
-invariant-loop-g l = left_from l.bits l.total l.g ≡ not_in_play l.bits l.total

@@ -1,9 +1,0 @@
--- each turn takes a byte, and neither way of taking it changes the room's length
-use Rattle.std.proofs.Common.{◌-◌, ◌≤◌, length}
-use Rattle.rust_answers.proofs.add_bytes.Given as goal
-
-abbrev pub invariant-loop-i : goal.invariant-loop-i
-invariant-loop-i g l = l.i ≤ length l.bytes
-
-abbrev pub decreases-loop-i : goal.decreases-loop-i
-decreases-loop-i g l = length l.bytes - l.i
