@@ -12,7 +12,7 @@ use load::{BeginRefusal, FeedRefusal, FinishRefusal, Loader, Misfit, StateRefusa
 use node::Layout;
 
 #[repr(C)]
-#[derive(Clone, Copy)]
+#[derive(Clone, Copy, Default)]
 pub struct FlatRepacked {
     pub refusal: u32,
     pub arc: u32,
@@ -53,7 +53,7 @@ pub struct FlatFed {
 }
 
 #[repr(C)]
-#[derive(Clone, Copy)]
+#[derive(Clone, Copy, Default)]
 pub struct FlatFinished {
     pub refusal: u32,
     pub arc: u32,
@@ -123,7 +123,7 @@ pub fn flat_loader(state: Loader) -> FlatLoader
     ensures { result ≡ flat_loader state }
 {
     let kept = match state.kept {
-        None => NOT_REFUSED,
+        None => FlatRepacked::default(),
         Some(misfit) => flat_misfit(misfit),
     };
     let held = state.held;
@@ -139,13 +139,6 @@ pub fn flat_loader(state: Loader) -> FlatLoader
         held,
     }
 }
-
-const NOT_REFUSED: FlatRepacked = FlatRepacked {
-    refusal: 0,
-    arc: 0,
-    node: 0,
-    tile: 0,
-};
 
 fn flat_misfit(misfit: Misfit) -> FlatRepacked
     ensures { result ≡ record { refusal = 6; arc = misfit.arc_index; node = misfit.node; tile = misfit.tile } }
@@ -163,7 +156,7 @@ pub fn flat_repacked(answer: Result<(), Misfit>) -> FlatRepacked
     ensures flat { result ≡ flat_repacked (repacked_of result) }
 {
     match answer {
-        Ok(()) => NOT_REFUSED,
+        Ok(()) => FlatRepacked::default(),
         Err(misfit) => flat_misfit(misfit),
     }
 }
@@ -182,22 +175,14 @@ pub fn flat_feed(answer: Result<(), FeedRefusal>) -> FlatRepacked
     ensures flat { result ≡ flat_repacked (repacked_of result) }
 {
     match answer {
-        Ok(()) => NOT_REFUSED,
+        Ok(()) => FlatRepacked::default(),
         Err(FeedRefusal::State(StateRefusal::DoesNotFit(misfit))) => flat_misfit(misfit),
         Err(why) => FlatRepacked {
             refusal: why.number(),
-            ..NOT_REFUSED
+            ..FlatRepacked::default()
         },
     }
 }
-
-const NOT_FINISHED: FlatFinished = FlatFinished {
-    refusal: 0,
-    arc: 0,
-    nodes: 0,
-    node: 0,
-    tile: 0,
-};
 
 pub fn flat_finished(answer: Result<usize, FinishRefusal>) -> FlatFinished
     ensures answer { finished_of result ≡ said_finish answer }
@@ -206,23 +191,23 @@ pub fn flat_finished(answer: Result<usize, FinishRefusal>) -> FlatFinished
     match answer {
         Ok(nodes) => FlatFinished {
             nodes,
-            ..NOT_FINISHED
+            ..FlatFinished::default()
         },
         Err(FinishRefusal::State(StateRefusal::DoesNotFit(misfit))) => FlatFinished {
             refusal: misfit.number(),
             arc: misfit.arc_index,
             node: misfit.node,
             tile: misfit.tile,
-            ..NOT_FINISHED
+            ..FlatFinished::default()
         },
         Err(FinishRefusal::Nodes(why @ NodesRefusal::ArcPastEnd(arc))) => FlatFinished {
             refusal: why.number(),
             arc,
-            ..NOT_FINISHED
+            ..FlatFinished::default()
         },
         Err(why) => FlatFinished {
             refusal: why.number(),
-            ..NOT_FINISHED
+            ..FlatFinished::default()
         },
     }
 }

@@ -5,18 +5,33 @@ ghost use Rattle.label_index.specs.Index.{IndexReady};
 
 use crate::refusal::BadLabelLine;
 
-// The index of a label file: where each line's label begins, the order of the lines, and for each first byte its range in that order.
-#[derive(Drop)]
-pub struct LabelIndex<'a> {
-    pub file: &'a [u8],
-    // how many lines the file has
-    pub lines: usize,
+// Room for the index of a label file: where each line's label begins, the order of the lines, and for each first byte its range in that order.
+#[derive(Clone, Copy)]
+pub struct IndexRoom {
     starts: [usize; 256],
     order: [u32; 256],
     begin: [usize; 256],
     end: [usize; 256],
+}
+
+impl IndexRoom {
+    pub const EMPTY: IndexRoom = IndexRoom {
+        starts: [0; 256],
+        order: [0; 256],
+        begin: [0; 256],
+        end: [0; 256],
+    };
+}
+
+// The index of a label file, in the room that was lent for it.
+#[derive(Clone, Copy)]
+pub struct LabelIndex<'a> {
+    pub file: &'a [u8],
+    // how many lines the file has
+    pub lines: usize,
+    room: &'a IndexRoom,
     pub ghost count: { lines ≡ length (labels_in file.now) },
-    pub ghost ready: { IndexReady file.now (labels_in file.now) starts order begin end },
+    pub ghost ready: { IndexReady file.now (labels_in file.now) room.now.starts room.now.order room.now.begin room.now.end },
 }
 
 impl<'a> LabelIndex<'a> {
@@ -27,25 +42,15 @@ impl<'a> LabelIndex<'a> {
     ghost use Rattle.label_index.specs.Said.{bad_in, matched};
 
     // Makes the index of a label file, or names its first bad line.
-    pub fn new(file: &'a [u8]) -> Result<LabelIndex<'a>, BadLabelLine>
+    pub fn new(file: &'a [u8], room: &'a mut IndexRoom) -> Result<LabelIndex<'a>, BadLabelLine>
         ensures bad { bad_in result ≡ bad_line 1 (lines file.now) }
         ensures of_file { IfOk result (λ index. index.file.now ≡ file.now) }
     {
-        let mut starts = [0usize; 256];
-        let mut order = [0u32; 256];
-        let mut begin = [0usize; 256];
-        let mut end = [0usize; 256];
-        let lines = crate::labels::read_labels(file, &mut starts, &mut order)?;
-        crate::ranges::fill_begins(&order, lines, &mut begin);
-        crate::ranges::fill_ends(&order, lines, &mut end);
-        Ok(LabelIndex {
-            file,
-            lines,
-            starts,
-            order,
-            begin,
-            end,
-        })
+        let lines = crate::labels::read_labels(file, &mut room.starts, &mut room.order)?;
+        crate::ranges::fill_begins(&room.order, lines, &mut room.begin);
+        room.end.fill(0);
+        crate::ranges::fill_ends(&room.order, lines, &mut room.end);
+        Ok(LabelIndex { file, lines, room })
     }
 
     // The label taken at place i of a line, which must have that place: its tile, and how many bytes it has.
@@ -55,9 +60,9 @@ impl<'a> LabelIndex<'a> {
     {
         let text = &line[i..];
         let b = usize::from(line[i]);
-        for k in self.begin[b]..self.end[b] {
-            let key = self.order[k];
-            let start = self.starts[(key % 256) as usize];
+        for k in self.room.begin[b]..self.room.end[b] {
+            let key = self.room.order[k];
+            let start = self.room.starts[(key % 256) as usize];
             let size = (15 - key / 16384 % 16) as usize;
             if text.starts_with(&self.file[start..start + size]) {
                 return Some(((key / 256 % 64) as u8, size));

@@ -7,5 +7,5 @@ mod order;
 mod ranges;
 mod refusal;
 
-pub use index::LabelIndex;
+pub use index::{IndexRoom, LabelIndex};
 pub use refusal::BadLabelLine;

@@ -1,18 +1,17 @@
 // A load: begun with the length of the file, fed its bytes in pieces, finished.
-ghost use Rattle.std.specs.Prelude.{◌≡◌, not, ◌+◌, ◌*◌, ◌/◌, ◌<◌, ◌≤◌, length};
+ghost use Rattle.std.specs.Prelude.{◌≡◌, ◌+◌, ◌/◌, ◌<◌, ◌≤◌, length};
 ghost use Rattle.std.proofs.Math.Option.{none};
-ghost use Rattle.laws.specs.Cases.{is_some};
 ghost use Rattle.answers.specs.Answers.{first_of};
 ghost use Rattle.load.specs.Repacking.{misfit_of};
-ghost use Rattle.load.specs.Loading.{begin_row, sound_row, state_row, feed_row, begin, fresh_loader, stopped, misfit_in, state_after, nodes_after, held_then, feed, finish};
+ghost use Rattle.load.specs.Loading.{begin_row, state_row, feed_row, begin, fresh_loader, stopped, misfit_in, state_after, nodes_after, held_then, feed, finish};
 ghost use Rattle.load.specs.Said.{begin_refusal, state_refusal, begun_as, feeds_as, fed_as, finished_as, left_by};
 
 use crate::refusals::{BeginRefusal, FeedRefusal, FinishRefusal, StateRefusal};
 use crate::repack::Misfit;
 use node::Layout;
 
-// The state of a load. The first held_count places of held are the bytes after the last whole node: the C interface lends the state whole,
-// with whatever it holds, so it has an array and a count and no heap. It keeps the refusal of a node that does not fit.
+// The state of a load. The first held_count places of held are the bytes after the last whole node. It keeps the refusal of a node that
+// does not fit.
 #[derive(Clone, Copy, Debug, PartialEq, Eq)]
 pub struct Loader {
     pub announced: usize,
@@ -99,7 +98,7 @@ impl Loader {
         }
     }
 
-    // The next piece of the file, of any length.
+    // The next piece of the file, of any length. Document 01 names the form: the state by value, and a new one handed back.
     pub fn feed(mut self, piece: &[u8], nodes: &mut [u32]) -> Fed
         ensures { fed_as result nodes.new ≡ feed self nodes.old piece.now }
     {

@@ -51,7 +51,8 @@ pub fn repack_in_place(bytes: &mut [u8], from: Layout, to: Layout) -> Result<(),
     Ok(())
 }
 
-// The whole nodes of bytes, in KBWG's layout, as the nodes from place at on; stops at one that does not fit.
+// The whole nodes of bytes, in KBWG's layout, as the nodes from place at on; stops at one that does not fit. Here a node goes
+// to another list than the one it is read from, so this is no call of the loop above.
 pub(crate) fn repack_into(
     nodes: &mut [u32],
     at: usize,

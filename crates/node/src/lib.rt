@@ -37,8 +37,8 @@ impl Refuses for DoesNotFit {
     }
 }
 
-// A KWG node. It and the KBWG node are two types, and not one over a layout: callers write `Node24(v)`, and an alias of a generic type
-// makes no value.
+// A KWG node. It and the KBWG node are two types with the same calls: callers write `Node24(v).tile()`, an alias of one generic type makes
+// no value, and a trait's calls would want a `use` in every crate.
 #[derive(Clone, Copy)]
 pub struct Node22(pub u32);
 

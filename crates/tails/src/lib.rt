@@ -14,11 +14,10 @@ ghost use Rattle.shelf.specs.Shelving.{shelf_entry};
 ghost use Rattle.word_list.specs.Words.{IsLexicon};
 ghost use Rattle.tails.specs.Tails.{key_of, Closable, WordCloses, WordsClose};
 
-use base::whole;
 use dictionary::number_key;
 use word_list::{mark_words, shared};
 
-// The key of a tail. A node ends its run where no tail follows. Tile and child must fit their fields.
+// The key of a tail. A node ends its run where no tail follows. Tile and child must fit their fields, so none is tested, as `Node24::pack` would.
 fn tail_key(tile: u8, accepts: bool, child: u32, next: u32) -> u64
     requires { (tile < 64) × (child < 16777216) }
     ensures { result ≡ key_of (shelf_entry tile accepts child next) }
@@ -27,7 +26,7 @@ fn tail_key(tile: u8, accepts: bool, child: u32, next: u32) -> u64
         + u32::from(accepts) * 0x80
         + u32::from(next == 0) * 0x40
         + u32::from(tile);
-    whole(next, node)
+    u64::from(next) * 0x1_0000_0000 + u64::from(node)
 }
 
 // Closes a word down to its first `kept` tiles: each of the others becomes a tail, the last one's node an accepting one. Answers how many tails
@@ -77,7 +76,7 @@ pub fn close_words(list: &[u8], work: &mut [u32], n: usize) -> Option<u32>
     let mut tails: u32 = 0;
     loop {
         let from = at + 1;
-        let word = &list[from..from + list[at] as usize];
+        let word = &list[from..from + usize::from(list[at])];
         let before = at - marks[at] as usize;
         let kept = shared(&list[before..at], word);
         tails = close_word(word, kept, &mut behind, dict, n, tails)?;

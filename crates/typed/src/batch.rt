@@ -7,7 +7,7 @@ ghost use Rattle.typed.specs.Said.{said_batch, BatchPut};
 
 use crate::next::{line_start, word_from_place};
 use crate::refusal::TypedRefusal;
-use label_index::LabelIndex;
+use label_index::{IndexRoom, LabelIndex};
 
 #[derive(Clone, Copy)]
 pub struct TypedWords {
@@ -81,6 +81,7 @@ pub fn read_words(
     ensures { BatchPut (read_words labels.now text.now (length sizes.old) (length tiles.old) at)
         tiles.old tiles.new sizes.old sizes.new (said_batch result) }
 {
-    let index = LabelIndex::new(labels)?;
+    let mut room = IndexRoom::EMPTY;
+    let index = LabelIndex::new(labels, &mut room)?;
     batch_from(&index, text, at, tiles, sizes)
 }

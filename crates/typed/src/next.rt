@@ -7,7 +7,7 @@ ghost use Rattle.laws.specs.Buffers.{Filled};
 ghost use Rattle.typed.specs.Said.{said_word, said_next, part_of, line_handed};
 
 use crate::refusal::TypedRefusal;
-use label_index::LabelIndex;
+use label_index::{IndexRoom, LabelIndex};
 
 #[derive(Clone, Copy)]
 pub struct TypedWord {
@@ -85,7 +85,8 @@ pub fn next_word(
     ensures { Filled (next_word labels.now text.now (length word.old) at)
         word.old word.new (said_next result) }
 {
-    let index = LabelIndex::new(labels)?;
+    let mut room = IndexRoom::EMPTY;
+    let index = LabelIndex::new(labels, &mut room)?;
     word_from_place(&index, text, at, word)
 }
 

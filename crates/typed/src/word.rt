@@ -32,6 +32,8 @@ pub(crate) fn read_word(
     ensures { Filled (typed_word (labels_in index.now.file.now) line.now start (length word.old))
         word.old word.new (said_typed result) }
 {
+    // A copy, which no write to the word can change: so its fields are read once, and not at each place.
+    let index = *index;
     let mut i = 0;
     let mut n = 0;
     // Each label has its own length, so no iterator counts the places.

@@ -6,7 +6,7 @@ use Rattle.answers.specs.Answers.{refused, Row, first_of}
 use Rattle.answers.specs.RowLaws.{row_ends, rows_refuse, rows_pass, stops_at, all_pass}
 use Rattle.graph.specs.Words.{Word}
 use Rattle.built.specs.Listed.{word_below, no_tile, word_row, rows_ahead, list_row}
-use Rattle.word_list.specs.Checks.{Begins, NoWord}
+use Rattle.word_list.specs.Checks.{IsWord, NoWord}
 
 -- ---- no word at the head of a list
 module _ {l : List ℕ} (n : ℕ) (bytes : List ℕ) (is : l ≡ n ∷ bytes) where
@@ -25,7 +25,7 @@ module _ {l : List ℕ} (n : ℕ) (bytes : List ℕ) (is : l ≡ n ∷ bytes) wh
     bad-tile i e = refused_at (λ before. stops_at 2 (word_row before n bytes) (fits, (i, e)))
 
 -- ---- a word at the head
-module _ {l w after : List ℕ} (b : Begins l w after) (left : ℕ) (before : Word) where
+module _ {l w after : List ℕ} (b : IsWord l w after) (left : ℕ) (before : Word) where
   abbrev row : Row
   row = word_row before (length w) (w ++ after)
 
@@ -74,7 +74,7 @@ module _ {l before left : List ℕ} (c : Checking l before left) where
     pub no_word : NoWord left → first_of (list_row l) ≡ some (refused 32 [])
     no_word f = c.whole ∙ ap (λ k. first_of (rows_ahead k before left)) one_more ∙ f (c.most - 1) before
 
-    module _ {w after : List ℕ} (b : Begins left w after) where
+    module _ {w after : List ℕ} (b : IsWord left w after) where
       pub word-refused : word_below before w ≡ false → first_of (list_row l) ≡ some (refused 33 [])
       word-refused e = c.whole ∙ ap (λ k. first_of (rows_ahead k before left)) one_more ∙ not-above b (c.most - 1) before e
 

@@ -1,8 +1,8 @@
 // The checks of a list, word by word.
-ghost use Rattle.std.specs.Prelude.{◌≡◌, not, ◌<◌, length, MatchOption};
+ghost use Rattle.std.specs.Prelude.{◌≡◌, not, ◌<◌, length};
 ghost use Rattle.laws.specs.Lists.{some_of};
 ghost use Rattle.built.specs.Listed.{no_tile};
-ghost use Rattle.word_list.specs.Checks.{list_why, Begins, NoWord, ChecksAs};
+ghost use Rattle.word_list.specs.Checks.{list_why, Found, ChecksAs};
 
 use crate::words::is_above;
 use answers::Refuses;
@@ -35,13 +35,13 @@ fn are_tiles(word: &[u8]) -> bool
 // The word that a list begins with, and what follows it; the list must not be empty.
 fn next_word(list: &[u8]) -> Option<(&[u8], &[u8])>
     requires { 0 < length list.now }
-    ensures { MatchOption result (NoWord list.now) (λ r. Begins list.now r.0.now r.1.now) }
+    ensures { Found list.now result }
 {
     let (tiles, rest) = list.split_first()?;
     if !(1..=64).contains(tiles) {
         return None;
     }
-    let (word, after) = rest.split_at_checked(*tiles as usize)?;
+    let (word, after) = rest.split_at_checked(usize::from(*tiles))?;
     if are_tiles(word) {
         Some((word, after))
     } else {

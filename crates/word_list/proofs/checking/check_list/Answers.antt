@@ -2,7 +2,7 @@
 use Rattle.std.proofs.Common.{rules, tests, ◌≡◌, ◌∙◌, sym, ap, ◌<◌, length, Err, Result}
 use Rattle.std.proofs.lemmas.Result.{err_from_is_err_and}
 use Rattle.word_list.specs.declared.checking.ListRefusal.TheVariants.{BadWord}
-use Rattle.word_list.specs.Checks.{Begins}
+use Rattle.word_list.specs.Checks.{IsWord}
 use Rattle.word_list.proofs.CheckLaws.{checking-begins, checking-ends, no_word, word-refused, fewer_left, checking-next}
 use Rattle.word_list.proofs.checking.check_list.Goals as goal
 use Rattle.word_list.proofs.checking.check_list.Goals.{After-is_above}
@@ -27,7 +27,7 @@ module _ (c : After-is_above) where
   pub some_left : 0 < length c.loop-before.left.now
   some_left = search (rules, tests)
 
-  pub begins : Begins c.loop-before.left.now c.in_ok-word.word.now c.in_ok-word.after.now
+  pub begins : IsWord c.loop-before.left.now c.in_ok-word.word.now c.in_ok-word.after.now
   begins = rw c.in_ok-word.ensures.ok_part at c.next_word.ensures
 
 pub returns-then-not-is_above : goal.returns-then-not-is_above

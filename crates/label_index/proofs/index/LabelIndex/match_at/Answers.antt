@@ -15,10 +15,10 @@ module _ (s : Start) where
   file = s.args.self.now.file.now
 
   abbrev starts : List ℕ
-  starts = s.args.self.now.starts
+  starts = s.args.self.now.room.now.starts
 
   abbrev order : List ℕ
-  order = s.args.self.now.order
+  order = s.args.self.now.room.now.order
 
   abbrev text : List ℕ
   text = drop s.args.i s.args.line.now
@@ -26,10 +26,10 @@ module _ (s : Start) where
   abbrev byte : ℕ
   byte = get_or s.args.line.now s.args.i 0
 
-  abbrev ready : IndexReady file (labels_in file) starts order s.args.self.now.begin s.args.self.now.end
+  abbrev ready : IndexReady file (labels_in file) starts order s.args.self.now.room.now.begin s.args.self.now.room.now.end
   ready = s.args.self.now.ready
 
-  range : FirstByteRange (length (labels_in file)) order (get_or text 0 0) (get_or s.args.self.now.begin byte 0) (get_or s.args.self.now.end byte 0)
+  range : FirstByteRange (length (labels_in file)) order (get_or text 0 0) (get_or s.args.self.now.room.now.begin byte 0) (get_or s.args.self.now.room.now.end byte 0)
   range = rw (first_of s.args.line.now s.args.i) (range_of ready byte)
 
 -- the line at the place reached
@@ -77,5 +77,5 @@ loop-k-preserved c =
 pub returns : goal.returns
 returns c =
     let s = (goal.at.returns c).Start in
-    let past : get_or s.args.self.now.end (byte s) 0 ≤ c.loop-k.k = rw c.from-b.ensures at c.loop-k-test.false in
+    let past : get_or s.args.self.now.room.now.end (byte s) 0 ≤ c.loop-k.k = rw c.from-b.ensures at c.loop-k-test.false in
     sym (search_absent (ready s).index (text s) (range s) (λ j h k. c.loop-k.invariant j h (omega arith)))

@@ -5,4 +5,4 @@ use Rattle.label_index.proofs.index.LabelIndex.match_at.Given as goal
 
 abbrev pub invariant-loop-k : goal.invariant-loop-k
 invariant-loop-k l = let x = l.self in
-    NoneMatches x.file.now x.starts x.order (drop l.i l.line) (get_or x.begin (get_or l.line l.i 0) 0) l.k
+    NoneMatches x.file.now x.room.now.starts x.room.now.order (drop l.i l.line) (get_or x.room.now.begin (get_or l.line l.i 0) 0) l.k

@@ -1,5 +1,5 @@
 -- `index::LabelIndex::new` meets its contract: a file with no bad line gets its ranges.
-use Rattle.std.proofs.Common.{◌≡◌, ℕ, List, zero, suc, arith, refl, get_or, replicate}
+use Rattle.std.proofs.Common.{◌≡◌, ℕ, List, zero, suc, ap, arith, refl, length, get_or, replicate}
 use Rattle.label_index.proofs.ReadyLaws.{read_firsts}
 use Rattle.label_index.proofs.index.LabelIndex.new.Goals as goal
 
@@ -18,4 +18,6 @@ pub fill_ends-requires-clause-firsts : goal.fill_ends-requires-clause-firsts
 fill_ends-requires-clause-firsts c = read_firsts c.in_ok-lines.ensures (omega arith)
 
 pub fill_ends-requires-clause-within : goal.fill_ends-requires-clause-within
-fill_ends-requires-clause-within c b = omega (arith, zero-at 256 b)
+fill_ends-requires-clause-within c b =
+    let cleared = ap (λ (s : List ℕ). get_or s b 0) (c.fill.ensures.after (λ y h. h)) in
+    omega (arith, cleared, zero-at (length c.args.room.now.end) b)
