@@ -11,7 +11,7 @@ ghost use Rattle.block_record.specs.Depths.{depth_at, Below};
 ghost use Rattle.lxd_file.specs.File.{run_size};
 ghost use Rattle.lxd_blocks.specs.RunsNumbered.{words_at, node_passed, run_closed, looked_up, RunsRecorded, NumberedAs};
 
-use block_record::{BlockTally, depth_of, keep_depth, place_of, push_block};
+use block_record::{BlockTally, Place, depth_of, keep_depth, place_of, push_block};
 use graph::FitGraph;
 use node::Node24;
 use survey::words_through;
@@ -123,10 +123,10 @@ fn number_arc(
             words: 0,
         });
     }
-    match place_of(work, child) {
-        None => number_run(g, work, child, t, chain_left),
-        Some(_) => look_up(g.nodes.len(), work, child, t, chain_left),
-    }
+    let Place::Numbered(_) = place_of(work, child) else {
+        return number_run(g, work, child, t, chain_left);
+    };
+    look_up(g.nodes.len(), work, child, t, chain_left)
 }
 
 // Numbers the run from p, a node that must not be numbered yet, and what its arcs lead to, by a record that must be that of the runs met

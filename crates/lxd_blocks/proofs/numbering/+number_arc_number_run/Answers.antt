@@ -14,14 +14,14 @@ pub number_arc-returns-then-child-eq0 : goal.number_arc-returns-then-child-eq0
 number_arc-returns-then-child-eq0 t c =
     arc-none-numbered _ c.requires.runs_recorded _ c.args.node (sym c.arc_index-child.ensures ∙ c.if-child-eq0.true)
 
-pub number_arc-returns-in-None : goal.number_arc-returns-in-None
-number_arc-returns-in-None t c = arc-run _ _ _ _ _ c.args.node _ c.arc_index-child.ensures c.if-child-eq0.false c.number_run.ensures
+pub number_arc-returns-in_default : goal.number_arc-returns-in_default
+number_arc-returns-in_default t c = arc-run _ _ _ _ _ c.args.node _ c.arc_index-child.ensures c.if-child-eq0.false c.number_run.ensures
 
-pub number_arc-returns-in-Some : goal.number_arc-returns-in-Some
-number_arc-returns-in-Some t c =
+pub number_arc-returns : goal.number_arc-returns
+number_arc-returns t c =
     let child = c.arc_index-child.ensures in
     let inside : c.arc_index-child.result < length c.args.g.nodes.now = omega (arith, c.requires.node_in_bounds) in
-    let some = place-some c.args.work.now c.arc_index-child.result _ (sym c.in-Some.ensures) in
+    let some = place-some c.args.work.now c.arc_index-child.result _ (sym c.in-Numbered.ensures) in
     let below = subst (Below c.args.g.nodes.now c.args.work.now) (sym child)
     (c.requires.below (ap not (ne_eqb _ _ (λ z. c.if-child-eq0.false (child ∙ z))))) in
     arc-run _ _ _ _ _ c.args.node _ child c.if-child-eq0.false
