@@ -9,11 +9,12 @@ use crate::refusals::{LookupRefusal, NotLent};
 use node::Node24;
 
 // What a walk can reach of a lent list: places are 32-bit numbers, so no walk gets further.
+#[tactic(auto, using(std::proofs::lemmas::List::take_min))]
 pub fn lent_part(list: &[u32]) -> &[u32]
     ensures { result.now ≡ lent_part list.now }
 {
     let end: usize = 4294967296;
-    if end < list.len() { &list[..end] } else { list }
+    &list[..end.min(list.len())]
 }
 
 // What stands at a place, if it is lent.
