@@ -224,6 +224,9 @@ module _ {n : ℕ} {size : ℕ → ℕ} {base : ℕ} {w : List ℕ} {t : BlockTa
   stale_of e = split (member p o) (λ m. m) (λ m. absurd (e (h.new p l m)))
 
 -- what place_of says
+never : (x : ℕ) → Numbered x ≡ Unnumbered → ⊥
+never x e = let z : ◌≡◌ {A = ℕ} 0 1 = cc in omega arith
+
 pub place_none : (w : List ℕ) (p : ℕ) → place_at w p ≡ Unnumbered → get_or w p 0 ≡ 0
 place_none w p e = split (eqb (get_or w p 0) 0) (λ t. eqb-true (get_or w p 0) 0 t) (λ t. let n = rw (t, place_at) at e in cc)
 
@@ -243,9 +246,16 @@ module _ (w : List ℕ) (p : ℕ) where
   unfolding child_in
   child-none e = rw (eq-eqb p 0 e, child_in)
 
-  pub child-some : p ≢ 0 → child_in w p ≡ get_or w p 0 - 1
-  unfolding child_in
-  child-some some = rw (ne_eqb p 0 some, child_in)
+  module _ (some : p ≢ 0) where
+    pub child-some : child_in w p ≡ get_or w p 0 - 1
+    unfolding child_in
+    child-some = rw (ne_eqb p 0 some, child_in)
+
+    pub child-numbered : (x : ℕ) → place_at w p ≡ Numbered x → x ≡ child_in w p
+    child-numbered x e = let v = place-value w p x e in let c = child-some in omega arith
+
+    pub child_unnumbered : place_at w p ≡ Unnumbered → 0 ≡ child_in w p
+    child_unnumbered e = let v = place_none w p e in let c = child-some in omega arith
 
 -- ---- a record with no block yet
 used-none : (n : ℕ) (w : List ℕ) → ((p : ℕ) → p < n → get_or w p 0 ≡ 0) → used n w ≡ 0
