@@ -1,12 +1,14 @@
 -- The record of blocks in a work list: "Each looks the arc's child up in its record of blocks already numbered" (document 01).
-use Rattle.std.specs.Prelude.{◌≡◌, true, false, List, ℕ, zero, suc, ◌+◌, ◌-◌, ◌<◌, eqb, get_or, set, take, drop, Option, Some, None}
+use Rattle.std.specs.Prelude.{◌≡◌, true, false, List, ℕ, zero, suc, ◌+◌, ◌-◌, ◌<◌, eqb, get_or, set, take, drop}
+use Rattle.block_record.specs.declared.Place.{Place}
+use Rattle.block_record.specs.declared.Place.TheVariants.{Numbered, Unnumbered}
 use Rattle.laws.specs.Lists.{member}
 use Rattle.export.specs.Blocks.{block_at, total}
 use Rattle.block_record.specs.declared.BlockTally.{BlockTally}
 
 -- entry p is 0, or the place of p's block plus 1
-abbrev pub place_at : List ℕ → ℕ → Option ℕ
-place_at w p = elim (eqb (get_or w p 0) 0) [ true ↦ None | false ↦ Some (get_or w p 0 - 1) ]
+abbrev pub place_at : List ℕ → ℕ → Place
+place_at w p = elim (eqb (get_or w p 0) 0) [ true ↦ Unnumbered | false ↦ Numbered (get_or w p 0 - 1) ]
 
 -- where the block that an arc leads to stands by the record; an arc of 0 leads nowhere
 unfoldable pub child_in : List ℕ → ℕ → ℕ

@@ -1,6 +1,6 @@
 -- The record of blocks as it grows, for blocks of any sizes and children in any order: what it holds stays, and a block that is pushed
 -- stands after the others.
-use Rattle.std.specs.Prelude.{◌≡◌, ◌≢◌, Bool, true, false, ◌||◌, length, drop, take, get_or, set, Some, None}
+use Rattle.std.specs.Prelude.{◌≡◌, ◌≢◌, Bool, true, false, ◌||◌, length, drop, take, get_or, set}
 use Rattle.std.proofs.Math.Path.{refl}
 use Rattle.std.proofs.Common.{ap, sym, ◌∙◌, subst, ⊎_elim, true≢false, add-one, eq-or-lt_of_le, length-drop, get_or-set_same, get_or-set_other, drop-set-lt, take-suc-set, eq-eqb, ne_eqb, eqb-true}
 use mathlib.Core.List.{List, [], ◌∷◌, ◌++◌}
@@ -12,6 +12,7 @@ use Rattle.std.proofs.lemmas.Bool.{eqb-false}
 use Rattle.laws.specs.Cases.{split, or_false-left, or_false-right}
 use Rattle.laws.specs.Lists.{member}
 use Rattle.export.specs.Blocks.{each, met, met_by, block_at, total}
+use Rattle.block_record.specs.declared.Place.TheVariants.{Numbered, Unnumbered}
 use Rattle.block_record.specs.declared.BlockTally.{BlockTally}
 use Rattle.block_record.specs.Record.{place_at, child_in, order_in, block_pushed, Pushed, used, HoldsBlocks}
 
@@ -223,16 +224,19 @@ module _ {n : ℕ} {size : ℕ → ℕ} {base : ℕ} {w : List ℕ} {t : BlockTa
   stale_of e = split (member p o) (λ m. m) (λ m. absurd (e (h.new p l m)))
 
 -- what place_of says
-pub place_none : (w : List ℕ) (p : ℕ) → place_at w p ≡ None → get_or w p 0 ≡ 0
+never : (x : ℕ) → Numbered x ≡ Unnumbered → ⊥
+never x e = let z : ◌≡◌ {A = ℕ} 0 1 = cc in omega arith
+
+pub place_none : (w : List ℕ) (p : ℕ) → place_at w p ≡ Unnumbered → get_or w p 0 ≡ 0
 place_none w p e = split (eqb (get_or w p 0) 0) (λ t. eqb-true (get_or w p 0) 0 t) (λ t. let n = rw (t, place_at) at e in cc)
 
-pub place-some : (w : List ℕ) (p x : ℕ) → place_at w p ≡ Some x → get_or w p 0 ≢ 0
+pub place-some : (w : List ℕ) (p x : ℕ) → place_at w p ≡ Numbered x → get_or w p 0 ≢ 0
 place-some w p x e q = let n = rw (eq-eqb (get_or w p 0) 0 q, place_at) at e in cc
 
-pub place-value : (w : List ℕ) (p x : ℕ) → place_at w p ≡ Some x → get_or w p 0 ≡ x + 1
+pub place-value : (w : List ℕ) (p x : ℕ) → place_at w p ≡ Numbered x → get_or w p 0 ≡ x + 1
 place-value w p x e =
     let z = place-some w p x e in
-    let s : Some (get_or w p 0 - 1) ≡ Some x = rw (ne_eqb (get_or w p 0) 0 z, place_at) at e in
+    let s : Numbered (get_or w p 0 - 1) ≡ Numbered x = rw (ne_eqb (get_or w p 0) 0 z, place_at) at e in
     let y : get_or w p 0 - 1 ≡ x = cc in
     omega arith
 
@@ -242,9 +246,16 @@ module _ (w : List ℕ) (p : ℕ) where
   unfolding child_in
   child-none e = rw (eq-eqb p 0 e, child_in)
 
-  pub child-some : p ≢ 0 → child_in w p ≡ get_or w p 0 - 1
-  unfolding child_in
-  child-some some = rw (ne_eqb p 0 some, child_in)
+  module _ (some : p ≢ 0) where
+    pub child-some : child_in w p ≡ get_or w p 0 - 1
+    unfolding child_in
+    child-some = rw (ne_eqb p 0 some, child_in)
+
+    pub child-numbered : (x : ℕ) → place_at w p ≡ Numbered x → x ≡ child_in w p
+    child-numbered x e = let v = place-value w p x e in let c = child-some in omega arith
+
+    pub child_unnumbered : place_at w p ≡ Unnumbered → 0 ≡ child_in w p
+    child_unnumbered e = let v = place_none w p e in let c = child-some in omega arith
 
 -- ---- a record with no block yet
 used-none : (n : ℕ) (w : List ℕ) → ((p : ℕ) → p < n → get_or w p 0 ≡ 0) → used n w ≡ 0

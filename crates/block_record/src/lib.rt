@@ -6,6 +6,14 @@ ghost use Rattle.std.specs.Prelude.{◌≡◌, ◌+◌, ◌*◌, ◌≤◌, ◌<
 ghost use Rattle.block_record.specs.Record.{place_at, child_in, Pushed};
 ghost use Rattle.block_record.specs.Depths.{depth_at};
 
+// What the record says of a node: where its block stands. Document 01 names this enum: "let else on the block record's enum: Numbered(at),
+// otherwise number the child first".
+#[derive(Clone, Copy, Debug, PartialEq, Eq)]
+pub enum Place {
+    Numbered(u32),
+    Unnumbered,
+}
+
 // The blocks numbered, and the nodes of the file so far.
 #[derive(Clone, Copy)]
 pub struct BlockTally {
@@ -13,12 +21,15 @@ pub struct BlockTally {
     pub nodes: u32,
 }
 
-// Where node p's block stands, if it is numbered; the work list must have an entry for p.
-pub fn place_of(work: &[u32], p: usize) -> Option<u32>
+// Node p's block; the work list must have an entry for p.
+pub fn place_of(work: &[u32], p: usize) -> Place
     requires { p < length work.now }
     ensures { result ≡ place_at work.now p }
 {
-    work[p].checked_sub(1)
+    match work[p].checked_sub(1) {
+        Some(at) => Place::Numbered(at),
+        None => Place::Unnumbered,
+    }
 }
 
 // Where the block that an arc leads to stands by the record, which must have an entry for it; arc 0 leads nowhere. The entry is read before it
@@ -28,11 +39,11 @@ pub fn child_place(work: &[u32], arc: u32) -> u32
     requires { arc < length work.now }
     ensures { result ≡ child_in work.now arc }
 {
-    let place = place_of(work, arc as usize);
+    let entry = work[arc as usize];
     if arc == 0 {
         return 0;
     }
-    place.unwrap_or(0)
+    entry.saturating_sub(1)
 }
 
 // Numbers the block of node p, which takes `size` nodes; the record must have room for it, and the sum must fit 32 bits.

@@ -5,7 +5,7 @@ ghost use Rattle.std.specs.Prelude.{◌≡◌, ◌*◌, ◌≤◌, ◌<◌, eqb,
 ghost use Rattle.export.specs.Blocks.{met, met_by};
 ghost use Rattle.build.specs.Numbering.{node_at, after_at, IsTail, HasLength, Numberable, ArcNumberable, NumbersAs};
 
-use block_record::{BlockTally, place_of, push_block};
+use block_record::{BlockTally, Place, place_of, push_block};
 use node::Node24;
 
 // As many nodes as the 24 bits of an arc can number.
@@ -55,10 +55,13 @@ fn number_arc(
     requires { ArcNumberable n work.old t child }
     ensures { NumbersAs n work.old t child (λ children seen. met_by children chain_left seen child) work.new result }
 {
-    if child == 0 || place_of(work, child as usize).is_some() {
+    if child == 0 {
         return Some(t);
     }
-    number_run(work, n, child, t, chain_left)
+    let Place::Numbered(_) = place_of(work, child as usize) else {
+        return number_run(work, n, child, t, chain_left);
+    };
+    Some(t)
 }
 
 // Numbers the run from tail i, which must not be numbered yet, and what its arcs lead to, by a record that must be that of the runs met so far.

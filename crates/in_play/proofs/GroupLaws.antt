@@ -18,10 +18,7 @@ use Rattle.std.proofs.lemmas.Nat.Bits.{bit_at_not}
 use Rattle.laws.specs.Bits.{has_bit, zero_bit, low_bit, higher_power}
 use Rattle.laws.specs.Cases.{split}
 use Rattle.in_play.specs.InPlay.{in_play}
-use Rattle.in_play.specs.Groups.{joined, clear_bits}
-
-abbrev pub Bytes : List ℕ → Type 0
-Bytes bs = (i : ℕ) → get_or bs i 0 < 256
+use Rattle.in_play.specs.Groups.{Bytes, joined, clear_bits}
 
 tail_bytes : (b : ℕ) (bs : List ℕ) → Bytes (b ∷ bs) → Bytes bs
 tail_bytes b bs h i = h (suc i)

@@ -15,9 +15,9 @@ use Rattle.laws.specs.Bits.{has_bit}
 use Rattle.laws.specs.Lists.{filtered, none_left}
 use Rattle.laws.specs.Members.{filtered-length, filtered_append}
 use Rattle.in_play.specs.InPlay.{in_play, up_from, not_in_play}
-use Rattle.in_play.specs.Groups.{joined, clear_bits, last_clear, first_or}
+use Rattle.in_play.specs.Groups.{Bytes, joined, clear_bits, last_clear, first_or}
 use Rattle.in_play.proofs.UpFromLaws.{told-count, told-lowest, lowest-below, up_append, up-length}
-use Rattle.in_play.proofs.GroupLaws.{Bytes, low_bits, clear-below, clear-bit}
+use Rattle.in_play.proofs.GroupLaws.{low_bits, clear-below, clear-bit}
 
 module _ (bits : List ℕ) (total : ℕ) where
   abbrev out : ℕ → Bool

@@ -1,7 +1,10 @@
 -- The record in groups of eight bytes, as it is scanned: a group is one number, whose 64 bits stand for 64 words in a row.
-use Rattle.std.specs.Prelude.{List, [], ◌∷◌, ℕ, ◌+◌, ◌*◌, ◌/◌, ◌%◌, ◌^◌}
+use Rattle.std.specs.Prelude.{get_or, ◌<◌, List, [], ◌∷◌, ℕ, ◌+◌, ◌*◌, ◌/◌, ◌%◌, ◌^◌}
 use Rattle.std.specs.Int.{w64, bit_not}
 use Rattle.std.proofs.Math.Seq.{slice}
+
+abbrev pub Bytes : List ℕ → Type 0
+Bytes bs = (i : ℕ) → get_or bs i 0 < 256
 
 -- bytes as one number, the first the lowest
 abbrev pub joined : List ℕ → ℕ

@@ -10,8 +10,8 @@ ghost use Rattle.graph.specs.Counting.{count_limit};
 ghost use Rattle.in_play.specs.InPlay.{not_in_play, remaining, allowed, played, moved_by, play};
 ghost use Rattle.in_play.specs.Said.{said_left, said_play, played_as, allowed_as};
 
-use lexicon::{InLexicon, in_lexicon};
-use record::{count_clear, is_in_play, lowest_clear, turn};
+use lexicon::{InLexicon, Lexicon};
+use record::{Record, is_in_play, turn};
 pub use refusals::PlayRefusal;
 
 #[derive(Clone, Copy)]
@@ -40,19 +40,20 @@ pub struct Remaining {
     pub lowest: u32,
 }
 
-// What is left of so many words, for which the record must have bits.
-fn remaining_of(bits: &[u8], total: u32) -> Option<Remaining>
-    requires { total ≤ 8 * length bits.now }
-    ensures { said_left result ≡ remaining (length (not_in_play bits.now total)) (not_in_play bits.now total) }
-{
-    let count = count_clear(bits, total);
-    if count == 0 {
-        return None;
+impl Record<'_> {
+    fn remaining(self) -> Option<Remaining>
+        ensures { let left = not_in_play self.entry.bits.now self.entry.total in
+            said_left result ≡ remaining (length left) left }
+    {
+        let count = self.count_clear();
+        if count == 0 {
+            return None;
+        }
+        Some(Remaining {
+            count,
+            lowest: self.lowest_clear(),
+        })
     }
-    Some(Remaining {
-        count,
-        lowest: lowest_clear(bits, total),
-    })
 }
 
 // The move of a word, where its bit allows it. Its number must be one of so many, for which the record must have bits.
@@ -67,22 +68,24 @@ fn move_word(
 {
     asked.allowed(is_in_play(bits, found.number))?;
     turn(bits, found.number);
-    Ok(remaining_of(bits, found.total))
+    let record = Record {
+        bits,
+        total: found.total,
+    };
+    Ok(record.remaining())
 }
 
 #[tactic(auto, unfolding(crate::specs::InPlay::play))]
 fn play_word(
     asked: Move,
-    nodes: &[u32],
-    counts: &[u32],
-    start: u32,
+    lexicon: Lexicon<'_>,
     word: &[u8],
     bits: &mut [u8],
 ) -> Result<Option<Remaining>, PlayRefusal>
     ensures { played_as result bits.new
-        ≡ play count_limit asked nodes.now counts.now start word.now bits.old }
+        ≡ play count_limit asked lexicon.entry.nodes.now lexicon.entry.counts.now lexicon.entry.start word.now bits.old }
 {
-    let found = in_lexicon(nodes, counts, start, word, bits.len())?;
+    let found = lexicon.find(word, bits.len())?;
     move_word(asked, bits, found)
 }
 
@@ -97,7 +100,12 @@ pub fn arrive(
     ensures { played_as result bits.new
         ≡ play count_limit Move.Arrives nodes.now counts.now start word.now bits.old }
 {
-    play_word(Move::Arrives, nodes, counts, start, word, bits)
+    let lexicon = Lexicon {
+        nodes,
+        counts,
+        start,
+    };
+    play_word(Move::Arrives, lexicon, word, bits)
 }
 
 // The word is withdrawn.
@@ -111,5 +119,10 @@ pub fn leave(
     ensures { played_as result bits.new
         ≡ play count_limit Move.Leaves nodes.now counts.now start word.now bits.old }
 {
-    play_word(Move::Leaves, nodes, counts, start, word, bits)
+    let lexicon = Lexicon {
+        nodes,
+        counts,
+        start,
+    };
+    play_word(Move::Leaves, lexicon, word, bits)
 }

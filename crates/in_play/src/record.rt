@@ -2,7 +2,7 @@
 ghost use Rattle.std.specs.Prelude.{◌≡◌, ◌*◌, ◌/◌, ◌≤◌, ◌<◌, length, take};
 ghost use Rattle.std.specs.Simd.{first_chunks};
 ghost use Rattle.in_play.specs.InPlay.{in_play, turned, not_in_play};
-ghost use Rattle.in_play.specs.Groups.{joined, last_clear, first_or};
+ghost use Rattle.in_play.specs.Groups.{Bytes, joined, last_clear, first_or};
 
 // Whether the number is in play. The record must have its bit.
 pub(crate) fn is_in_play(bits: &[u8], n: u32) -> bool
@@ -30,49 +30,57 @@ fn short_group(bytes: &[u8]) -> u64
     u64::from_le_bytes(group)
 }
 
-// Of the group in which the count ends, the bits below the count that are clear. The record must have so many bits.
-fn last_clear(bits: &[u8], total: u32) -> u64
-    requires { total ≤ 8 * length bits.now }
-    ensures { result ≡ last_clear bits.now total }
-{
-    let first = (total / 64) as usize * 8;
-    let end = total.div_ceil(8) as usize;
-    let past = 1u64 << (total % 64);
-    !short_group(&bits[first..end]) % past
+// The bits of so many words.
+#[derive(Clone, Copy)]
+pub struct Record<'a> {
+    pub bits: &'a [u8],
+    pub total: u32,
+    pub ghost enough: { total ≤ 8 * length bits.now },
+    pub ghost bytes: { Bytes bits.now },
 }
 
-// The groups that lie wholly below the count. The record must have so many bits.
-fn whole_groups(bits: &[u8], total: u32) -> &[[u8; 8]]
-    requires { total ≤ 8 * length bits.now }
-    ensures groups { result.now ≡ first_chunks 8 (total / 64) (take (total / 64 * 8) bits.now) }
-    ensures count { length result.now ≡ total / 64 }
-{
-    let (groups, _) = bits[..(total / 64) as usize * 8].as_chunks::<8>();
-    groups
-}
-
-// How many of so many numbers are not in play. The record must have their bits.
-pub(crate) fn count_clear(bits: &[u8], total: u32) -> u32
-    requires { total ≤ 8 * length bits.now }
-    ensures { result ≡ length (not_in_play bits.now total) }
-{
-    let mut count: u32 = 0;
-    for group in whole_groups(bits, total) {
-        count += u64::from_le_bytes(*group).count_zeros();
+impl<'a> Record<'a> {
+    // Of the group in which the count ends, the bits below the count that are clear.
+    fn last_clear(self) -> u64
+        ensures { result ≡ last_clear self.entry.bits.now self.entry.total }
+    {
+        let first = (self.total / 64) as usize * 8;
+        let end = self.total.div_ceil(8) as usize;
+        let past = 1u64 << (self.total % 64);
+        !short_group(&self.bits[first..end]) % past
     }
-    count + last_clear(bits, total).count_ones()
-}
 
-// The lowest of them. There must be one.
-pub(crate) fn lowest_clear(bits: &[u8], total: u32) -> u32
-    requires { (total ≤ 8 * length bits.now) × (0 < length (not_in_play bits.now total)) }
-    ensures { result ≡ first_or 0 (not_in_play bits.now total) }
-{
-    for (g, group) in whole_groups(bits, total).iter().enumerate() {
-        let clear = !u64::from_le_bytes(*group);
-        if clear != 0 {
-            return g as u32 * 64 + clear.trailing_zeros();
+    // The groups that lie wholly below the count.
+    fn whole_groups(self) -> &'a [[u8; 8]]
+        ensures groups { result.now ≡ first_chunks 8 (self.entry.total / 64) (take (self.entry.total / 64 * 8) self.entry.bits.now) }
+        ensures count { length result.now ≡ self.entry.total / 64 }
+    {
+        let (groups, _) = self.bits[..(self.total / 64) as usize * 8].as_chunks::<8>();
+        groups
+    }
+
+    // How many words are not in play.
+    pub(crate) fn count_clear(self) -> u32
+        ensures { result ≡ length (not_in_play self.entry.bits.now self.entry.total) }
+    {
+        let mut count: u32 = 0;
+        for group in self.whole_groups() {
+            count += u64::from_le_bytes(*group).count_zeros();
         }
+        count + self.last_clear().count_ones()
     }
-    total / 64 * 64 + last_clear(bits, total).trailing_zeros()
+
+    // The lowest of their numbers. There must be one.
+    pub(crate) fn lowest_clear(self) -> u32
+        requires { 0 < length (not_in_play self.bits.now self.total) }
+        ensures { result ≡ first_or 0 (not_in_play self.entry.bits.now self.entry.total) }
+    {
+        for (g, group) in self.whole_groups().iter().enumerate() {
+            let clear = !u64::from_le_bytes(*group);
+            if clear != 0 {
+                return g as u32 * 64 + clear.trailing_zeros();
+            }
+        }
+        self.total / 64 * 64 + self.last_clear().trailing_zeros()
+    }
 }

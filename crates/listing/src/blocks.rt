@@ -32,27 +32,6 @@ pub struct BlockFilled {
     pub written: usize,
 }
 
-// Puts the line of a number's word, or of a refusal, from a place on; the longest must have room. Answers the place after it: the list
-// goes on after a word, and breaks off after a refusal, or where there is no word.
-fn put_word(
-    nodes: &[u32],
-    counts: &[u32],
-    start: u32,
-    number: u32,
-    out: &mut [u8],
-    at: usize,
-) -> ControlFlow<usize, usize>
-    requires { at + longest ≤ length out.old }
-    ensures { PutWord number (walk_from nodes.now counts.now start number) out.old at out.new result }
-{
-    let mut word = [0u8; TILES];
-    match lookup::get_word_by_index(nodes, counts, start, number, &mut word) {
-        Ok(Some(tiles)) => ControlFlow::Continue(put_line(number, &word[..tiles], out, at)),
-        Ok(None) => ControlFlow::Break(at),
-        Err(why) => ControlFlow::Break(put_refusal(why.number(), out, at)),
-    }
-}
-
 // The number after a block's last: as many as the longest lines have room for, or all that are left.
 fn block_end(count: u32, next: u32, room: usize) -> u32
     ensures { result ≡ next + numbers_in count next room }
@@ -62,34 +41,52 @@ fn block_end(count: u32, next: u32, room: usize) -> u32
     next + lines.min(left as usize) as u32
 }
 
-// Writes the lines of words `next` to `count - 1` to the front of `out`, as many as its length allows where each is the longest.
-fn fill(
-    nodes: &[u32],
-    counts: &[u32],
-    start: u32,
-    count: u32,
-    next: u32,
-    out: &mut [u8],
-) -> BlockFilled
-    ensures { FillsBlock (block (walk_from nodes.now counts.now start) count next (length out.old))
-        out.old out.new result }
-{
-    let end = block_end(count, next, out.len());
-    let mut at = 0;
-    for number in next..end {
-        match put_word(nodes, counts, start, number, out, at) {
-            ControlFlow::Continue(after) => at = after,
-            ControlFlow::Break(written) => {
-                return BlockFilled {
-                    next: count,
-                    written,
-                };
-            }
+// The words that are listed: those from the start, by the nodes and their counts.
+#[derive(Clone, Copy)]
+pub struct Listed<'a> {
+    pub nodes: &'a [u32],
+    pub counts: &'a [u32],
+    pub start: u32,
+}
+
+impl Listed<'_> {
+    // Puts the line of a number's word, or of a refusal, from a place on; the longest must have room. Answers the place after it: the
+    // list goes on after a word, and breaks off after a refusal, or where there is no word.
+    fn put_word(self, number: u32, out: &mut [u8], at: usize) -> ControlFlow<usize, usize>
+        requires { at + longest ≤ length out.old }
+        ensures { PutWord number (walk_from self.entry.nodes.now self.entry.counts.now self.entry.start number) out.old at
+            out.new result }
+    {
+        let mut word = [0u8; TILES];
+        match lookup::get_word_by_index(self.nodes, self.counts, self.start, number, &mut word) {
+            Ok(Some(tiles)) => ControlFlow::Continue(put_line(number, &word[..tiles], out, at)),
+            Ok(None) => ControlFlow::Break(at),
+            Err(why) => ControlFlow::Break(put_refusal(why.number(), out, at)),
         }
     }
-    BlockFilled {
-        next: end,
-        written: at,
+
+    // Writes the lines of words `next` to `count - 1` to the front of `out`, as many as its length allows where each is the longest.
+    fn fill(self, count: u32, next: u32, out: &mut [u8]) -> BlockFilled
+        ensures { FillsBlock (block (walk_from self.entry.nodes.now self.entry.counts.now self.entry.start) count next (length out.old))
+            out.old out.new result }
+    {
+        let end = block_end(count, next, out.len());
+        let mut at = 0;
+        for number in next..end {
+            match self.put_word(number, out, at) {
+                ControlFlow::Continue(after) => at = after,
+                ControlFlow::Break(written) => {
+                    return BlockFilled {
+                        next: count,
+                        written,
+                    };
+                }
+            }
+        }
+        BlockFilled {
+            next: end,
+            written: at,
+        }
     }
 }
 
@@ -115,7 +112,12 @@ pub fn next_block(
             if count <= next {
                 return None;
             }
-            let filled = fill(nodes, counts, start, count, next, out);
+            let listed = Listed {
+                nodes,
+                counts,
+                start,
+            };
+            let filled = listed.fill(count, next, out);
             Some(BlockMade {
                 written: filled.written,
                 unprinted: Unprinted::Words {

@@ -21,7 +21,8 @@ pub const INPUT: usize = 16385;
 // Two numbers a node, to count the words in.
 pub const WORK: usize = 8192;
 
-// What is left to print: a refusal's line, or the lines of words `next` to `count - 1` of those from the start.
+// What is left to print: a refusal's line, which shows its number alone, or the lines of words `next` to `count - 1` of those from the
+// start. It is no result: `next_block` prints either and hands on what is left.
 #[derive(Clone, Copy)]
 pub enum Unprinted {
     Refusal(u32),
@@ -98,13 +99,12 @@ fn at_start(nodes: &[u32], counts: &[u32]) -> StartWords
     ensures { unprinted_by (Ok result) ≡ at_start nodes.now counts.now }
 {
     let start = Node24(nodes[0]).arc_index();
-    if start == 0 {
-        return StartWords { start, count: 0 };
-    }
-    StartWords {
-        start,
-        count: counts[start as usize],
-    }
+    let count = if start == 0 {
+        0
+    } else {
+        counts[start as usize]
+    };
+    StartWords { start, count }
 }
 
 fn count_loaded(
@@ -137,7 +137,8 @@ fn open_read(
     count_loaded(&nodes[..count], counts, work)
 }
 
-// Loads a KWG of up to 4,096 nodes and counts its words. `read` is how many of its first bytes are in `input`.
+// Loads a KWG of up to 4,096 nodes and counts its words. `read` is how many of its first bytes are in `input`; it stands beside the buffer
+// and cuts no slice off it, since it may be any number, and `WholeOutput` speaks of both.
 pub fn open(
     input: &[u8; INPUT],
     read: usize,

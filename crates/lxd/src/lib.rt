@@ -16,14 +16,13 @@ ghost use Rattle.lxd.specs.Said.{lxd_refusal, lxd_written_as, after_checks, Walk
 ghost use Rattle.lxd.specs.declared.LxdRefusal.TheVariants as L;
 
 use answers::Refuses;
-use base::MOST;
 use block_record::BlockTally;
 use checks::{check, lacks_byte};
 use file::write_file;
 use graph::{FitGraph, GraphRefusal};
 use lxd_blocks::{WalkRefusal, number_run};
 use node::Node24;
-use survey::{Findings, Labelled, TooDeep, survey};
+use survey::{ChainTooDeep, Findings, Labelled, survey};
 
 // Why no file is written.
 #[derive(Clone, Copy, Debug, PartialEq, Eq)]
@@ -68,10 +67,10 @@ impl From<GraphRefusal> for LxdRefusal {
     }
 }
 
-impl From<TooDeep> for LxdRefusal {
+impl From<ChainTooDeep> for LxdRefusal {
     ghost from_gives = { λ why e. e ≡ L.ChainTooLong };
 
-    fn from(_why: TooDeep) -> LxdRefusal {
+    fn from(_why: ChainTooDeep) -> LxdRefusal {
         LxdRefusal::ChainTooLong
     }
 }
@@ -92,7 +91,7 @@ fn start_node(g: FitGraph<'_>) -> usize
 }
 
 // The survey from the node where the words begin. The work list must be 8 × N long.
-fn survey_start(g: Labelled<'_>, work: &mut [u32]) -> Result<Findings, TooDeep>
+fn survey_start(g: Labelled<'_>, work: &mut [u32]) -> Result<Findings, ChainTooDeep>
     requires nodes_in_bounds { 8 * length g.graph.nodes.now ≤ length work.old }
     ensures { SurveyIs g.entry.graph.nodes.now g.entry.labels.now 64 (start_node g.entry.graph.nodes.now 0) result }
 {
@@ -109,7 +108,7 @@ fn refuse_too_many(g: Labelled<'_>, work: &mut [u32]) -> LxdRefusal
 {
     match survey_start(g, work) {
         Err(deep) => LxdRefusal::from(deep),
-        Ok(found) if found.words == MOST => LxdRefusal::TooManyWords,
+        Ok(found) if found.words == u32::MAX => LxdRefusal::TooManyWords,
         Ok(_) => LxdRefusal::TooManyNodes,
     }
 }
@@ -132,7 +131,7 @@ fn write_numbered(
         nodes: 2,
     };
     match number_run(g.graph, work, start_node(g.graph), none, 64) {
-        Ok(walked) if walked.words == MOST => Err(LxdRefusal::TooManyWords),
+        Ok(walked) if walked.words == u32::MAX => Err(LxdRefusal::TooManyWords),
         Ok(walked) => write_file(g, texts, work, walked, file),
         Err(WalkRefusal::TooDeep) => Err(LxdRefusal::ChainTooLong),
         Err(WalkRefusal::TooMany) => Err(refuse_too_many(g, work)),

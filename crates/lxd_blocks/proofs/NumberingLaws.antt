@@ -6,13 +6,12 @@ use mathlib.Core.List.{List, [], ◌∷◌, ◌++◌, map, Memᴰ}
 use Prim.Native.Nat.{ℕ, suc, ◌+◌, ◌-◌, ◌*◌, ◌^◌, ◌≤◌, ◌<◌}
 use native.Mathlib.Omega.{arith}
 use lib.Dec.{eqb, ltb}
-use lib.ListN.{length, get_or, set, length-set, drop, drop_of_length-le}
-use Rattle.std.proofs.Common.{add-one, drop-cons}
+use lib.ListN.{length, get_or, set, length-set}
 use borrow.Author.Tests.{eqb-true, eqb-false, eq-eqb, ne_eqb, ltb-false}
 use Rattle.laws.specs.Cases.{split, and_left, and_right}
 use Rattle.laws.specs.Lists.{filtered, member}
 use Rattle.node.specs.Nodes.{kbwg, arc}
-use Rattle.graph.specs.Runs.{Graph}
+use Rattle.graph.specs.Runs.{Graph, node}
 use Rattle.export.specs.Starts.{run_of, has_arc, arcs_from, deeper}
 use Rattle.export.specs.Blocks.{each, met, met_by, total}
 use Rattle.block_record.specs.Record.{order_in, Pushed}
@@ -25,6 +24,9 @@ use Rattle.block_record.specs.DepthsLaws.{loop-deep, below-arc, deep-by-arc}
 use Rattle.lxd_file.specs.File.{run_size}
 use Rattle.survey.specs.RunCounted.{counted_none}
 use Rattle.lxd_blocks.specs.RunsNumbered.{words_at, node_passed, run_closed, looked_up, RunsHeld, Known, RunsRecorded, RunsNumbered, NumberedAs}
+use Rattle.lxd_blocks.proofs.RunLaws.{run-first}
+use Rattle.export.specs.RunOfLaws.{run_ends, run-goes-on}
+use Rattle.node.specs.Nodes.{is_end}
 use Rattle.lxd_blocks.proofs.HeldLaws.{held_as, held-here, held-past}
 use Rattle.lxd_blocks.specs.declared.numbering.Walked.{Walked}
 use Rattle.lxd_blocks.specs.declared.numbering.WalkRefusal.{WalkRefusal}
@@ -149,13 +151,16 @@ module _ (g : Graph) where
         ends = omega arith;
       }
 
-  -- the node at hand and those after it, or none
-  module _ {left p : ℕ} {w₀ w m : List ℕ} {f : Walked} (vs : List ℕ) (i : ℕ) (k : Along left p w₀ w m f (drop i vs)) where
-    pub along-here : i < length vs → Along left p w₀ w m f (get_or vs i 0 ∷ drop (i + 1) vs)
-    along-here h = let e : drop i vs ≡ get_or vs i 0 ∷ drop (i + 1) vs = rw (add-one, drop-cons vs i 0) in subst (Along left p w₀ w m f) e k
+  -- the node at hand, and those after it
+  module _ {left p : ℕ} {w₀ w m : List ℕ} {f : Walked} (at : ℕ) (inside : at < length g) (k : Along left p w₀ w m f (run_of g at)) where
+    pub along-here : (vs : List ℕ) × Along left p w₀ w m f (node g at ∷ vs)
+    along-here = let r = run-first g at inside in (r.0, subst (Along left p w₀ w m f) r.1 k)
 
-    pub along-done : length vs ≤ i → Along left p w₀ w m f []
-    along-done h = subst (Along left p w₀ w m f) (drop_of_length-le vs h) k
+    pub along-on : is_end kbwg (node g at) ≡ false → Along left p w₀ w m f (node g at ∷ run_of g (at + 1))
+    along-on e = subst (Along left p w₀ w m f) (run-goes-on g at inside e) k
+
+    pub along-last : is_end kbwg (node g at) ≡ true → Along left p w₀ w m f (node g at ∷ [])
+    along-last e = subst (Along left p w₀ w m f) (run_ends g at inside e) k
 
   module _ {left p : ℕ} {w₀ w m : List ℕ} {f : Walked} {v : ℕ} {vs : List ℕ} (k : Along left p w₀ w m f (v ∷ vs)) where
     abbrev seen : List ℕ

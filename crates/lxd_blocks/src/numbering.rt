@@ -6,11 +6,12 @@ ghost use Rattle.base.specs.Numbers.{most};
 ghost use Rattle.node.specs.Nodes.{kbwg, arc};
 ghost use Rattle.export.specs.Blocks.{met, met_by};
 ghost use Rattle.block_record.specs.Record.{order_in};
-ghost use Rattle.export.specs.Starts.{run_of, has_arc, arcs_from};
+ghost use Rattle.export.specs.Starts.{has_arc, arcs_from};
 ghost use Rattle.block_record.specs.Depths.{depth_at, Below};
+ghost use Rattle.lxd_file.specs.File.{run_size};
 ghost use Rattle.lxd_blocks.specs.RunsNumbered.{words_at, node_passed, run_closed, looked_up, RunsRecorded, NumberedAs};
 
-use block_record::{BlockTally, depth_of, keep_depth, place_of, push_block};
+use block_record::{BlockTally, Place, depth_of, keep_depth, place_of, push_block};
 use graph::FitGraph;
 use node::Node24;
 use survey::words_through;
@@ -34,17 +35,19 @@ pub enum WalkRefusal {
     TooMany,
 }
 
-// The nodes of the run from p, which must be a node.
-fn run_from<'a>(g: FitGraph<'a>, p: usize) -> &'a [u32]
+// How many nodes the run from p has; p must be a node.
+fn run_length(g: FitGraph<'_>, p: usize) -> u32
     requires { p < length g.nodes.now }
-    ensures { result.now ≡ run_of g.entry.nodes.now p }
+    ensures { result ≡ run_size g.entry.nodes.now p }
 {
     let mut last = p;
+    let mut passed: u32 = 1;
     // A run ends by a bit of its last node, so no range says how many nodes it has.
     while !Node24(g.nodes[last]).is_end() {
         last += 1;
+        passed += 1;
     }
-    &g.nodes[p..last + 1]
+    passed
 }
 
 // What is known of a run's nodes up to one of them, by what was known before it and what its arc leads to.
@@ -120,10 +123,10 @@ fn number_arc(
             words: 0,
         });
     }
-    match place_of(work, child) {
-        None => number_run(g, work, child, t, chain_left),
-        Some(_) => look_up(g.nodes.len(), work, child, t, chain_left),
-    }
+    let Place::Numbered(_) = place_of(work, child) else {
+        return number_run(g, work, child, t, chain_left);
+    };
+    look_up(g.nodes.len(), work, child, t, chain_left)
 }
 
 // Numbers the run from p, a node that must not be numbered yet, and what its arcs lead to, by a record that must be that of the runs met
@@ -147,8 +150,7 @@ pub fn number_run(
         return Err(WalkRefusal::TooDeep);
     }
     let n = g.nodes.len();
-    let run = run_from(g, p);
-    let size = run.len() as u32;
+    let size = run_length(g, p);
     if MOST_NODES - t.nodes < size {
         return Err(WalkRefusal::TooMany);
     }
@@ -159,9 +161,16 @@ pub fn number_run(
         runs: 0,
         words: 0,
     };
-    for node in run {
-        let child = number_arc(g, work, *node, sum.tally, chain_left - 1)?;
-        sum = pass_node(*node, sum, child);
+    let mut at = p;
+    // By the bit that ends the run, and not over a slice of its nodes: that takes more registers at each call, and an eighth more steps.
+    loop {
+        let node = g.nodes[at];
+        let child = number_arc(g, work, node, sum.tally, chain_left - 1)?;
+        sum = pass_node(node, sum, child);
+        if Node24(node).is_end() {
+            break;
+        }
+        at += 1;
     }
     Ok(close_run(n, work, p, sum))
 }

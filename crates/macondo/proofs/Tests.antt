@@ -1,28 +1,35 @@
--- Runs ascend where each node and the next do.
-use Rattle.std.specs.Prelude.{◌≡◌, Bool, true, false, ◌||◌, [], ◌∷◌, ℕ, zero, suc, ltb, length, get_or}
-use Rattle.std.specs.List.{IsAllAdjacentAnswer}
-use Rattle.std.proofs.Common.{refl, sym, arith, add-one, ◌<◌}
-use mathlib.Core.Bool.{and-false}
+-- Runs that ascend, a node at a time.
+use Rattle.std.specs.Prelude.{◌≡◌, Bool, true, false, ◌&&◌, ◌||◌, [], ◌∷◌, ℕ, suc, ltb, leb, length, drop}
+use Rattle.std.proofs.Common.{◌+◌, ◌≤◌, ◌<◌, sym, ap, refl, arith, add-one, drop-cons, le-leb, ltb-true, ltb-false}
+use Rattle.std.proofs.lemmas.Bool.{lt-leb}
+use Rattle.laws.specs.Cases.{split}
 use Rattle.node.specs.Nodes.{kbwg, tile, is_end}
-use Rattle.graph.specs.Runs.{Graph, ascends}
+use Rattle.graph.specs.Runs.{Graph, node, ascends}
 
--- the node is an end, or has a lower tile than the other
-abbrev pub rises : ℕ → ℕ → Bool
-rises v w = is_end kbwg v || ltb (tile kbwg v) (tile kbwg w)
+-- the tiles that may come after a node that is no end are those above its own
+pub higher : (a t : ℕ) → leb (a + 1) t ≡ ltb a t
+higher a t = split (ltb a t) (λ h. rw h (le-leb (a + 1) t (let l = ltb-true a t h in omega arith))) (λ h. rw h (lt-leb (a + 1) t (let l = ltb-false a t h in omega arith)))
 
-all-rise : (g : Graph) → ((k : ℕ) → suc k < length g → true ≡ rises (get_or g k 0) (get_or g (suc k) 0)) → true ≡ ascends kbwg g
+-- ---- whether the nodes ascend, and the first has this tile or a higher one
+abbrev pub ascends_from : ℕ → Graph → Bool
+ascends_from lowest [] = true
+ascends_from lowest (v ∷ l) = leb lowest (tile kbwg v) && ascends kbwg (v ∷ l)
+
+pub from_any : (g : Graph) → ascends_from 0 g ≡ ascends kbwg g
 unfolding ascends
-all-rise [] h = refl
-all-rise (v ∷ []) h = refl
-all-rise (v ∷ w ∷ g) h = rw (sym (h zero (omega arith))) (all-rise (w ∷ g) (λ k l. h (suc k) (omega arith)))
+from_any [] = refl
+from_any (v ∷ l) = rw (le-leb 0 (tile kbwg v) (omega arith))
 
-one-falls : (g : Graph) (k : ℕ) → suc k < length g → false ≡ rises (get_or g k 0) (get_or g (suc k) 0) → false ≡ ascends kbwg g
-unfolding ascends
-one-falls [] k l e = absurd (omega arith)
-one-falls (v ∷ []) k l e = absurd (omega arith)
-one-falls (v ∷ w ∷ g) zero l e = rw (sym e)
-one-falls (v ∷ w ∷ g) (suc k) l e = rw (sym (one-falls (w ∷ g) k (omega arith) e)) (sym (and-false (rises v w)))
+module _ (lowest : ℕ) (g : Graph) (i : ℕ) (h : i < length g) where
+  pub first_falls : tile kbwg (node g i) < lowest → ascends_from lowest (drop i g) ≡ false
+  first_falls k = rw (drop-cons g i 0 h) (rw (lt-leb lowest (tile kbwg (node g i)) k))
 
-pub ascends-said : (g : Graph) (r : Bool) → IsAllAdjacentAnswer (λ v w b. b ≡ rises v w) g r → r ≡ ascends kbwg g
-ascends-said g true h = all-rise g (λ k l. rw (add-one k) at (h k 0 (omega arith)))
-ascends-said g false h = one-falls g h.0 (let l = h.1 in omega arith) (rw (add-one h.0) at (h.2 0))
+  after_first : (next v : ℕ) (l : Graph) → ((t : ℕ) → leb next t ≡ is_end kbwg v || ltb (tile kbwg v) t) → ascends kbwg (v ∷ l) ≡ ascends_from next l
+  unfolding ascends
+  after_first next v [] a = refl
+  after_first next v (w ∷ l) a = ap (◌&& ascends kbwg (w ∷ l)) (sym (a (tile kbwg w)))
+
+  pub first_passes : lowest ≤ tile kbwg (node g i) → (next : ℕ) → ((t : ℕ) → leb next t ≡ is_end kbwg (node g i) || ltb (tile kbwg (node g i)) t)
+      → ascends_from lowest (drop i g) ≡ ascends_from next (drop (i + 1) g)
+  first_passes k next a =
+      rw (drop-cons g i 0 h, add-one) (rw (le-leb lowest (tile kbwg (node g i)) k) (after_first next (node g i) (drop (suc i) g) a))

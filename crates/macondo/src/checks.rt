@@ -1,7 +1,7 @@
 // The checks of graph, labels and name before the walk, and of the labels after it.
-ghost use Rattle.std.specs.Prelude.{◌≡◌, not, drop, IfOk};
+ghost use Rattle.std.specs.Prelude.{◌≡◌, ◌||◌, ℕ, ltb, leb, drop, IfOk};
 ghost use Rattle.laws.specs.Lists.{some_of};
-ghost use Rattle.node.specs.Nodes.{kbwg};
+ghost use Rattle.node.specs.Nodes.{kbwg, tile, is_end};
 ghost use Rattle.answers.specs.Answers.{first_of};
 ghost use Rattle.graph.specs.Runs.{ascends};
 ghost use Rattle.macondo_file.specs.Row.{no_code_point, macondo_checks};
@@ -43,11 +43,30 @@ pub(crate) fn check<'a>(
     Ok(ReadyGraph { nodes, labels })
 }
 
-// Whether the tiles of each run ascend.
+// The lowest tile that the node after v may have: any where v ends its run, else one above v's own.
+#[tactic(auto, using(crate::proofs::Tests::higher))]
+fn lowest_after(v: u32) -> u8
+    ensures { (t : ℕ) → leb result t ≡ is_end kbwg v || ltb (tile kbwg v) t }
+{
+    if Node24(v).is_end() {
+        0
+    } else {
+        Node24(v).tile() + 1
+    }
+}
+
+// Whether the tiles of each run ascend. `is_sorted_by` would branch on every end of a run, which no processor foresees.
 fn ascends(nodes: &[u32]) -> bool
     ensures { result ≡ ascends kbwg nodes.now }
 {
-    nodes.is_sorted_by(|v, w| Node24(*v).is_end() || Node24(*v).tile() < Node24(*w).tile())
+    let mut lowest: u8 = 0;
+    for v in nodes {
+        if Node24(*v).tile() < lowest {
+            return false;
+        }
+        lowest = lowest_after(*v);
+    }
+    true
 }
 
 // Whether the label of some letter, tiles 1 up, is not one code point.

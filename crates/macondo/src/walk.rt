@@ -77,7 +77,9 @@ fn write_numbered(
     Ok(size)
 }
 
-// The walk and what comes after it, of graph, labels and name that have passed the checks before it.
+// The walk and what comes after it, of graph, labels and name that have passed the checks before it. Never inlined, so that its loops have
+// the registers to themselves.
+#[inline(never)]
 pub(crate) fn write_checked(
     g: ReadyGraph,
     name: &[u8],

@@ -1,3 +1,4 @@
 pub mod Blocks
+pub mod EntriesLaws
 pub mod ArcsLaws
 pub mod LettersLaws

@@ -6,7 +6,7 @@ ghost use Rattle.macondo_blocks.specs.Blocks.{BlocksRecorded, NumberingIs, Numbe
 
 use crate::arcs::arcs_of;
 use crate::ready::ReadyGraph;
-use block_record::{BlockTally, depth_of, keep_depth, place_of, push_block};
+use block_record::{BlockTally, Place, depth_of, keep_depth, place_of, push_block};
 use node::Node24;
 
 // The tally after a block and what can be reached from it are numbered, and the runs in the longest chain from the block.
@@ -25,19 +25,19 @@ pub struct TooDeep;
 // followed, so that one of these, met again, closes a loop.
 #[cycle(number_arc_number_run)]
 fn number_arc(
-    g: ReadyGraph,
+    g: &ReadyGraph,
     work: &mut [u32],
     child: usize,
     t: BlockTally,
     chain_left: u32,
 ) -> Result<Reached, TooDeep>
-    requires blocks_recorded { BlocksRecorded g.nodes.now g.labels.now work.old t }
-    requires child_in_bounds { (child < length g.nodes.now) × Below g.nodes.now work.old child }
-    ensures { NumberingFrom g.entry.nodes.now g.entry.labels.now work.old t chain_left child work.new result }
+    requires blocks_recorded { BlocksRecorded g.now.nodes.now g.now.labels.now work.old t }
+    requires child_in_bounds { (child < length g.now.nodes.now) × Below g.now.nodes.now work.old child }
+    ensures { NumberingFrom g.now.nodes.now g.now.labels.now work.old t chain_left child work.new result }
 {
-    if place_of(work, child).is_none() {
+    let Place::Numbered(_) = place_of(work, child) else {
         return number_run(g, work, child, t, chain_left);
-    }
+    };
     let runs = depth_of(g.nodes.len(), work, child);
     if runs == 0 || chain_left < runs {
         return Err(TooDeep);
@@ -48,22 +48,22 @@ fn number_arc(
 // Numbers the block of node p, which must not be numbered yet, and then what its arcs lead to. While they are followed its depth is 0.
 #[cycle(number_arc_number_run)]
 fn number_run(
-    g: ReadyGraph,
+    g: &ReadyGraph,
     work: &mut [u32],
     p: usize,
     t: BlockTally,
     chain_left: u32,
 ) -> Result<Reached, TooDeep>
-    requires blocks_recorded { BlocksRecorded g.nodes.now g.labels.now work.old t }
-    requires p_in_bounds { (p < length g.nodes.now) × Below g.nodes.now work.old p }
+    requires blocks_recorded { BlocksRecorded g.now.nodes.now g.now.labels.now work.old t }
+    requires p_in_bounds { (p < length g.now.nodes.now) × Below g.now.nodes.now work.old p }
     requires p_value { get_or work.old p 0 ≡ 0 }
-    ensures { NumberingFrom g.entry.nodes.now g.entry.labels.now work.old t chain_left p work.new result }
+    ensures { NumberingFrom g.now.nodes.now g.now.labels.now work.old t chain_left p work.new result }
 {
     if chain_left == 0 {
         return Err(TooDeep);
     }
     let mut list = [0u32; 64];
-    let arcs = arcs_of(g, p, &mut list);
+    let arcs = arcs_of(*g, p, &mut list);
     let mut sum = push_block(g.nodes.len(), work, p, t, arcs.len() as u32 + 1);
     keep_depth(g.nodes.len(), work, p, 0);
     let mut runs: u32 = 0;
@@ -88,7 +88,7 @@ pub fn number_blocks(g: ReadyGraph, work: &mut [u32], s: usize) -> Result<Reache
 {
     work[..g.nodes.len()].fill(0);
     number_run(
-        g,
+        &g,
         work,
         s,
         BlockTally {

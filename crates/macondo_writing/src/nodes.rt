@@ -9,7 +9,7 @@ ghost use Rattle.macondo_writing.specs.FileTables.{arc_in, block_in, block_nodes
 
 use crate::sections::write_each;
 use crate::tables::Tables;
-use block_record::place_of;
+use block_record::{Place, place_of};
 use endian::write_be_u32;
 use macondo_blocks::{ReadyGraph, arcs_of};
 use node::Node24;
@@ -21,7 +21,9 @@ fn arc_node(t: Tables, v: u32) -> u32
     ensures { result ≡ arc_in t.entry.ranks.now t.entry.work.now v }
 {
     let letter = u32::from(t.ranks[usize::from(Node24(v).tile())]);
-    let at = place_of(t.work, Node24(v).arc_index() as usize).unwrap_or(0);
+    let Place::Numbered(at) = place_of(t.work, Node24(v).arc_index() as usize) else {
+        return letter * 0x1000000;
+    };
     letter * 0x1000000 + at
 }
 

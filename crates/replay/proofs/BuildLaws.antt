@@ -10,6 +10,12 @@ use Rattle.flat.specs.declared.building.FlatBuilt.{FlatBuilt}
 use Rattle.replay.specs.Builds.{built_fields, built_reply, build_reply_in, build_reply}
 use Rattle.replay.proofs.RoomLaws.{take_same, lent-size}
 
+pub build-replies : (list : List ℕ) (work : ℕ) (lent : List ℕ) (r : FlatBuilt) (after : List ℕ) → building_of r after ≡ build_as list work lent
+    → r ≡ flat_built (built_of r) → built_fields r ++ take r.nodes after ≡ build_reply_in list work lent
+unfolding build_reply_in
+build-replies list work lent r after e flat =
+    ap (λ (x : FlatBuilt). built_fields x ++ take x.nodes after) flat ∙ ap built_reply e
+
 -- so much of the lists that a case has is lent
 pub build-reply : (ws list : List ℕ) (work nodes : ℕ) → work ≡ min (get_or ws 0 0) 4096 → nodes ≡ min (get_or ws 1 0) 512
     → build_reply_in list (length {A = ℕ} (take work (replicate 4096 0))) (take nodes (replicate 512 0)) ≡ build_reply ws list

@@ -1,7 +1,7 @@
 // A lexicon from a word list.
-ghost use Rattle.std.specs.Prelude.{◌≡◌, ◌++◌, length, take};
+ghost use Rattle.std.specs.Prelude.{◌≡◌};
 ghost use Rattle.stored.specs.Answers.{same};
-ghost use Rattle.replay.specs.Builds.{built_fields, build_reply, build_reply_in};
+ghost use Rattle.replay.specs.Builds.{build_reply};
 
 use stored::{list_to, same_then, word_at};
 
@@ -18,19 +18,8 @@ pub(crate) fn build(stored: &[u64], words: &[u32], list: &[u8]) -> bool
     let mut nodes = [0u32; NODE_ROOM];
     let work_room = (word_at(words, 0) as usize).min(WORK_ROOM);
     let node_room = (word_at(words, 1) as usize).min(NODE_ROOM);
-    build_lent(
-        stored,
-        list,
-        &mut work[..work_room],
-        &mut nodes[..node_room],
-    )
-}
-
-#[tactic(auto, unfolding(crate::specs::Builds::build_reply_in))]
-fn build_lent(stored: &[u64], list: &[u8], work: &mut [u32], nodes: &mut [u32]) -> bool
-    ensures { result ≡ same stored.now (build_reply_in list.now (length work.old) nodes.old) }
-{
-    let built = machirsun::machirsun_build(list, work, nodes);
+    let nodes = &mut nodes[..node_room];
+    let built = machirsun::machirsun_build(list, &mut work[..work_room], nodes);
     same_then(
         stored,
         &[built.refusal, built.nodes],

@@ -1,7 +1,7 @@
 // Words as viewers type them.
-ghost use Rattle.std.specs.Prelude.{◌≡◌, ◌++◌, length, take};
+ghost use Rattle.std.specs.Prelude.{◌≡◌, ◌++◌, take};
 ghost use Rattle.stored.specs.Answers.{same};
-ghost use Rattle.replay.specs.Typed.{typed_fields, typed_reply, typed_reply_in, typed_list_fields, typed_list_reply, typed_list_reply_in};
+ghost use Rattle.replay.specs.Typed.{typed_fields, typed_reply, typed_list_fields, typed_list_reply};
 
 use crate::lookups::{NO_TILE, tiles_put};
 use flat::{FlatTyped, FlatTypedList};
@@ -18,12 +18,7 @@ pub(crate) fn next_word(stored: &[u64], words: &[u32], bytes: &[u8]) -> bool
 {
     let mut word = [NO_TILE; TILE_ROOM];
     let room = (word_at(words, 1) as usize).min(TILE_ROOM);
-    next_word_lent(stored, words, bytes, &mut word[..room])
-}
-
-fn next_word_lent(stored: &[u64], words: &[u32], bytes: &[u8], word: &mut [u8]) -> bool
-    ensures { result ≡ same stored.now (typed_reply_in words.now bytes.now word.old) }
-{
+    let word = &mut word[..room];
     let count = word_at(words, 2) as usize;
     let at = word_at(words, 0) as usize;
     let read = machirsun::machirsun_next_word(
@@ -58,25 +53,8 @@ pub(crate) fn read_words(stored: &[u64], words: &[u32], bytes: &[u8]) -> bool
     let mut sizes = [0usize; SIZE_ROOM];
     let room = (word_at(words, 1) as usize).min(TILE_ROOM);
     let slots = (word_at(words, 2) as usize).min(SIZE_ROOM);
-    read_words_lent(
-        stored,
-        words,
-        bytes,
-        &mut tiles[..room],
-        &mut sizes[..slots],
-    )
-}
-
-fn read_words_lent(
-    stored: &[u64],
-    words: &[u32],
-    bytes: &[u8],
-    tiles: &mut [u8],
-    sizes: &mut [usize],
-) -> bool
-    ensures { result ≡ same stored.now
-        (typed_list_reply_in words.now bytes.now (length sizes.old) (length tiles.old)) }
-{
+    let tiles = &mut tiles[..room];
+    let sizes = &mut sizes[..slots];
     let count = word_at(words, 3) as usize;
     let at = word_at(words, 0) as usize;
     let read = machirsun::machirsun_read_words(

@@ -8,29 +8,23 @@ use stored::{ROOM, Verdict, list_from, list_in, list_to, verdict_of};
 pub fn judge(call: u64, case: &[u64]) -> Verdict
     ensures { Judged 32768 32768 call case.now result }
 {
-    let mut words = [0u32; ROOM];
-    let mut bytes = [0u8; ROOM];
-    judge_lent(call, case, &mut words, &mut bytes)
-}
-
-fn judge_lent(call: u64, case: &[u64], words: &mut [u32], bytes: &mut [u8]) -> Verdict
-    ensures { Judged (length words.old) (length bytes.old) call case.now result }
-{
     if call < 1 || 19 < call {
         return Verdict::Malformed;
     }
-    let Some(word_count) = list_in(case, words) else {
+    let mut words = [0u32; ROOM];
+    let mut bytes = [0u8; ROOM];
+    let Some(word_count) = list_in(case, &mut words) else {
         return Verdict::Malformed;
     };
     let rest = after_list(case, word_count);
-    let Some(byte_count) = list_in(rest, bytes) else {
+    let Some(byte_count) = list_in(rest, &mut bytes) else {
         return Verdict::Malformed;
     };
     let stored = after_list(rest, byte_count);
     verdict_of(replies(
         call,
         stored,
-        list_to(words, word_count),
+        list_to(&words, word_count),
         &mut bytes[..byte_count],
     ))
 }

@@ -22,7 +22,7 @@ use Rattle.survey.specs.ByArc.{where_there, counted-by-arc}
 use Rattle.survey.specs.RunCounted.{counted_none}
 use Rattle.survey.specs.Survey.{byteless, byteless_within, no_run, FindingsOf, node_joined, SurveyAnswers}
 use Rattle.survey.specs.declared.Findings.{Findings}
-use Rattle.survey.specs.declared.TooDeep.{TooDeep}
+use Rattle.survey.specs.declared.ChainTooDeep.{ChainTooDeep}
 use Rattle.std.specs.Prelude.{Result, Ok, Err, IsErr}
 
 -- ---- a run by its first node and the rest
@@ -72,7 +72,7 @@ module _ (g : Graph) (labels : List ℕ) where
           ∙ sym (some-run g i h (λ v. byteless labels v || (has_arc v && byteless_within g labels k (arc kbwg v))))
 
   -- ---- what the survey answers, with so many runs left in the chain
-  pub answers-deep : (q left : ℕ) (r : Result Findings TooDeep) → IsErr r → deeper g left q ≡ true → SurveyAnswers g labels true q left r
+  pub answers-deep : (q left : ℕ) (r : Result Findings ChainTooDeep) → IsErr r → deeper g left q ≡ true → SurveyAnswers g labels true q left r
   answers-deep q left (Ok s) i d = absurd (false≢true i)
   answers-deep q left (Err e) i d = d
 

@@ -10,7 +10,7 @@ use Rattle.export.specs.Starts.{run_of, has_arc, deeper}
 use Rattle.windows1252.specs.Windows1252.{no_byte}
 use Rattle.survey.specs.RunCounted.{RunCounted, words_through}
 use Rattle.survey.specs.declared.Findings.{Findings}
-use Rattle.survey.specs.declared.TooDeep.{TooDeep}
+use Rattle.survey.specs.declared.ChainTooDeep.{ChainTooDeep}
 
 -- the label of a node has no byte
 abbrev pub byteless : List ℕ → ℕ → Bool
@@ -30,7 +30,7 @@ pub record Surveys (g : Graph) (labels : List ℕ) (k p : ℕ) (s : Findings) : 
   pub byteless : s.byteless ≡ byteless_within g labels k p
 
 -- what the survey answers of p: its findings, or that a chain from p has more than k runs
-abbrev pub SurveyIs : Graph → List ℕ → ℕ → ℕ → Result Findings TooDeep → Type 0
+abbrev pub SurveyIs : Graph → List ℕ → ℕ → ℕ → Result Findings ChainTooDeep → Type 0
 SurveyIs g labels k p (Ok s) = Surveys g labels k p s
 SurveyIs g labels k p (Err e) = deeper g k p ≡ true
 
@@ -54,11 +54,11 @@ node_joined labels v child rest =
     }
 
 -- a run, with so many runs left in the chain
-abbrev pub if_shallow : Findings → ℕ → Result Findings TooDeep
+abbrev pub if_shallow : Findings → ℕ → Result Findings ChainTooDeep
 if_shallow s left = elim (ltb left s.runs) [ true ↦ Err (record {}) | false ↦ Ok s ]
 
 -- what is answered of q, if there is a run, with so many runs left in the chain
-abbrev pub SurveyAnswers : Graph → List ℕ → Bool → ℕ → ℕ → Result Findings TooDeep → Type 0
+abbrev pub SurveyAnswers : Graph → List ℕ → Bool → ℕ → ℕ → Result Findings ChainTooDeep → Type 0
 SurveyAnswers g labels there q left (Ok s) = FindingsOf g labels there q s × (s.runs ≤ left)
 SurveyAnswers g labels there q left (Err e) = there && deeper g left q ≡ true
 

@@ -44,7 +44,7 @@ const NO_RUN: Findings = Findings {
 
 // A chain has more runs than may follow one another.
 #[derive(Clone, Copy, Debug, PartialEq, Eq)]
-pub struct TooDeep;
+pub struct ChainTooDeep;
 
 // The words through a node: its own, where it ends one, and those of the run that its arc leads to; at most 4,294,967,295.
 pub fn words_through(node: u32, child: u32) -> u32
@@ -120,11 +120,11 @@ fn findings_after(g: FitGraph<'_>, work: &[u32], at: usize) -> Findings
 }
 
 // A run, where it has no more runs in a chain than are left.
-fn if_shallow(run: Findings, chain_left: u32) -> Result<Findings, TooDeep>
+fn if_shallow(run: Findings, chain_left: u32) -> Result<Findings, ChainTooDeep>
     ensures { result ≡ if_shallow run chain_left }
 {
     if chain_left < run.runs {
-        return Err(TooDeep);
+        return Err(ChainTooDeep);
     }
     Ok(run)
 }
@@ -136,7 +136,7 @@ fn survey_arc(
     work: &mut [u32],
     node: u32,
     chain_left: u32,
-) -> Result<Findings, TooDeep>
+) -> Result<Findings, ChainTooDeep>
     requires survey_tables { SurveyTables g.graph.nodes.now g.labels.now work.old }
     requires node_in_bounds { arc kbwg node < length g.graph.nodes.now }
     ensures run { SurveyAnswers g.entry.graph.nodes.now g.entry.labels.now (has_arc node) (arc kbwg node) chain_left result }
@@ -159,14 +159,14 @@ fn survey_run(
     work: &mut [u32],
     p: usize,
     chain_left: u32,
-) -> Result<Findings, TooDeep>
+) -> Result<Findings, ChainTooDeep>
     requires survey_tables { SurveyTables g.graph.nodes.now g.labels.now work.old }
     requires p_in_bounds { p < length g.graph.nodes.now }
     ensures run { SurveyAnswers g.entry.graph.nodes.now g.entry.labels.now true p chain_left result }
     ensures tables { SurveyTables g.entry.graph.nodes.now g.entry.labels.now work.new }
 {
     if chain_left == 0 {
-        return Err(TooDeep);
+        return Err(ChainTooDeep);
     }
     let last = last_unknown(g.graph, work, p);
     let mut run = findings_after(g.graph, work, last);
@@ -180,7 +180,7 @@ fn survey_run(
 }
 
 // The survey from node s. The work list must be at least 3 × N numbers long.
-pub fn survey(g: Labelled<'_>, work: &mut [u32], s: usize) -> Result<Findings, TooDeep>
+pub fn survey(g: Labelled<'_>, work: &mut [u32], s: usize) -> Result<Findings, ChainTooDeep>
     requires nodes_in_bounds { 3 * length g.graph.nodes.now ≤ length work.old }
     requires s_in_bounds { s < length g.graph.nodes.now }
     ensures { SurveyIs g.entry.graph.nodes.now g.entry.labels.now 64 s result }

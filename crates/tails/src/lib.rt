@@ -76,7 +76,7 @@ pub fn close_words(list: &[u8], work: &mut [u32], n: usize) -> Option<u32>
     let mut tails: u32 = 0;
     loop {
         let from = at + 1;
-        let word = &list[from..from + list[at] as usize];
+        let word = &list[from..from + usize::from(list[at])];
         let before = at - marks[at] as usize;
         let kept = shared(&list[before..at], word);
         tails = close_word(word, kept, &mut behind, dict, n, tails)?;

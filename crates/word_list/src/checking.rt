@@ -41,7 +41,7 @@ fn next_word(list: &[u8]) -> Option<(&[u8], &[u8])>
     if !(1..=64).contains(tiles) {
         return None;
     }
-    let (word, after) = rest.split_at_checked(*tiles as usize)?;
+    let (word, after) = rest.split_at_checked(usize::from(*tiles))?;
     if are_tiles(word) {
         Some((word, after))
     } else {

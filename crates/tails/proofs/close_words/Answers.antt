@@ -53,7 +53,7 @@ overflow_add-word c =
     omega arith
 
 pub slice_bounds-word-end : goal.slice_bounds-word-end
-slice_bounds-word-end c = within (goal.at.slice_bounds-word-end c).At-loop-tails
+slice_bounds-word-end c = rw c.from.ensures (within (goal.at.slice_bounds-word-end c).At-loop-tails)
 
 pub offset_bounds-marks-at : goal.offset_bounds-marks-at
 offset_bounds-marks-at c =
@@ -82,7 +82,7 @@ pub close_word-requires : goal.close_word-requires
 close_word-requires c =
     let p = (goal.at.close_word-requires c).At-loop-tails in
     let w = lexicon p in
-    can_close w.1 w.2 (here p) (start p).requires.n_value p.loop-tails.invariant.long c.shared-kept.ensures
+    rw c.from.ensures (can_close w.1 w.2 (here p) (start p).requires.n_value p.loop-tails.invariant.long (rw c.from.ensures at c.shared-kept.ensures))
 
 -- the word closed
 module _ (c : After-close_word) where
@@ -92,8 +92,8 @@ module _ (c : After-close_word) where
   pub leaves : (ws : List Word) → Lexicon 64 ws → list turn ≡ list_bytes ws
       → Turned (start turn).args.n ws turn.mark_words-at.new.marks turn.loop-tails.at c.close_word.new.behind c.close_word.new.dict c.close_word.result
   leaves ws lex bytes =
-      turned lex bytes (turn.loop-tails.invariant.reached ws lex bytes) (start turn).requires.n_value turn.loop-tails.invariant.long c.shared-kept.ensures
-      c.close_word.new.behind c.close_word.new.dict c.close_word.result c.close_word.ensures
+      turned lex bytes (turn.loop-tails.invariant.reached ws lex bytes) (start turn).requires.n_value turn.loop-tails.invariant.long (rw c.from.ensures at c.shared-kept.ensures)
+      c.close_word.new.behind c.close_word.new.dict c.close_word.result (rw c.from.ensures at c.close_word.ensures)
 
 pub returns-in_err-tails : goal.returns-in_err-tails
 unfolding WordsClose

@@ -2,16 +2,14 @@
 -- to the other and back.
 use mathlib.Core.Path.{◌≡◌, refl, sym, ap, ◌∙◌, subst}
 use mathlib.Core.List.{List}
-use Rattle.std.specs.Prelude.{Option, Some, None, true, false, ◌≢◌}
-use Rattle.std.specs.Option.{is_some}
-use Rattle.std.proofs.lemmas.Bool.{false≢true}
+use Rattle.std.specs.Prelude.{Option, Some, None}
 use Prim.Native.Nat.{ℕ, ◌+◌, ◌-◌, ◌*◌, ◌≤◌, ◌<◌}
 use native.Mathlib.Omega.{arith}
 use lib.Dec.{eqb}
 use lib.ListN.{length, get_or, drop}
 use Rattle.node.specs.Nodes.{kbwg, arc}
 use Rattle.export.specs.Blocks.{met, met_by, total}
-use Rattle.block_record.specs.Record.{order_in, place_at}
+use Rattle.block_record.specs.Record.{order_in}
 use Rattle.block_record.specs.RecordLaws.{met-by-none, met-by-arc, place_none, place-some}
 use Rattle.block_record.specs.declared.BlockTally.{BlockTally}
 use Rattle.shelf.specs.Shelf.{Shelf, run_entries, child_numbers}
@@ -21,40 +19,29 @@ use Rattle.build.proofs.RunLaws.{entry-child}
 use Rattle.build.proofs.NumberingLaws.{numbers-none, numbers-old, numbers-new, blocks-left, run_over, pushed-recorded, pushed-tails, pushed-order}
 use Rattle.build.proofs.NumberingLaws.{walk, run-met, placed_as, Along, along-starts, along-done, here, along_over, along-goes}
 use Rattle.build.proofs.places.+number_arc_number_run.Goals as goal
-use Rattle.build.proofs.places.+number_arc_number_run.Goals.{number_arc-then-child-eq0-via-then-child-eq0, number_arc-then-child-eq0-via-else-child-eq0+then-is_some, number_run-After-number_arc, number_run-After-push_block-tally, number_run-After-tail_after-after, number_run-At-loop-at, number_run-Else-chain_left-eq0, number_run-Else-t-size, number_run-In-loop-at, number_run-Start}
-
--- an arc's run by the record
-held : (w : List ℕ) (p : ℕ) (o : Option ℕ) → o ≡ place_at w p → true ≡ is_some o → get_or w p 0 ≢ 0
-held w p None e t = absurd (false≢true (sym t))
-held w p (Some x) e t = place-some w p x (sym e)
-
-free : (w : List ℕ) (p : ℕ) (o : Option ℕ) → o ≡ place_at w p → false ≡ is_some o → get_or w p 0 ≡ 0
-free w p None e t = place_none w p (sym e)
-free w p (Some x) e t = absurd (false≢true t)
+use Rattle.build.proofs.places.+number_arc_number_run.Goals.{number_run-After-number_arc, number_run-After-push_block-tally, number_run-After-tail_after-after, number_run-At-loop-at, number_run-Else-chain_left-eq0, number_run-Else-t-size, number_run-In-loop-at, number_run-Start}
 
 pub number_arc-place_of-requires : goal.number_arc-place_of-requires
 number_arc-place_of-requires b c = let h = c.requires.2 in omega (arith, c.requires.1.tails.few, c.requires.1.tails.room)
 
 pub number_arc-returns-then-child-eq0 : goal.number_arc-returns-then-child-eq0
-number_arc-returns-then-child-eq0 b c = λ sh r h.
-    let a = c.args in
-    elim c.then-child-eq0.branch [
-      | number_arc-then-child-eq0-via-then-child-eq0 w ↦ numbers-none r (met-by-none (child_numbers sh) _ _ _ w.if-child-eq0.true)
-      | number_arc-then-child-eq0-via-else-child-eq0+then-is_some w ↦
-          rw (met-by-arc (child_numbers sh) a.chain_left _ a.child w.if-child-eq0.false)
-          (numbers-old r a.child h a.chain_left (held a.work.now a.child w.place_of.result w.place_of.ensures w.if-is_some.ensures))
-    ]
+number_arc-returns-then-child-eq0 b c = λ sh r h. numbers-none r (met-by-none (child_numbers sh) _ _ _ c.if-child-eq0.true)
 
 pub number_arc-number_run-requires : goal.number_arc-number_run-requires
 number_arc-number_run-requires b c =
-    let a = c.args in
-    let new = free a.work.now a.child c.place_of.result c.place_of.ensures c.if-is_some.ensures in
+    let new = place_none c.args.work.now c.args.child (sym c.in_default.ensures) in
     (omega (arith, c.decreases), ((c.requires, omega (arith, c.if-child-eq0.false)), new))
+
+pub number_arc-returns-in_default : goal.number_arc-returns-in_default
+number_arc-returns-in_default b c = λ sh r h.
+    let a = c.args in
+    rw (met-by-arc (child_numbers sh) a.chain_left _ a.child c.if-child-eq0.false) (c.number_run.ensures sh r h)
 
 pub number_arc-returns : goal.number_arc-returns
 number_arc-returns b c = λ sh r h.
     let a = c.args in
-    rw (met-by-arc (child_numbers sh) a.chain_left _ a.child c.if-child-eq0.false) (c.number_run.ensures sh r h)
+    rw (met-by-arc (child_numbers sh) a.chain_left _ a.child c.if-child-eq0.false)
+    (numbers-old r a.child h a.chain_left (place-some a.work.now a.child _ (sym c.in-Numbered.ensures)))
 
 -- the call
 module _ {b : ℕ} (s : number_run-Start b) where

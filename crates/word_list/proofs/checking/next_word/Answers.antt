@@ -20,7 +20,7 @@ returns-in_err-word c =
 pub returns-else-are_tiles : goal.returns-else-are_tiles
 returns-else-are_tiles c =
     let t = c.in_ok-tiles in
-    let p = c.in_ok-word.ensures.cases in
+    let p = rw c.from.ensures at c.in_ok-word.ensures.cases in
     let fits : (eqb t.tiles.now 0 || ltb 64 t.tiles.now) ≡ false = search (rules, tests) in
     let inside : ltb (length t.rest.now) t.tiles.now ≡ false = le-ltb (length t.rest.now) t.tiles.now p.0 in
     bad-tile t.tiles.now t.rest.now t.ensures.cases.0 fits inside (rw (sym p.1) (not-false _ (sym c.if-are_tiles.ensures)))

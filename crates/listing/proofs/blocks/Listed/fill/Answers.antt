@@ -6,8 +6,8 @@ use Rattle.listing.specs.Said.{continues}
 use Rattle.listing.proofs.BlocksLaws.{block_filling_start, fill-next, fill-room, fill-last, fill_done}
 use Rattle.listing.specs.Blocks.{NumberWalk}
 use Rattle.listing.specs.Printing.{walk_from}
-use Rattle.listing.proofs.blocks.fill.Goals as goal
-use Rattle.listing.proofs.blocks.fill.Goals.{After-block_end-end, Start}
+use Rattle.listing.proofs.blocks.Listed.fill.Goals as goal
+use Rattle.listing.proofs.blocks.Listed.fill.Goals.{After-block_end-end, Start}
 
 -- how many words there are, and the walk to them
 module _ (b : After-block_end-end) where
@@ -18,7 +18,7 @@ module _ (b : After-block_end-end) where
   count = start.args.count
 
   abbrev walk : NumberWalk
-  walk = walk_from start.args.nodes.now start.args.counts.now start.args.start
+  walk = walk_from start.args.self.nodes.now start.args.self.counts.now start.args.self.start
 
 pub loop-number-init : goal.loop-number-init
 loop-number-init c = block_filling_start (walk c) (start c).args.next c.block_end-end.result (start c).args.out.now (omega (arith, c.block_end-end.ensures))

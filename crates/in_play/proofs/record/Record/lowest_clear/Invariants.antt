@@ -2,7 +2,7 @@
 use Rattle.std.proofs.Common.{◌≡◌}
 use Rattle.in_play.specs.InPlay.{not_in_play}
 use Rattle.in_play.proofs.ScanLaws.{left_from}
-use Rattle.in_play.proofs.record.lowest_clear.Given as goal
+use Rattle.in_play.proofs.record.Record.lowest_clear.Given as goal
 
 abbrev pub invariant-loop-g : goal.invariant-loop-g
-invariant-loop-g l = left_from l.bits l.total l.g ≡ not_in_play l.bits l.total
+invariant-loop-g l = left_from l.self.bits.now l.self.total l.g ≡ not_in_play l.self.bits.now l.self.total

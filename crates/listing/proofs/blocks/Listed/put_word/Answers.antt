@@ -13,8 +13,8 @@ use Rattle.listing.specs.Wordlist.{most_tiles}
 use Rattle.listing.specs.Printing.{walk_from}
 use Rattle.listing.proofs.LinesLaws.{refusal-length}
 use Rattle.listing.proofs.WordLaws.{Tiled, tiled, WordIn, word_in, line-room, word_line, word_refused}
-use Rattle.listing.proofs.blocks.put_word.Goals as goal
-use Rattle.listing.proofs.blocks.put_word.Goals.{After-get_word_by_index, In-Ok-Some, Start}
+use Rattle.listing.proofs.blocks.Listed.put_word.Goals as goal
+use Rattle.listing.proofs.blocks.Listed.put_word.Goals.{After-get_word_by_index, In-Ok-Some, Start}
 
 -- the walk, and what it left
 module _ (c : After-get_word_by_index) where
@@ -25,16 +25,16 @@ module _ (c : After-get_word_by_index) where
   number = from.args.number
 
   abbrev walk : Word × Answer
-  walk = walk_from from.args.nodes.now from.args.counts.now from.args.start number
+  walk = walk_from from.args.self.nodes.now from.args.self.counts.now from.args.self.start number
 
   abbrev buffer : List ℕ
   buffer = c.get_word_by_index.new.word
 
   in_buffer : Tiled walk c.get_word_by_index.result buffer
-  in_buffer = tiled from.args.nodes.now from.args.counts.now from.args.start number _ c.get_word_by_index.ensures (omega arith)
+  in_buffer = tiled from.args.self.nodes.now from.args.self.counts.now from.args.self.start number _ c.get_word_by_index.ensures (omega arith)
 
   walked : WalkLeaves most_tiles 0 walk
-  walked = by-index-walked from.args.counts.now from.args.nodes.now most_tiles from.args.start number
+  walked = by-index-walked from.args.self.counts.now from.args.self.nodes.now most_tiles from.args.self.start number
 
 -- the word, where it has one
 abbrev asked : In-Ok-Some → After-get_word_by_index

@@ -1,10 +1,10 @@
--- `verdicts::judge_lent` meets its contract: the case is read as far as it goes, and its call is made.
+-- `verdicts::judge` meets its contract: the case is read as far as it goes, and its call is made.
 use Rattle.std.proofs.Common.{refl, sym, ◌∙◌, length}
 use Rattle.std.proofs.Math.Path.{subst}
 use Rattle.std.proofs.Math.Logic.{⊎_elim}
 use Rattle.replay.specs.Judged.{Judged}
 use Rattle.replay.proofs.VerdictLaws.{low-call, high-call, words-unread, bytes-unread, case-judged}
-use Rattle.replay.proofs.verdicts.judge_lent.Goals as goal
+use Rattle.replay.proofs.verdicts.judge.Goals as goal
 
 pub returns-then-call-lt1 : goal.returns-then-call-lt1
 returns-then-call-lt1 c =
@@ -23,8 +23,8 @@ returns-in_default-list_in c =
 
 pub returns : goal.returns
 returns c =
-    subst (Judged (length c.args.words.now) (length c.args.bytes.now) c.args.call c.args.case.now) (sym c.verdict_of.ensures)
+    subst (Judged 32768 32768 c.args.call c.args.case.now) (sym c.verdict_of.ensures)
     (case-judged _ _ c.args.call c.args.case.now c.in-Some.word_count c.after_list-rest.result.now
     (sym c.list_in.ensures.count ∙ c.in-Some.is) c.after_list-rest.ensures
-    c.in-Some-list_in.byte_count c.args.words.now c.args.bytes.now _ _ _ _ (sym c.list_in-2.ensures.count ∙ c.in-Some-list_in.is) refl refl
+    c.in-Some-list_in.byte_count _ _ _ _ _ _ (sym c.list_in-2.ensures.count ∙ c.in-Some-list_in.is) refl refl
     c.list_in.ensures.copied c.list_in-2.ensures.copied c.after_list-stored.ensures c.list_to.ensures c.replies.ensures)

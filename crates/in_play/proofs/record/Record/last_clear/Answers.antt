@@ -5,12 +5,12 @@ use Rattle.std.proofs.lemmas.List.{drop-take}
 use native.Mathlib.Nat.{one-mul}
 use lib.Dec.{lit<}
 use Rattle.in_play.specs.Groups.{joined, clear_bits}
-use Rattle.in_play.proofs.record.last_clear.Goals as goal
+use Rattle.in_play.proofs.record.Record.last_clear.Goals as goal
 
 pub returns : goal.returns
 returns c =
-    let total = c.args.total in
-    let bits = c.args.bits.now in
+    let total = c.args.self.total in
+    let bits = c.args.self.bits.now in
     let first = total / 64 * 8 in
     let end : first + (c.div_ceil-end.result - first) ≡ (total + 7) / 8 = omega (arith, c.div_ceil-end.ensures) in
     let part = ap (λ n. joined (drop first (take n bits))) end in

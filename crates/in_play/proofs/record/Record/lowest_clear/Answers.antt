@@ -3,22 +3,22 @@ use Rattle.std.proofs.Common.{ℕ, List, ◌≡◌, ◌≢◌, ◌∙◌, sym, a
 use Rattle.std.specs.Int.Count.{count_trailing_zeros}
 use Rattle.std.proofs.Math.Seq.{slice}
 use Rattle.in_play.specs.InPlay.{not_in_play}
-use Rattle.in_play.specs.Groups.{joined, clear_bits, last_clear, first_or}
-use Rattle.in_play.proofs.GroupLaws.{Bytes, group_joined}
+use Rattle.in_play.specs.Groups.{Bytes, joined, clear_bits, last_clear, first_or}
+use Rattle.in_play.proofs.GroupLaws.{group_joined}
 use Rattle.in_play.proofs.ScanLaws.{left_from, all_left, lowest-here, none_here, lowest-last, last_some, last-below}
-use Rattle.in_play.proofs.record.lowest_clear.Goals as goal
-use Rattle.in_play.proofs.record.lowest_clear.Goals.{After-from_le_bytes-clear, After-last_clear}
+use Rattle.in_play.proofs.record.Record.lowest_clear.Goals as goal
+use Rattle.in_play.proofs.record.Record.lowest_clear.Goals.{After-from_le_bytes-clear, After-last_clear}
 
 pub loop-g-init : goal.loop-g-init
-loop-g-init c = sym (all_left c.args.bits.now c.args.total)
+loop-g-init c = sym (all_left c.args.self.bits.now c.args.self.total)
 
 -- a group that was read
 module _ (c : After-from_le_bytes-clear) where
   abbrev bits : List ℕ
-  bits = c.args.bits.now
+  bits = c.args.self.bits.now
 
   abbrev total : ℕ
-  total = c.args.total
+  total = c.args.self.total
 
   abbrev g : ℕ
   g = c.loop-g.g
@@ -27,7 +27,7 @@ module _ (c : After-from_le_bytes-clear) where
   clear = clear_bits c.from_le_bytes-clear.result
 
   bytes : Bytes bits
-  bytes n = (c.type_inv.bits n).fits
+  bytes = c.args.self.bytes
 
   here : g < total / 64
   here = omega (arith, c.whole_groups-group-items.ensures.count)
@@ -55,13 +55,13 @@ loop-g-preserved c = passed (goal.at.loop-g-preserved c).After-from_le_bytes-cle
 -- the last group, in which there must be one
 module _ (c : After-last_clear) where
   abbrev words : List ℕ
-  words = c.args.bits.now
+  words = c.args.self.bits.now
 
   abbrev size : ℕ
-  size = c.args.total
+  size = c.args.self.total
 
   known : Bytes words
-  known n = (c.type_inv.bits n).fits
+  known = c.args.self.bytes
 
   all_there : left_from words size (size / 64) ≡ not_in_play words size
   all_there =
@@ -70,7 +70,7 @@ module _ (c : After-last_clear) where
       ap (left_from words size) (sym done) ∙ l.invariant
 
   some-there : last_clear words size ≢ 0
-  some-there = last_some words size known (omega arith) (rw all_there c.requires.1)
+  some-there = last_some words size known (omega arith) (rw all_there c.requires)
 
   low-is : count_trailing_zeros 64 c.last_clear.result ≡ count_trailing_zeros 64 (last_clear words size)
   low-is = ap (count_trailing_zeros 64) c.last_clear.ensures
