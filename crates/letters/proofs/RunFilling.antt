@@ -1,20 +1,19 @@
 -- The tiles of each node's run, written into a lent list from the last node back to the first.
 use mathlib.Core.Path.{◌≡◌, sym, ap, ◌∙◌}
-use mathlib.Core.Bool.{Bool, true, false, or-true}
+use mathlib.Core.Bool.{Bool, true, false}
 use mathlib.Core.Logic.{inl}
 use mathlib.Core.List.{List, [], ◌∷◌, ◌++◌, map}
-use mathlib.Core.Option.{Option, none, some}
+use mathlib.Core.Option.{Option, none}
 use Prim.Native.Nat.{ℕ, suc, ◌-◌, ◌≤◌, ◌<◌}
 use native.Mathlib.Omega.{arith}
-use borrow.Author.Tests.{lt-ltb, le-ltb}
-use lib.Dec.{ltb}
+use borrow.Author.Tests.{le-ltb}
 use lib.ListN.{length, drop, set, drop_of_length-le}
-use lib.Seq.{drop-cons, sets, length-sets}
+use lib.Seq.{drop-cons, sets}
 use Rattle.laws.specs.Cases.{split}
 use Rattle.laws.specs.Lists.{filtered}
 use Rattle.laws.specs.ListWrites.{sets-apart, sets-front}
-use Rattle.answers.specs.Answers.{Answer, refused, first_of}
-use Rattle.answers.specs.RowLaws.{row-refuses, row-passes, row_ends}
+use Rattle.answers.specs.Answers.{Answer, first_of}
+use Rattle.answers.specs.RowLaws.{row-passes, row_ends}
 use Rattle.node.specs.Nodes.{kbwg, tile, is_end}
 use Rattle.graph.specs.Runs.{Graph, node, run}
 use Rattle.laws.specs.Tables.{table, table-length}
@@ -26,13 +25,6 @@ module _ (g : Graph) (l a : List ℕ) where
   by_row : (o : Option Answer) → first_of (bits_row g (length l) (length a)) ≡ o → letter_bits_of g l a ≡ lettered o g l a
   unfolding letter_bits_of
   by_row o e = ap (λ p. lettered p g l a) e
-
-  pub all_short : length l < length g → letter_bits_of g l a ≡ lettered (some (refused 11 [])) g l a
-  all_short h = by_row (some (refused 11 [])) (row-refuses _ _ _ (rw (lt-ltb (length l) (length g) h)))
-
-  pub accepting-short : length a < length g → letter_bits_of g l a ≡ lettered (some (refused 11 [])) g l a
-  accepting-short h =
-      by_row (some (refused 11 [])) (row-refuses _ _ _ (rw (lt-ltb (length a) (length g) h) (or-true (ltb (length l) (length g)))))
 
   pub long-enough : length g ≤ length l → length g ≤ length a → letter_bits_of g l a ≡ lettered none g l a
   long-enough h k = by_row none (row-passes _ _ _ (rw (le-ltb (length l) (length g) h, le-ltb (length a) (length g) k)) ∙ row_ends)
@@ -62,10 +54,6 @@ module _ {test : ℕ → Bool} {g : Graph} {l₀ : List ℕ} where
   filling_start =
       let d = drop_of_length-le g {i = length g} (omega arith) in
       record { set_is = ap (tiles_of test) (sym d); list-is = ap (λ k. sets l₀ (length g) (per_node test k)) (sym d) }
-
-  module _ {l : List ℕ} {s i : ℕ} (f : RunFilling test g l₀ l s i) where
-    pub filling_length : length l ≡ length l₀
-    filling_length = ap length f.list-is ∙ length-sets l₀ i (per_node test (drop i g))
 
   filling_next : {l : List ℕ} {s i : ℕ} → RunFilling test g l₀ l s (suc i) → (x : ℕ) → i < length g
       → x ≡ marked (carry s (node g i)) (tile kbwg (node g i)) (test (node g i)) → RunFilling test g l₀ (set l i x) x i

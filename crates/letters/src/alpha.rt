@@ -60,8 +60,8 @@ fn closing(nodes: &[u32], p: usize, set: u64) -> Result<u64, NotLent>
     Err(NotLent)
 }
 
-// The walk of the cross set: for each letter, for each of its copies, along the run to the letter's node. With the run in a function of
-// its own a cross set takes a twentieth longer.
+// The walk of the cross set: for each letter, for each of its copies, along the run to the letter's node. Document 01 names the form, three
+// nested labelled loops; with the run in a function of its own a cross set takes a twentieth longer too.
 #[tactic(auto, unfolding(crate::specs::AlphaSets::cross_from))]
 fn cross_from(nodes: &[u32], tally: &[u8]) -> Result<u64, NotLent>
     requires { length tally.now ≤ 64 }

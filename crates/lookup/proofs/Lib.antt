@@ -1,5 +1,4 @@
 -- What the proofs of several functions use.
-mod OutOfRange
 mod RunSearchLaws
 mod PassedLaws
 mod WordIndexLaws

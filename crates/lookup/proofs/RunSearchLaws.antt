@@ -1,5 +1,5 @@
--- The search for a tile along a run, node by node, and the step by an arc that begins it.
-use mathlib.Core.Path.{◌≡◌, sym, ap, ◌∙◌}
+-- The search for a tile along a run, node by node.
+use mathlib.Core.Path.{◌≡◌}
 use mathlib.Core.Bool.{true, false}
 use mathlib.Core.Logic.{◌≢◌}
 use mathlib.Core.List.{[], ◌∷◌}
@@ -12,11 +12,11 @@ use lib.ListN.{length, drop, drop_of_length-le, length-drop}
 use lib.Seq.{drop-cons}
 use Rattle.laws.specs.Cases.{split}
 use Rattle.answers.specs.Answers.{nothing, refused}
-use Rattle.node.specs.Nodes.{kbwg, tile, arc, is_end}
+use Rattle.node.specs.Nodes.{kbwg, tile, is_end}
 use Rattle.graph.specs.Runs.{Graph, node}
 use Rattle.lookup.specs.Steps.{on, stop}
-use Rattle.lookup.specs.StepsLaws.{on_eq, stop-on, lent-on, lent_out}
-use Rattle.lookup.specs.Walks.{find_in, arc_of, step_to}
+use Rattle.lookup.specs.StepsLaws.{on_eq, stop-on}
+use Rattle.lookup.specs.Walks.{find_in}
 
 -- ---- at a node of the run
 module _ (g : Graph) (i t : ℕ) where
@@ -51,27 +51,3 @@ found_between (v ∷ vs) p t q e =
 
 pub found-lent : (g : Graph) (p t q : ℕ) → find_in (drop p g) p t ≡ on q → q < length g
 found-lent g p t q e = let k = found_between (drop p g) p t q e in let l = length-drop p g in omega arith
-
--- ---- by an arc
-module _ (v : ℕ) where
-  pub arc_of_none : arc kbwg v ≡ 0 → arc_of v ≡ stop nothing
-  unfolding arc_of
-  arc_of_none z = rw (eq-eqb (arc kbwg v) 0 z, arc_of)
-
-  pub arc_of_on : (q : ℕ) → q ≡ arc kbwg v → q ≢ 0 → arc_of v ≡ on q
-  unfolding arc_of
-  arc_of_on q e n = rw (ne_eqb (arc kbwg v) 0 (λ z. n (e ∙ z)), arc_of) (ap on (sym e))
-
-module _ (g : Graph) (p t : ℕ) where
-  pub step-to-out : length g ≤ p → step_to g p t ≡ stop (refused 14 [])
-  unfolding step_to
-  step-to-out h = rw (lent_out g p h)
-
-  module _ (h : p < length g) where
-    pub step-to-none : arc kbwg (node g p) ≡ 0 → step_to g p t ≡ stop nothing
-    unfolding step_to
-    step-to-none z = rw (lent-on g p h) (rw (arc_of_none (node g p) z))
-
-    pub step-to-find : (q : ℕ) → q ≡ arc kbwg (node g p) → q ≢ 0 → step_to g p t ≡ find_in (drop q g) q t
-    unfolding step_to
-    step-to-find q e n = rw (lent-on g p h) (rw (arc_of_on (node g p) q e n))

@@ -5,7 +5,7 @@ use mathlib.Core.List.{List, [], ◌∷◌}
 use Prim.Native.Nat.{ℕ, zero, suc, ◌+◌, ◌-◌, ◌≤◌, ◌<◌}
 use native.Mathlib.Omega.{arith}
 use native.Mathlib.Numerals.{add-one}
-use borrow.Author.Tests.{eqb-false, lt-ltb, le-ltb}
+use borrow.Author.Tests.{lt-ltb, le-ltb}
 use lib.Dec.{eqb}
 use lib.ListN.{length, drop, drop_of_length-le}
 use lib.Seq.{drop-cons}
@@ -16,11 +16,6 @@ use Rattle.lookup.specs.Steps.{on, stop, ◌>>=◌}
 use Rattle.lookup.specs.Walks.{Turn, last, down, words_here, turn_in, word_from}
 
 -- ---- a turn at a node
--- a number whose word does not end there is past the node's own word, if it has one
-pub past-own : (v idx : ℕ) → eqb idx 0 && accepts kbwg v ≡ false → accepts_bit kbwg v ≤ idx
-past-own v zero n = omega (arith, eqb-false (accepts_bit kbwg v) 1 n)
-past-own v (suc i) n = omega arith
-
 module _ (counts : List ℕ) (g : Graph) (p idx : ℕ) where
   pub turn-out : length g ≤ p → turn_in counts (drop p g) p idx ≡ stop (refused 14 [])
   unfolding turn_in
