@@ -14,6 +14,8 @@ pub enum Place {
     Unnumbered,
 }
 
+// The functions take the list and n apart: the walks lend the list on as a slice, and keep more in it than the record.
+
 // The blocks numbered, and the nodes of the file so far.
 #[derive(Clone, Copy)]
 pub struct BlockTally {

@@ -7,7 +7,8 @@ ghost use Rattle.graph.specs.CountLaws.{by_arc, by_run, sum_at};
 use graph::FitGraph;
 use node::Node24;
 
-// The words that go on by the node's arc.
+// The words that go on by the node's arc. This and the next read counts as `loops` reads marks, two lines each: only the value for none and the
+// words of the contract differ, so that one function for both would be no shorter.
 #[tactic(auto, unfolding(graph::specs::CountLaws::by_arc))]
 fn words_by_arc(counts: &[u32], node: u32) -> u32
     requires { arc kbwg node < length counts.now }

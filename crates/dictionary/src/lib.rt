@@ -1,8 +1,8 @@
 // A dictionary of 64-bit keys, numbered from 0 by first appearance.
 //
-// It stands in a slice that the caller lends. With room for n keys it takes 5n places. From place 0 on stand n roots, one for each of n trees,
-// which the caller clears at the beginning. From place n on each key has four numbers: its low half, its high half, and two links. The caller
-// keeps the count of the keys, 0 at the beginning.
+// It stands in a slice that the caller lends, and its links are places there: the project has no heap. With room for n keys it takes 5n places.
+// From place 0 on stand n roots, one for each of n trees, which the caller clears at the beginning. From place n on each key has four numbers:
+// its low half, its high half, and two links. The caller keeps the count of the keys, 0 at the beginning.
 //
 // A root or a link of 0 leads nowhere, any other to the key with the number one less. A search begins at the root of the key's tree and goes by
 // the bits of the key that it looks for, the lowest first: past each other key the next bit chooses one of that key's two links. A new key is

@@ -1,5 +1,5 @@
 // Words in play.
-ghost use Rattle.std.specs.Prelude.{◌≡◌, false};
+ghost use Rattle.std.specs.Prelude.{◌≡◌};
 ghost use Rattle.in_play.specs.Said.{said_play};
 ghost use Rattle.flat.specs.FlatPlays.{play_of, flat_play};
 
@@ -7,24 +7,12 @@ use answers::Refuses;
 use in_play::{PlayRefusal, Remaining};
 
 #[repr(C)]
-#[derive(Clone, Copy)]
+#[derive(Clone, Copy, Default)]
 pub struct FlatInPlay {
     pub refusal: u32,
     pub found: bool,
     pub remaining: u32,
     pub lowest: u32,
-}
-
-// All fields 0 but the refusal's number.
-fn none_found(refusal: u32) -> FlatInPlay
-    ensures { result ≡ record { refusal = refusal; found = false; remaining = 0; lowest = 0 } }
-{
-    FlatInPlay {
-        refusal,
-        found: false,
-        remaining: 0,
-        lowest: 0,
-    }
 }
 
 pub fn flat_in_play(answer: Result<Option<Remaining>, PlayRefusal>) -> FlatInPlay
@@ -33,12 +21,15 @@ pub fn flat_in_play(answer: Result<Option<Remaining>, PlayRefusal>) -> FlatInPla
 {
     match answer {
         Ok(Some(left)) => FlatInPlay {
-            refusal: 0,
             found: true,
             remaining: left.count,
             lowest: left.lowest,
+            ..FlatInPlay::default()
         },
-        Ok(None) => none_found(0),
-        Err(e) => none_found(e.number()),
+        Ok(None) => FlatInPlay::default(),
+        Err(e) => FlatInPlay {
+            refusal: e.number(),
+            ..FlatInPlay::default()
+        },
     }
 }

@@ -1,36 +1,24 @@
--- The label file is read: what that makes of the index.
-use Rattle.std.proofs.Common.{ℕ, List, ◌≤◌, refl, subst, arith, length, Ok}
-use Rattle.label_index.specs.Labels.{labels_in}
-use Rattle.label_index.specs.Index.{RangesBegin, RangesEnd, RangesWithin, FirstBytes, IndexReady}
+-- The label file is read: the numbers of its lines in order are the first in the room lent for them.
+use Rattle.std.proofs.Common.{◌≡◌, ℕ, List, ◌≤◌, ◌<◌, ◌/◌, refl, ap, arith, length, take, length-take-le, get_or-take, Ok}
+use Rattle.label_index.specs.Index.{first_in, FirstBytes}
 use Rattle.label_index.specs.Said.{FileRead}
 use Rattle.label_index.proofs.SearchLaws.{entry}
 
-module _ {file starts order : List ℕ} {n : ℕ} (x : FileRead file starts order (Ok n)) where
-  pub read_firsts : 256 ≤ length order → FirstBytes n order
-  read_firsts h =
-      let index = x.index n refl in
-      let few = index.few in
-      let k = x.count n refl in
-      record {
-        lent = omega arith;
-        bytes = λ i l.
-            let q = entry index i (omega arith) in
-            let b = q.sound.byte in let a = q.first in omega arith;
-      }
+-- a number of the part that is in use
+first-same : (n i : ℕ) (order : List ℕ) → i < n → first_in (take n order) i ≡ first_in order i
+first-same n i order h = ap (λ k. k / 262144) (get_or-take n order i 0 h)
 
-  pub read-ready : {begin end : List ℕ} → 256 ≤ length starts → 256 ≤ length order → 256 ≤ length begin → 256 ≤ length end
-      → RangesBegin n order begin → RangesEnd n order end → RangesWithin n end → IndexReady file (labels_in file) starts order begin end
-  read-ready {begin} {end} hs ho hb he b d w =
-      let index = x.index n refl in
-      let few = index.few in
-      let k = x.count n refl in
-      record {
-        index = index;
-        starts-lent = omega arith;
-        order-lent = omega arith;
-        begin-lent = hb;
-        end-lent = he;
-        begun = subst (λ j. RangesBegin j order begin) k b;
-        ended = subst (λ j. RangesEnd j order end) k d;
-        within = subst (λ j. RangesWithin j end) k w;
-      }
+pub read_firsts : {file starts order : List ℕ} {n : ℕ} → FileRead file starts order (Ok n) → 256 ≤ length order
+    → FirstBytes (length (take n order)) (take n order)
+read_firsts {file} {starts} {order} {n} x h =
+    let index = x.index n refl in
+    let few = index.few in
+    let k = x.count n refl in
+    let size = length-take-le n order (omega arith) in
+    record {
+      lent = omega arith;
+      bytes = λ i l.
+          let e = first-same n i order (omega arith) in
+          let q = entry index i (omega arith) in
+          let b = q.sound.byte in let a = q.first in omega arith;
+    }

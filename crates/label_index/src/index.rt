@@ -47,9 +47,9 @@ impl<'a> LabelIndex<'a> {
         ensures of_file { IfOk result (λ index. index.file.now ≡ file.now) }
     {
         let lines = crate::labels::read_labels(file, &mut room.starts, &mut room.order)?;
-        crate::ranges::fill_begins(&room.order, lines, &mut room.begin);
+        crate::ranges::fill_begins(&room.order[..lines], &mut room.begin);
         room.end.fill(0);
-        crate::ranges::fill_ends(&room.order, lines, &mut room.end);
+        crate::ranges::fill_ends(&room.order[..lines], &mut room.end);
         Ok(LabelIndex { file, lines, room })
     }
 

@@ -10,25 +10,25 @@ fn first_byte(key: u32) -> usize
 }
 
 // Where each first byte's range begins, from the last line to the first, so that the first place of a byte is the one that stays.
-pub(crate) fn fill_begins(order: &[u32], n: usize, begin: &mut [usize])
-    requires firsts { FirstBytes n order.now }
+pub(crate) fn fill_begins(numbers: &[u32], begin: &mut [usize])
+    requires firsts { FirstBytes (length numbers.now) numbers.now }
     requires room { 256 ≤ length begin.old }
-    ensures { RangesBegin n order.now begin.new }
+    ensures { RangesBegin (length numbers.now) numbers.now begin.new }
 {
-    for i in (0..n).rev() {
-        begin[first_byte(order[i])] = i;
+    for i in (0..numbers.len()).rev() {
+        begin[first_byte(numbers[i])] = i;
     }
 }
 
 // Where each first byte's range ends; of a byte with no line, where it ended before.
-pub(crate) fn fill_ends(order: &[u32], n: usize, end: &mut [usize])
-    requires firsts { FirstBytes n order.now }
+pub(crate) fn fill_ends(numbers: &[u32], end: &mut [usize])
+    requires firsts { FirstBytes (length numbers.now) numbers.now }
     requires room { 256 ≤ length end.old }
-    requires within { RangesWithin n end.old }
-    ensures ended { RangesEnd n order.now end.new }
-    ensures within { RangesWithin n end.new }
+    requires within { RangesWithin (length numbers.now) end.old }
+    ensures ended { RangesEnd (length numbers.now) numbers.now end.new }
+    ensures within { RangesWithin (length numbers.now) end.new }
 {
-    for i in 0..n {
-        end[first_byte(order[i])] = i + 1;
+    for i in 0..numbers.len() {
+        end[first_byte(numbers[i])] = i + 1;
     }
 }

@@ -16,7 +16,7 @@ pub struct LoopSearch {
     pub low: usize,
 }
 
-// Puts q on the stack, met from the last open node.
+// Puts q on the stack, met from the last open node. The lent lists stay parameters: two `&mut` in the struct would make each proof longer.
 pub(crate) fn meet(
     counts: &mut [u32],
     work: &mut [u32],

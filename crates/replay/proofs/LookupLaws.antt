@@ -1,20 +1,15 @@
 -- The flat answer of a number's word, over the inputs read from the words of a case, has the fields of the reply.
 use mathlib.Core.Path.{◌≡◌, ap, ◌∙◌}
 use mathlib.Core.List.{List, [], ◌∷◌, ◌++◌}
-use Prim.Native.Nat.{ℕ, ◌%◌}
+use Prim.Native.Nat.{ℕ}
 use lib.ListN.{length, get_or, take, drop}
 use Rattle.base.specs.Numbers.{flag}
 use Rattle.answers.specs.Answers.{Answer}
 use Rattle.graph.specs.Words.{Word}
-use Rattle.graph.specs.Counting.{count_limit}
-use Rattle.lookup.specs.Walks.{seek, word_index, word_by_index}
-use Rattle.cursor.specs.RunSteps.{moves}
-use Rattle.flat.specs.FlatLookups.{sought_of, flat_sought, cursor_of, flat_cursor, index_of, flat_index, flat_word, FlatWordPut}
-use Rattle.flat.specs.declared.lookups.FlatSought.{FlatSought}
-use Rattle.flat.specs.declared.lookups.FlatCursor.{FlatCursor}
-use Rattle.flat.specs.declared.lookups.FlatIndex.{FlatIndex}
+use Rattle.lookup.specs.Walks.{word_by_index}
+use Rattle.flat.specs.FlatLookups.{flat_word, FlatWordPut}
 use Rattle.flat.specs.declared.lookups.FlatWord.{FlatWord}
-use Rattle.replay.specs.Lookups.{sought_fields, cursor_fields, index_fields, word_fields, seek_reply, step_reply, index_reply, word_walk, word_reply_in, unmarked}
+use Rattle.replay.specs.Lookups.{word_fields, word_walk, word_reply_in, unmarked}
 
 module _ (ws : List ℕ) where
   walk_is : (rest g counts : List ℕ) (n p idx room : ℕ) → rest ≡ drop 3 ws → n ≡ get_or ws 2 0 → g ≡ take n rest → counts ≡ drop n rest → p ≡ get_or ws 0 0

@@ -87,6 +87,7 @@ fn judge_line<W: Write>(tally: &mut CaseTally, output: &mut Output<W>, line: &[u
     tally.verdict(output, call, replay::judge(call, &line[1..]));
 }
 
+// A line for each call: a table of names would have to keep the places of the cases too.
 fn print<W: Write>(output: &mut Output<W>, tally: &CaseTally) {
     let cases = &tally.cases;
     print_cases(output, b"node fields: ", cases[1]);

@@ -17,7 +17,7 @@ pub enum Part {
     Spoilt,
 }
 
-// The numbers before that part are complete, and there are count of them.
+// The numbers before that part are complete, and there are count of them. They stand in a list that the program lends, since memory is fixed.
 #[derive(Clone, Copy, Debug, PartialEq, Eq)]
 pub struct Line {
     pub count: usize,
@@ -94,7 +94,8 @@ impl Line {
         }
     }
 
-    // Puts a complete number after the others, and answers whether there was room for it.
+    // Puts a complete number after the others, and answers whether there was room for it. By the length: what `get_mut` ensures
+    // where it answers none does not say that the list stays as it was.
     fn keep(&mut self, value: u64, numbers: &mut [u64]) -> bool
         ensures value { result ≡ ltb self.old.count (length numbers.old) }
         ensures line { self.new ≡ record self.old { count = count_kept (length numbers.old) self.old.count } }

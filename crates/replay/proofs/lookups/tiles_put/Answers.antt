@@ -1,6 +1,5 @@
 -- `lookups::tiles_put` meets its contract: the tiles put stand before the first mark.
-use Rattle.std.proofs.Common.{◌≡◌, ◌∙◌, ap, eqb, take, length, rules, tests}
-use Rattle.std.specs.Prelude.{unwrap_or}
+use Rattle.std.proofs.Common.{◌∙◌, ap, eqb, take, rules, tests}
 use Rattle.std.proofs.lemmas.Iterator.{YieldsList-from_slice}
 use Rattle.std.proofs.lemmas.Iterator.Search.{position_from_yields_List}
 use Rattle.replay.proofs.TileLaws.{put-tiles}

@@ -1,5 +1,5 @@
 -- `verdicts::judge` meets its contract: the case is read as far as it goes, and its call is made.
-use Rattle.std.proofs.Common.{refl, sym, ◌∙◌, length}
+use Rattle.std.proofs.Common.{refl, sym, ◌∙◌}
 use Rattle.std.proofs.Math.Path.{subst}
 use Rattle.std.proofs.Math.Logic.{⊎_elim}
 use Rattle.replay.specs.Judged.{Judged}
