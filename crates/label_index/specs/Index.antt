@@ -1,4 +1,4 @@
--- What is true of every `LabelIndex`: proof matter. A reader needs only which label is taken,
+-- What is true of every `LabelIndex`, and what `index_labels` leaves and `match_at` asks for: proof matter. A reader needs only which label is taken,
 -- `match_in` (Matches.antt). "found through an index of 256 entries by first byte" (02, C-13): the lines stand in order by first byte, then longest
 -- label, then lower tile, and each first byte has a range there.
 use Rattle.std.specs.Prelude.{◌≡◌, List, [], ◌∷◌, ℕ, suc, ◌+◌, ◌-◌, ◌*◌, ◌/◌, ◌≤◌, ◌<◌, ltb, length, get_or, set, take, drop}

@@ -3,7 +3,7 @@ use Rattle.std.specs.Prelude.{◌≡◌, List, ℕ, length, drop, Option as Mayb
 use Rattle.std.proofs.Math.Option.{Option, none, some}
 use Rattle.text.specs.Lines.{lines}
 use Rattle.label_index.specs.Labels.{Label, bad_line, labels_in}
-use Rattle.label_index.specs.Index.{LabelsIndexed}
+use Rattle.label_index.specs.Index.{LabelsIndexed, IndexReady}
 use Rattle.label_index.specs.Matches.{Match}
 use Rattle.label_index.specs.declared.refusal.BadLabelLine.{BadLabelLine}
 
@@ -26,4 +26,10 @@ matched None = none
 pub record FileRead (file starts order : List ℕ) (r : Result ℕ BadLabelLine) : Type 0 where
   pub bad : bad_in r ≡ bad_line 1 (lines file)
   pub index : (n : ℕ) → r ≡ Ok n → LabelsIndexed file (labels_in file) starts order
+  pub count : (n : ℕ) → r ≡ Ok n → n ≡ length (labels_in file)
+
+-- the index is made, or the file has a bad line
+pub record FileIndexed (file starts order begin end : List ℕ) (r : Result ℕ BadLabelLine) : Type 0 where
+  pub bad : bad_in r ≡ bad_line 1 (lines file)
+  pub ready : (n : ℕ) → r ≡ Ok n → IndexReady file (labels_in file) starts order begin end
   pub count : (n : ℕ) → r ≡ Ok n → n ≡ length (labels_in file)

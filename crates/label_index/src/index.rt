@@ -1,9 +1,58 @@
 // The index of a label file: made once, and asked at each place of a text.
-ghost use Rattle.std.specs.Prelude.{◌≡◌, ◌<◌, length, drop};
+ghost use Rattle.std.specs.Prelude.{◌≡◌, ℕ, ◌<◌, ◌≤◌, length, get_or, drop};
 ghost use Rattle.label_index.specs.Labels.{labels_in};
 ghost use Rattle.label_index.specs.Index.{IndexReady};
+ghost use Rattle.label_index.specs.Matches.{match_in};
+ghost use Rattle.label_index.specs.Said.{FileIndexed, matched};
 
 use crate::refusal::BadLabelLine;
+
+// Makes the index of the label file: where each line's label begins, the order of the lines, and for each first byte its range in that
+// order. There must be room for 256 entries in each, and the ranges' ends must be 0. This and `match_at` stand beside `LabelIndex`, since
+// a caller may hold the index in slices of its own.
+pub fn index_labels(
+    file: &[u8],
+    starts: &mut [usize],
+    order: &mut [u32],
+    begin: &mut [usize],
+    end: &mut [usize],
+) -> Result<usize, BadLabelLine>
+    requires in_bounds { (256 ≤ length starts.old) × (256 ≤ length order.old) }
+    requires in_bounds_2 { (256 ≤ length begin.old) × (256 ≤ length end.old) × ((b : ℕ) → get_or end.old b 0 ≡ 0) }
+    ensures { FileIndexed file.now starts.new order.new begin.new end.new result }
+{
+    let lines = crate::labels::read_labels(file, starts, order)?;
+    crate::ranges::fill_begins(&order[..lines], begin);
+    crate::ranges::fill_ends(&order[..lines], end);
+    Ok(lines)
+}
+
+// The label taken at place i of a line, which must have that place, by the index of the whole label file: its tile, and how many bytes it has.
+#[inline(always)]
+pub fn match_at(
+    file: &[u8],
+    starts: &[usize],
+    order: &[u32],
+    begin: &[usize],
+    end: &[usize],
+    line: &[u8],
+    i: usize,
+) -> Option<(u8, usize)>
+    requires { IndexReady file.now (labels_in file.now) starts.now order.now begin.now end.now × (i < length line.now) }
+    ensures { matched result ≡ match_in (labels_in file.now) (drop i line.now) }
+{
+    let text = &line[i..];
+    let b = usize::from(line[i]);
+    for k in begin[b]..end[b] {
+        let key = order[k];
+        let start = starts[(key % 256) as usize];
+        let size = (15 - key / 16384 % 16) as usize;
+        if text.starts_with(&file[start..start + size]) {
+            return Some(((key / 256 % 64) as u8, size));
+        }
+    }
+    None
+}
 
 // Room for the index of a label file: where each line's label begins, the order of the lines, and for each first byte its range in that order.
 #[derive(Clone, Copy)]
@@ -38,18 +87,21 @@ impl<'a> LabelIndex<'a> {
     ghost use Rattle.std.specs.Prelude.{IfOk};
     ghost use Rattle.text.specs.Lines.{lines};
     ghost use Rattle.label_index.specs.Labels.{bad_line};
-    ghost use Rattle.label_index.specs.Matches.{match_in};
-    ghost use Rattle.label_index.specs.Said.{bad_in, matched};
+    ghost use Rattle.label_index.specs.Said.{bad_in};
 
     // Makes the index of a label file, or names its first bad line.
     pub fn new(file: &'a [u8], room: &'a mut IndexRoom) -> Result<LabelIndex<'a>, BadLabelLine>
         ensures bad { bad_in result ≡ bad_line 1 (lines file.now) }
         ensures of_file { IfOk result (λ index. index.file.now ≡ file.now) }
     {
-        let lines = crate::labels::read_labels(file, &mut room.starts, &mut room.order)?;
-        crate::ranges::fill_begins(&room.order[..lines], &mut room.begin);
         room.end.fill(0);
-        crate::ranges::fill_ends(&room.order[..lines], &mut room.end);
+        let lines = index_labels(
+            file,
+            &mut room.starts,
+            &mut room.order,
+            &mut room.begin,
+            &mut room.end,
+        )?;
         Ok(LabelIndex { file, lines, room })
     }
 
@@ -58,16 +110,15 @@ impl<'a> LabelIndex<'a> {
         requires { i < length line.now }
         ensures { matched result ≡ match_in (labels_in self.now.file.now) (drop i line.now) }
     {
-        let text = &line[i..];
-        let b = usize::from(line[i]);
-        for k in self.room.begin[b]..self.room.end[b] {
-            let key = self.room.order[k];
-            let start = self.room.starts[(key % 256) as usize];
-            let size = (15 - key / 16384 % 16) as usize;
-            if text.starts_with(&self.file[start..start + size]) {
-                return Some(((key / 256 % 64) as u8, size));
-            }
-        }
-        None
+        let room = self.room;
+        match_at(
+            self.file,
+            &room.starts,
+            &room.order,
+            &room.begin,
+            &room.end,
+            line,
+            i,
+        )
     }
 }

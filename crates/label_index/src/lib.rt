@@ -7,5 +7,5 @@ mod order;
 mod ranges;
 mod refusal;
 
-pub use index::{IndexRoom, LabelIndex};
+pub use index::{IndexRoom, LabelIndex, index_labels, match_at};
 pub use refusal::BadLabelLine;

@@ -18,7 +18,7 @@ fn line_length(text: &[u8]) -> usize
     text.iter().take_while(|b| !is_ending(**b)).count()
 }
 
-// How many bytes the ending takes, 0A, 0D 0A or a lone 0D, that a text begins with.
+// How many bytes the ending takes that a text begins with: 0A, 0D 0A or a lone 0D.
 fn ending_width(text: &[u8]) -> usize
     ensures width { result ≡ ending_width text.now }
     ensures fits { result ≤ length text.now }

@@ -19,7 +19,7 @@ pub struct TypedWord {
     pub tiles: usize,
 }
 
-// How many bytes the empty lines have that a text begins with.
+// How many bytes the empty lines at the front of a text have.
 fn empty_width(text: &[u8]) -> usize
     ensures width { result ≡ length (take_while (λ b. is_ending b) text.now) }
     ensures fits { result ≤ length text.now }

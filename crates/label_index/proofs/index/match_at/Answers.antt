@@ -1,4 +1,4 @@
--- `index::LabelIndex::match_at` meets its contract: no line before the place reached matches, and the first that does is the one taken.
+-- `index::match_at` meets its contract: no line before the place reached matches, and the first that does is the one taken.
 use Rattle.std.proofs.Common.{◌≡◌, ℕ, List, ◌+◌, ◌-◌, ◌≤◌, ◌<◌, sym, ◌∙◌, arith, length, get_or, drop}
 use Rattle.std.proofs.lemmas.List.{take_rest}
 use Rattle.label_index.specs.Labels.{labels_in}
@@ -6,19 +6,19 @@ use Rattle.label_index.specs.Index.{IndexReady, FirstByteRange}
 use Rattle.label_index.specs.Matches.{starts_with}
 use Rattle.label_index.proofs.RangeLaws.{first_of, range_of}
 use Rattle.label_index.proofs.SearchLaws.{start_at, size_at, bytes_at, IndexEntry, entry, starts-is, none_more, search-found, search_absent}
-use Rattle.label_index.proofs.index.LabelIndex.match_at.Goals as goal
-use Rattle.label_index.proofs.index.LabelIndex.match_at.Goals.{After-starts_with, In-loop-k, Start}
+use Rattle.label_index.proofs.index.match_at.Goals as goal
+use Rattle.label_index.proofs.index.match_at.Goals.{After-starts_with, In-loop-k, Start}
 
 -- the index, and what is left of the line
 module _ (s : Start) where
   abbrev file : List ℕ
-  file = s.args.self.now.file.now
+  file = s.args.file.now
 
   abbrev starts : List ℕ
-  starts = s.args.self.now.room.now.starts
+  starts = s.args.starts.now
 
   abbrev order : List ℕ
-  order = s.args.self.now.room.now.order
+  order = s.args.order.now
 
   abbrev text : List ℕ
   text = drop s.args.i s.args.line.now
@@ -26,10 +26,10 @@ module _ (s : Start) where
   abbrev byte : ℕ
   byte = get_or s.args.line.now s.args.i 0
 
-  abbrev ready : IndexReady file (labels_in file) starts order s.args.self.now.room.now.begin s.args.self.now.room.now.end
-  ready = s.args.self.now.ready
+  abbrev ready : IndexReady file (labels_in file) starts order s.args.begin.now s.args.end.now
+  ready = s.requires.0
 
-  range : FirstByteRange (length (labels_in file)) order (get_or text 0 0) (get_or s.args.self.now.room.now.begin byte 0) (get_or s.args.self.now.room.now.end byte 0)
+  range : FirstByteRange (length (labels_in file)) order (get_or text 0 0) (get_or s.args.begin.now byte 0) (get_or s.args.end.now byte 0)
   range = rw (first_of s.args.line.now s.args.i) (range_of ready byte)
 
 -- the line at the place reached
@@ -56,6 +56,12 @@ module _ (c : After-starts_with) where
       let e : from + size - from ≡ size = omega arith in
       rw (e, take_rest) at c.starts_with.ensures.value ∙ starts-is (bytes_at (file s) (starts s) (order s) turn.loop-k.k) (text s)
 
+pub bounds-starts-key : goal.bounds-starts-key
+bounds-starts-key c =
+    let t = (goal.at.bounds-starts-key c).In-loop-k in
+    let e = here t in
+    omega (arith, e.place, e.lent, (ready (start t)).starts-lent)
+
 pub overflow_add-start : goal.overflow_add-start
 overflow_add-start c = omega (arith, (here (goal.at.overflow_add-start c).In-loop-k).inside)
 
@@ -77,5 +83,5 @@ loop-k-preserved c =
 pub returns : goal.returns
 returns c =
     let s = (goal.at.returns c).Start in
-    let past : get_or s.args.self.now.room.now.end (byte s) 0 ≤ c.loop-k.k = rw c.from-b.ensures at c.loop-k-test.false in
+    let past : get_or s.args.end.now (byte s) 0 ≤ c.loop-k.k = rw c.from-b.ensures at c.loop-k-test.false in
     sym (search_absent (ready s).index (text s) (range s) (λ j h k. c.loop-k.invariant j h (omega arith)))

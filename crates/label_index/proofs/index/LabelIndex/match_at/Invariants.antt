@@ -1,8 +1,0 @@
--- `index::LabelIndex::match_at` meets its contract: no line before the place reached matches, and the first that does is the one taken.
-use Rattle.std.proofs.Common.{drop, get_or}
-use Rattle.label_index.proofs.SearchLaws.{NoneMatches}
-use Rattle.label_index.proofs.index.LabelIndex.match_at.Given as goal
-
-abbrev pub invariant-loop-k : goal.invariant-loop-k
-invariant-loop-k l = let x = l.self in
-    NoneMatches x.file.now x.room.now.starts x.room.now.order (drop l.i l.line) (get_or x.room.now.begin (get_or l.line l.i 0) 0) l.k
