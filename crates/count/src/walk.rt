@@ -71,6 +71,7 @@ pub(crate) fn walk(g: FitGraph<'_>, counts: &mut [u32], work: &mut [u32]) -> Res
         if work[root] == 0 {
             push(work, n, 0, root);
             let mut size: usize = 1;
+            // The stack grows and shrinks with each step, so no iterator counts the steps.
             while size > 0 {
                 size = take_step(g, counts, work, size)?;
             }
