@@ -1,5 +1,6 @@
 // The record of blocks already numbered, in a work list: for each node 0, or the place of its block plus 1; then, from n on, the blocks
 // in the order of their places; and from 2n on, for each node whose block's arcs are all followed, the runs in the longest chain from it.
+// The functions take the list and n apart: the walks lend the list on as a slice, and keep more in it than the record.
 #![tactic(auto)]
 
 ghost use Rattle.std.specs.Prelude.{◌≡◌, ◌+◌, ◌*◌, ◌≤◌, ◌<◌, length, get_or, set};
@@ -13,8 +14,6 @@ pub enum Place {
     Numbered(u32),
     Unnumbered,
 }
-
-// The functions take the list and n apart: the walks lend the list on as a slice, and keep more in it than the record.
 
 // The blocks numbered, and the nodes of the file so far.
 #[derive(Clone, Copy)]
@@ -41,11 +40,14 @@ pub fn child_place(work: &[u32], arc: u32) -> u32
     requires { arc < length work.now }
     ensures { result ≡ child_in work.now arc }
 {
-    let entry = work[arc as usize];
+    let place = place_of(work, arc as usize);
     if arc == 0 {
         return 0;
     }
-    entry.saturating_sub(1)
+    let Place::Numbered(at) = place else {
+        return 0;
+    };
+    at
 }
 
 // Numbers the block of node p, which takes `size` nodes; the record must have room for it, and the sum must fit 32 bits.

@@ -1,6 +1,6 @@
 // The places of runs in the graph: a run that is met for the first time takes those after the runs met before it. A run is known by the number
 // of the tail that it begins with. With room for n tails, places and order stand in the first 2n numbers of the work list, and from 2n on four
-// numbers for each tail, of which the first two are its node and the tail after it.
+// numbers for each tail, of which the first two are its node and the tail after it. All stand in one lent list (no heap), so n goes with it.
 ghost use Rattle.std.specs.Prelude.{◌≡◌, ◌*◌, ◌≤◌, ◌<◌, eqb, length, get_or};
 ghost use Rattle.export.specs.Blocks.{met, met_by};
 ghost use Rattle.build.specs.Numbering.{node_at, after_at, IsTail, HasLength, Numberable, ArcNumberable, NumbersAs};

@@ -13,6 +13,7 @@ pub fn read_full<R: Read>(reader: &mut R, buffer: &mut [u8]) -> io::Result<usize
     ensures end { IfOk result (λ count. count < length buffer.new → IsAtEnd (R.remaining reader.new)) }
 {
     let mut done = 0;
+    // How far a read goes is the input's choice, so no range counts the reads.
     while done < buffer.len() {
         let count = reader.read(&mut buffer[done..])?;
         if count == 0 {

@@ -58,6 +58,7 @@ pub fn number_key(dict: &mut [u32], n: usize, count: u32, key: u64) -> KeyNumber
 {
     let mut link = tree_of(n, key);
     let mut bits = key;
+    // A search goes where the links lead, so no iterator counts its steps.
     while let Some(number) = dict[link].checked_sub(1) {
         let at = n + 4 * number as usize;
         if u64::from(dict[at + 1]) * 0x100000000 + u64::from(dict[at]) == key {

@@ -89,7 +89,7 @@ impl Evening {
         }
     }
 
-    // A call over as many bytes of the record as the evening has.
+    // A call over as many bytes of the record as the evening has. A flag says which: each move is an exported call of its own.
     fn play_word<W: Write>(&mut self, output: &mut Output<W>, arrives: bool, list: &[u64]) {
         let mut word = [0u8; MOST];
         let Some(tiles) = list_in(list, &mut word) else {

@@ -31,6 +31,7 @@ fn file(refusal: u32, arc: u32, written: usize) -> FlatFile
     }
 }
 
+// A format is a number in the C interface.
 pub fn format_numbered(number: u32) -> MacondoFormat
     ensures { result ≡ format_numbered number }
 {
@@ -51,8 +52,7 @@ fn arc_past_end(why: GraphRefusal) -> u32
     }
 }
 
-// One for each writer: a trait for the arc that a writer's refusal carries would be longer than the two.
-// The same as `flat_lxd`, but for the type whose variant carries a graph's refusal.
+// The like of `flat_lxd`: a trait for the arc that a writer's refusal carries would be longer than the two.
 pub fn flat_macondo(answer: Result<usize, MacondoRefusal>) -> FlatFile
     ensures answer { file_of result ≡ said_macondo answer }
     ensures flat { result ≡ flat_file (file_of result) }

@@ -161,6 +161,7 @@ pub fn flat_repacked(answer: Result<(), Misfit>) -> FlatRepacked
     }
 }
 
+// A match of two arms: one function for all would have to say that the refusals carry nothing.
 pub fn begin_refusal(answer: Result<(), BeginRefusal>) -> u32
     ensures { plainly result (gives []) ≡ said_begin answer }
 {

@@ -22,6 +22,7 @@ pub struct FlatCross {
     pub tiles: u64,
 }
 
+// A match of two arms: one function for all would have to say that the refusals carry nothing.
 pub fn bits_refusal(answer: Result<(), ListTooShort>) -> u32
     ensures { plainly result (gives []) ≡ said_bits answer }
 {
@@ -47,6 +48,7 @@ pub fn flat_accepts(answer: Result<bool, AlphaRefusal>) -> FlatAccepts
     }
 }
 
+// One for each struct of the C interface.
 pub fn flat_cross(answer: Result<u64, AlphaRefusal>) -> FlatCross
     ensures answer { cross_of result ≡ said_cross answer }
     ensures flat { result ≡ flat_cross (cross_of result) }

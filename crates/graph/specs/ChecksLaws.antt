@@ -1,14 +1,14 @@
 -- The last node of a graph, and what holds of a graph that passes the rows of checks.
-use Rattle.std.specs.Prelude.{◌≡◌, true, false, ℕ, zero, suc, ◌-◌, ◌≤◌, ◌<◌, length, ltb}
+use Rattle.std.specs.Prelude.{◌≡◌, true, false, not, ℕ, zero, suc, ◌-◌, ◌≤◌, ◌<◌, length, leb, ltb}
 use Rattle.std.proofs.Math.Path.{refl}
-use Rattle.std.proofs.Common.{sym, ap, ◌∙◌, true≢false, arith, le_trans, leb-false, ltb-false}
+use Rattle.std.proofs.Common.{sym, ap, ◌∙◌, true≢false, arith, le_trans, leb-false, ltb-false, ltb-true}
 use mathlib.Core.List.{[], ◌∷◌}
 use Rattle.std.proofs.Math.Option.{none}
 use Rattle.std.proofs.Math.Nat.{le-max_left, le-max_right}
-use Rattle.std.proofs.lemmas.Bool.{not-false}
-use Rattle.laws.specs.Cases.{is_none, or_false-left, or_false-right}
+use Rattle.std.proofs.lemmas.Bool.{not-false, or_from, not_from_true, false_from_ne_true, leb-true}
+use Rattle.laws.specs.Cases.{split, is_some, is_none, or_false-left, or_false-right}
 use Rattle.answers.specs.Answers.{first_of}
-use Rattle.answers.specs.RowLaws.{row-passed}
+use Rattle.answers.specs.RowLaws.{row-passed, all_pass}
 use Rattle.node.specs.Nodes.{BitLayout, kbwg, arc, is_end}
 use Rattle.graph.specs.Runs.{Graph, node, largest_arc, last_ends, start_node}
 use Rattle.graph.specs.Checks.{nodes_row, graph_row, IsFit}
@@ -73,6 +73,32 @@ fit g e =
 
 pub fit-holds : (g : Graph) → IsFit g → Fit g
 fit-holds g e = fit g (is_none (first_of (graph_row g)) e)
+
+-- ---- and the other way round: a graph with these facts passes
+largest-below : (y : BitLayout) (g : Graph) (m : ℕ) → 0 < m → ((p : ℕ) → p < length g → arc y (node g p) < m) → largest_arc y g < m
+unfolding largest_arc
+largest-below y [] m h f = h
+largest-below y (v ∷ g) m h f =
+    let a : arc y v < m = f zero (omega arith) in
+    let b = largest-below y g m h (λ p k. f (suc p) (omega arith)) in
+    omega arith
+
+last-closed : (g : Graph) → 0 < length g → Closed g → last_ends kbwg g ≡ true
+last-closed g h c =
+    split (last_ends kbwg g)
+    (λ t. t)
+    (λ e. let r = c.runs (length g - 1) (omega arith) (last_of kbwg g h ∙ e) in absurd (omega arith))
+
+pub fit-passes : (g : Graph) → Fit g → IsFit g
+fit-passes g f =
+    let two = f.two in
+    let most = f.most in
+    let below = largest-below kbwg g (length g) (omega arith) f.steps.arcs in
+    let small : ltb (length g) 2 ≡ false = false_from_ne_true _ (λ t. let k = ltb-true (length g) 2 t in omega arith) in
+    let large : ltb 16_777_216 (length g) ≡ false = false_from_ne_true _ (λ t. let k = ltb-true 16_777_216 (length g) t in omega arith) in
+    let within : leb (length g) (largest_arc kbwg g) ≡ false = false_from_ne_true _ (λ t. let k = leb-true (length g) (largest_arc kbwg g) t in omega arith) in
+    let ends = not_from_true _ (last-closed g (omega arith) f.steps) in
+    ap is_some (all_pass (graph_row g) (or_from _ _ small large, (within, (ends, tt))))
 
 -- node 0 or 1 leads to the start
 pub start-inside : {g : Graph} → Fit g → (root : ℕ) → root < 2 → start_node g root < length g

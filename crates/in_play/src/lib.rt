@@ -108,7 +108,7 @@ pub fn arrive(
     play_word(Move::Arrives, lexicon, word, bits)
 }
 
-// The word is withdrawn.
+// The word is withdrawn: as `arrive`, but for the move. They are two calls of the C interface.
 pub fn leave(
     nodes: &[u32],
     counts: &[u32],

@@ -12,7 +12,8 @@ use runs::letter_set;
 
 // Numbers the blocks' letter sets and answers how many there are. For n nodes the work list must have 8n places, and the blocks' runs must
 // stand from place n on, in the order of the blocks. The number of each block's set goes to its place from 2n on; the places from 3n on are
-// lent to a dictionary with the sets as its keys, whose n roots are cleared first. Never inlined, so that its loop has the registers to itself.
+// lent to a dictionary with the sets as its keys, whose n roots are cleared first. How many blocks there are stands beside the list,
+// which is lent for more than them. Never inlined, so that its loop has the registers to itself.
 #[inline(never)]
 pub fn number_sets(nodes: &[u32], ranks: &[u8; 64], work: &mut [u32], blocks: usize) -> u32
     requires small { Small ranks.now }

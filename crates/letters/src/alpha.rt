@@ -20,7 +20,7 @@ fn completes_alpha_cross_set(
 {
     let mut p = p;
     'letters: for letter in next_letter..tally.len() {
-        // By a range here the alpha sets take up to a twentieth longer.
+        // With a range here the alpha sets take up to a twentieth longer.
         let mut left = tally[letter];
         'copies: while 0 < left {
             let Some(q) = seek_from(nodes, p, letter as u8)? else {
@@ -61,7 +61,7 @@ fn closing(nodes: &[u32], p: usize, set: u64) -> Result<u64, NotLent>
 }
 
 // The walk of the cross set: for each letter, for each of its copies, along the run to the letter's node. Document 01 names the form, three
-// nested labelled loops; with the run in a function of its own a cross set takes a twentieth longer too.
+// nested labelled loops; with the run in a function of its own a cross set takes a twentieth longer.
 #[tactic(auto, unfolding(crate::specs::AlphaSets::cross_from))]
 fn cross_from(nodes: &[u32], tally: &[u8]) -> Result<u64, NotLent>
     requires { length tally.now ≤ 64 }

@@ -29,7 +29,7 @@ pub struct Begun {
     pub loader: Loader,
 }
 
-// So does a refused feed: "each feed hands a new one back".
+// A refused feed gives a state too: by document 01 "each feed hands a new one back".
 #[derive(Clone, Copy)]
 pub struct Fed {
     pub answer: Result<(), FeedRefusal>,

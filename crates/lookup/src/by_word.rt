@@ -58,7 +58,7 @@ impl<'a> Numbered<'a> {
     fn index_of_word(self, start: usize, word: &[u8]) -> Result<Option<u32>, LookupRefusal>
         ensures { said_index result ≡ index_of_word count_limit self.entry.nodes.now self.entry.counts.now start word.now }
     {
-        // By `split_first` a call takes a tenth longer.
+        // With `split_first` a call takes a tenth longer.
         if word.is_empty() {
             return Ok(None);
         }

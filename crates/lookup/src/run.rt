@@ -41,7 +41,7 @@ pub(crate) fn find_in(nodes: &[u32], p: usize, tile: u8) -> Result<Option<usize>
     Err(NotLent)
 }
 
-// A sum or a difference that is a word number.
+// A sum or a difference that is a word number: one call each, since they differ in what is refused.
 #[tactic(auto, unfolding(crate::specs::Steps::sum))]
 pub(crate) fn sum(a: u32, b: u32) -> Result<u32, LookupRefusal>
     ensures { between_try result ≡ sum count_limit a b }

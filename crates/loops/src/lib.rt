@@ -23,6 +23,7 @@ use search::{LoopSearch, meet, search_step};
 pub const DONE: u32 = 4294967295;
 
 // Puts q on the stack of so many nodes above n marks, with its place, counted from 1, as its mark. There must be room for it.
+// Marks and stack are one lent list (no heap), so how high the stack is stands beside it.
 pub fn push(work: &mut [u32], n: usize, size: usize, q: usize)
     requires q_lt_n { q < n }
     requires size_lt_n { size < n }
@@ -52,6 +53,7 @@ pub fn lowest_loop(g: FitGraph<'_>, counts: &mut [u32], work: &mut [u32]) -> Opt
     for root in 0..n {
         if work[root] == 0 {
             s = meet(counts, work, n, s, root);
+            // Each step opens a node or passes one, so no iterator counts the steps.
             while s.top > 0 {
                 s = search_step(g, counts, work, s);
             }

@@ -98,7 +98,7 @@ fn survey_start(g: Labelled<'_>, work: &mut [u32]) -> Result<Findings, ChainTooD
     survey(g, work, start_node(g.graph))
 }
 
-// Why no file is written that has too many nodes: chains and words are asked before them. No label that is reached may lack a byte, and
+// Why a file with too many nodes is not written: chains and words are tested before the nodes. No label that is reached may lack a byte, and
 // the work list must be 8 × N long.
 fn refuse_too_many(g: Labelled<'_>, work: &mut [u32]) -> LxdRefusal
     requires nodes_in_bounds { 8 * length g.graph.nodes.now ≤ length work.old }

@@ -42,7 +42,8 @@ fn file_node(labels: &[u32], work: &[u32], node: u32) -> u32
 }
 
 // Writes the first `blocks` runs of the record's order to the bytes from 72 on, which must be there; the record must go on after them. Where
-// the next run begins is read before it is known whether this one ends, so that no branch can be mispredicted.
+// the next run begins is read before it is known whether this one ends, so that no branch can be mispredicted. The list is lent for more than
+// the order (no heap), so `blocks` stands beside it.
 pub fn write_runs(g: Labelled<'_>, work: &[u32], blocks: usize, file: &mut [u8])
     requires lxd_ready { LxdReady g.graph.nodes.now work.now }
     requires blocks_in_bounds { length g.graph.nodes.now + blocks < length work.now }
@@ -57,7 +58,7 @@ pub fn write_runs(g: Labelled<'_>, work: &[u32], blocks: usize, file: &mut [u8])
     let mut at: usize = 72;
     let mut i: usize = 0;
     let mut p = work[n] as usize;
-    // The next node is that after the last, or where the next run begins: no iterator goes so.
+    // The next node is that after the last, or where the next run begins: no iterator goes that way.
     while i < blocks {
         let node = nodes[p];
         write_le_u32(file, at, file_node(g.labels, work, node));

@@ -28,7 +28,7 @@ pub struct Walked {
     pub words: u32,
 }
 
-// Why the walk stops.
+// Why the walk stops. No refusal of a call, so without a number: the LXD writer gives each its own, and asks for chains and words first.
 #[derive(Clone, Copy, Debug, PartialEq, Eq)]
 pub enum WalkRefusal {
     TooDeep,

@@ -22,7 +22,7 @@ pub fn machirsun_arrive(
     flat_in_play(in_play::arrive(nodes, counts, start, word, bits))
 }
 
-// A word of the start is withdrawn.
+// A word of the start is withdrawn: as above, but for the move. They are two calls of the C interface.
 pub fn machirsun_leave(
     nodes: &[u32],
     counts: &[u32],

@@ -26,7 +26,7 @@ pub fn machirsun_accepts_alpha(nodes: &[u32], tally: &[u8]) -> FlatAccepts
     flat_accepts(letters::accepts_alpha(nodes, tally))
 }
 
-// The tiles that make a word with the letters of the tally; bit 0 is always set.
+// The tiles that make a word with the letters of the tally; bit 0 is always set. This and the call above are two calls of the C interface.
 pub fn machirsun_alpha_cross_set(nodes: &[u32], tally: &[u8]) -> FlatCross
     ensures answer { cross_of result ≡ cross_set nodes.now tally.now }
     ensures flat { result ≡ flat_cross (cross_of result) }

@@ -40,7 +40,7 @@ pub(crate) fn write_code_points(labels: &[u32], letters: &[u32], file: &mut [u8]
 }
 
 // Writes the first `count` letter sets of the work list for n nodes, which must hold them; the bytes must be there. A set has eight bytes from
-// two entries, so `write_each` does not serve it.
+// two entries, so `write_each` does not serve it. The list is the dictionary's, so how many sets it holds stands beside it.
 pub(crate) fn write_sets(work: &[u32], n: usize, count: usize, file: &mut [u8], at: usize)
     requires { (n ≤ 16777216) × (count ≤ n) × (8 * n ≤ length work.now) × (at + 4 + 8 * count ≤ length file.old) }
     ensures { file.new ≡ sets file.old at (section 8 (sets_in n work.now count)) }

@@ -13,7 +13,7 @@ pub enum Layout {
     Kbwg,
 }
 
-// What a node holds.
+// What a node holds. The flags are two facts of their own: no value goes with either.
 #[derive(Clone, Copy, Debug, PartialEq, Eq)]
 pub struct Fields {
     pub tile: u8,

@@ -29,7 +29,7 @@ pub(crate) fn load(stored: &[u64], words: &[u32], bytes: &[u8]) -> bool
     load_lent(stored, words, bytes, &mut nodes)
 }
 
-// By itself: the check finds its proof for any lent nodes, and not at the 8192 numbers of the array.
+// A function of its own: its proof is found for lent nodes of any length, and not for the array's 8192.
 #[tactic(auto, using(flat::specs::PlainLaws::plain_refusal), unfolding(crate::specs::Loads::load_reply, crate::specs::Loads::load_fields, pieces::specs::Pieces::load_pieces, pieces::specs::Pieces::fed_pieces, pieces::specs::Pieces::feed_all))]
 fn load_lent(stored: &[u64], words: &[u32], bytes: &[u8], nodes: &mut [u32]) -> bool
     ensures { result ≡ same stored.now (load_reply words.now bytes.now nodes.old) }

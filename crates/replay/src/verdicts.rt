@@ -29,14 +29,14 @@ pub fn judge(call: u64, case: &[u64]) -> Verdict
     ))
 }
 
-// What stands after a list of so many numbers and its length.
+// What stands after a list of so many numbers and its length: the list and then one more, so that no sum has to fit.
 fn after_list(case: &[u64], count: usize) -> &[u64]
     ensures { result.now ≡ drop (count + 1) case.now }
 {
     list_from(list_from(case, count), 1)
 }
 
-// Only repacking writes the bytes.
+// Only repacking writes the bytes. The numbers are those of the stored lists, and each call has its own inputs.
 fn replies(call: u64, stored: &[u64], words: &[u32], bytes: &mut [u8]) -> bool
     requires { (1 ≤ call) × (call ≤ 19) }
     ensures { Replied words.now bytes.old call stored.now result }

@@ -27,7 +27,7 @@ pub struct Labelled<'a> {
 }
 
 // What is known of a run: the runs in the longest chain from it, itself included, its words (at most 4,294,967,295), and whether a label
-// that can be reached has no byte.
+// that can be reached has no byte. The last is a fact of its own: no value goes with it.
 #[derive(Clone, Copy)]
 pub struct Findings {
     pub runs: u32,

@@ -31,7 +31,7 @@ fn tail_key(tile: u8, accepts: bool, child: u32, next: u32) -> u64
 
 // Closes a word down to its first `kept` tiles: each of the others becomes a tail, the last one's node an accepting one. Answers how many tails
 // there are then; or none where there are as many as a graph has room for. The dictionary of the tails must stand in `dict`, with room for n and
-// `count` tails in it, and `behind` must be that of the word.
+// `count` tails in it, and `behind` must be that of the word. The dictionary's call takes list, n and count so; see there.
 fn close_word(
     word: &[u8],
     kept: usize,
@@ -74,6 +74,7 @@ pub fn close_words(list: &[u8], work: &mut [u32], n: usize) -> Option<u32>
     let mut at = mark_words(list, marks);
     let mut behind = [0u32; 65];
     let mut tails: u32 = 0;
+    // The way back goes where the marks lead, so no iterator counts its steps.
     loop {
         let from = at + 1;
         let word = &list[from..from + usize::from(list[at])];

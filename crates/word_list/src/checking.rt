@@ -55,6 +55,7 @@ pub fn check_list(list: &[u8]) -> Result<(), ListRefusal>
 {
     let mut before: &[u8] = &[];
     let mut left = list;
+    // Each word says by its length byte where the next one begins, so no iterator goes along the list.
     while !left.is_empty() {
         let (word, after) = next_word(left).ok_or(ListRefusal::BadWord)?;
         if !is_above(before, word) {

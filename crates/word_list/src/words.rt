@@ -17,7 +17,7 @@ pub fn shared(v: &[u8], w: &[u8]) -> usize
         .count()
 }
 
-// Whether word w is above word v. By the tiles where they part: by the library's order of slices the check of a list took a seventh longer.
+// Whether word w is above word v. By the tiles where they part: by the library's order of slices the check of a list takes a seventh longer.
 pub(crate) fn is_above(v: &[u8], w: &[u8]) -> bool
     ensures { result ≡ word_below v.now w.now }
 {

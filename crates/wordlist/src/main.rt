@@ -18,6 +18,7 @@ fn print_list<W: Write>(writer: &mut W, input: &[u8; INPUT], read: usize) -> io:
     let mut work = [0u32; WORK];
     let mut block = [0u8; BLOCK];
     let mut unprinted = listing::open(input, read, &mut nodes, &mut counts, &mut work);
+    // What is left after a block stands in the block made, so each is asked for by the last.
     while let Some(made) = listing::next_block(&nodes, &counts, unprinted, &mut block) {
         writer.write_all(&block[..made.written])?;
         unprinted = made.unprinted;
