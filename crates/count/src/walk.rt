@@ -1,6 +1,7 @@
 // A depth-first walk that keeps its path in the lent work list. With N nodes, the list holds N marks and then a stack of up to N nodes,
 // each led to by the one below it. A mark is 0 for a node not met yet, i + 1 for the node at place i of the stack, and DONE for a node
-// that is counted. Only marks say what is counted: 0 is a count like others.
+// that is counted. Only marks say what is counted: 0 is a count like others. It is one list, since the caller lends all memory as one, and how
+// high the stack is stands beside it.
 ghost use Rattle.std.specs.Prelude.{◌<◌, ◌≤◌, length};
 ghost use Rattle.graph.specs.Counting.{count_limit};
 ghost use Rattle.count.specs.CountWalk.{CountWalk, NextIs, StepIs, WalkedIs};
