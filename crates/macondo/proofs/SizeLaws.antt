@@ -4,7 +4,7 @@ use mathlib.Core.List.{List}
 use Prim.Native.Nat.{ℕ, ◌+◌, ◌-◌, ◌*◌, ◌^◌, ◌≤◌, ◌<◌}
 use native.Mathlib.Omega.{arith}
 use borrow.Author.Tests.{lt-ltb, le-ltb}
-use lib.ListN.{length, drop}
+use lib.ListN.{length, take, drop}
 use lib.Seq.{sets}
 use Rattle.answers.specs.Answers.{Row, first_of}
 use Rattle.answers.specs.RowLaws.{row-refuses, row-passes, row_ends}
@@ -55,7 +55,7 @@ module _ {g : Graph} {labels : List ℕ} (c : MacondoReady g labels) (f : Format
       (many-passed t.first name lent few ∙ row-refuses _ _ _ (lt-ltb (length lent) (length (macondo_file g labels f name)) (omega arith)))
 
   pub all-written : (magic : ℕ) → big_endian 4 magic ≡ (marks f).magic → (ranks : List ℕ) → Ranks labels ranks
-      → (l : List ℕ) → l ≡ letters labels
+      → (l : List ℕ) → take (length labels - 1) l ≡ letters labels
       → n ≤ length lent → {after : List ℕ} → after ≡ sets lent 0 (file_in magic name g labels l ranks w k)
       → macondo_written_as (Ok n) after ≡ written_past 2 g labels name f lent
   all-written magic m ranks ranked l e room s =

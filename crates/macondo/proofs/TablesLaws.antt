@@ -5,7 +5,7 @@ use mathlib.Core.List.{List, [], ◌∷◌, ◌++◌, map, Memᴰ}
 use Prim.Native.Nat.{ℕ, suc, ◌+◌, ◌-◌, ◌*◌, ◌≤◌, ◌<◌}
 use native.Mathlib.Omega.{arith}
 use native.Mathlib.Nat.{add-zero, zero-add}
-use lib.ListN.{length, get_or, drop, length-drop}
+use lib.ListN.{length, get_or, take, drop, length-drop}
 use lib.Seq.{get_or-take, get_or-drop, length-take-le}
 use Rattle.laws.specs.Cases.{split}
 use Rattle.laws.specs.Firsts.{place_in, firsts}
@@ -195,7 +195,7 @@ module _ {g : Graph} {labels : List ℕ} (c : MacondoReady g labels) (f : Format
           nodes = nodes-count t.first ∙ ap length (sym nodes-are);
         }
 
-    pub tables-file-is : (magic : ℕ) → big_endian 4 magic ≡ (marks f).magic → (text letters' : List ℕ) → letters' ≡ letters labels
+    pub tables-file-is : (magic : ℕ) → big_endian 4 magic ≡ (marks f).magic → (text letters' : List ℕ) → take (length labels - 1) letters' ≡ letters labels
         → file_in magic text g labels letters' ranks w k ≡ macondo_file g labels f text
     unfolding file_in macondo_file
     tables-file-is magic m text letters' e =

@@ -56,8 +56,7 @@ fn write_numbered(
         return Err(MacondoRefusal::TooManyNodes);
     }
     let list = macondo_blocks::letters(g.labels);
-    let letters = &list[..g.labels.len() - 1];
-    let ranks = macondo_blocks::ranks(letters);
+    let ranks = macondo_blocks::ranks(&list[..g.labels.len() - 1]);
     let counts = SectionCounts {
         blocks: tally.blocks,
         sets: number_sets(g.nodes, &ranks, work, tally.blocks as usize),
@@ -68,7 +67,7 @@ fn write_numbered(
         return Err(MacondoRefusal::FileTooShort);
     }
     let t = Tables {
-        letters,
+        letters: &list,
         ranks: &ranks,
         work,
         counts,

@@ -1,6 +1,6 @@
 -- Sections of a file: their numbers written one by one, and the sections one after the other. The idea: what is left to write, written
 -- where it goes, gives the whole written at once.
-use Rattle.std.specs.Prelude.{◌≡◌, List, [], ◌∷◌, ◌++◌, map, ℕ, suc, ◌+◌, ◌*◌, ◌≤◌, ◌<◌, length, get_or, set, drop}
+use Rattle.std.specs.Prelude.{◌≡◌, List, [], ◌∷◌, ◌++◌, map, ℕ, suc, ◌+◌, ◌-◌, ◌*◌, ◌≤◌, ◌<◌, length, get_or, set, take, drop}
 use Rattle.std.proofs.Common.{refl, ap, sym, ◌∙◌, arith, add-one, below_more, length-append, drop-cons, drop_of_length-le}
 use Rattle.std.proofs.Math.ListN.{get_or-append, length-map}
 use Rattle.std.proofs.lemmas.List.Edits.{sets}
@@ -116,24 +116,24 @@ opening-length magic name =
 -- ---- the file, section after section
 pub file-stored : (magic : ℕ) (name g labels letters ranks w : List ℕ) (c : SectionCounts) (before : List ℕ) {first second third after : List ℕ}
     → first ≡ sets before 0 (big_endian 4 magic ++ (length name ∷ name))
-    → second ≡ sets first (5 + length name) (section 4 (map (λ t. get_or labels t 0) letters))
-    → third ≡ sets second (5 + length name + 4 + 4 * length letters) (section 8 (sets_in (length g) w c.sets))
-    → after ≡ sets third (5 + length name + 4 + 4 * length letters + 4 + 8 * c.sets) (section 4 (block_nodes_from g labels ranks w 0 c.blocks))
+    → second ≡ sets first (5 + length name) (section 4 (map (λ t. get_or labels t 0) (take (length labels - 1) letters)))
+    → third ≡ sets second (5 + length name + 4 + 4 * length (take (length labels - 1) letters)) (section 8 (sets_in (length g) w c.sets))
+    → after ≡ sets third (5 + length name + 4 + 4 * length (take (length labels - 1) letters) + 4 + 8 * c.sets) (section 4 (block_nodes_from g labels ranks w 0 c.blocks))
     → after ≡ sets before 0 (file_in magic name g labels letters ranks w c)
 unfolding file_in
 file-stored magic name g labels letters ranks w c before h1 h2 h3 h4 =
     let opening = big_endian 4 magic ++ (length name ∷ name) in
-    let l = map (λ t. get_or labels t 0) letters in
+    let l = map (λ t. get_or labels t 0) (take (length labels - 1) letters) in
     let s = sets_in (length g) w c.sets in
     let n = block_nodes_from g labels ranks w 0 c.blocks in
     let o = opening-length magic name in
     let a = section-length 4 l in
     let b = section-length 8 s in
-    let d = length-map letters (λ t. get_or labels t 0) in
+    let d = length-map (take (length labels - 1) letters) (λ t. get_or labels t 0) in
     let e = table-length c.sets (set_at (length g) w) in
     let e1 : 5 + length name ≡ 0 + length opening = omega arith in
-    let e2 : 5 + length name + 4 + 4 * length letters ≡ 5 + length name + length (section 4 l) = omega arith in
-    let e3 : 5 + length name + 4 + 4 * length letters + 4 + 8 * c.sets ≡ 5 + length name + 4 + 4 * length letters + length (section 8 s) =
+    let e2 : 5 + length name + 4 + 4 * length (take (length labels - 1) letters) ≡ 5 + length name + length (section 4 l) = omega arith in
+    let e3 : 5 + length name + 4 + 4 * length (take (length labels - 1) letters) + 4 + 8 * c.sets ≡ 5 + length name + 4 + 4 * length (take (length labels - 1) letters) + length (section 8 s) =
     omega arith in
     let p0 = put-start (opening ++ (section 4 l ++ (section 8 s ++ section 4 n))) before 0 in
     let p1 = put_next p0 opening (section 4 l ++ (section 8 s ++ section 4 n)) refl e1 h1 in

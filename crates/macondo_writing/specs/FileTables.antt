@@ -1,6 +1,6 @@
 -- The file's parts as the writer reads them from its tables: a list of ranks by tile, and the work list, which holds for each node the
 -- place of its block plus 1, from n on each block's run, from 2n on each block's set number, and from 3n on the dictionary of the sets.
-use Rattle.std.specs.Prelude.{◌≡◌, List, [], ◌∷◌, ◌++◌, map, ℕ, zero, suc, ◌+◌, ◌-◌, ◌*◌, ◌≤◌, ◌<◌, length, get_or}
+use Rattle.std.specs.Prelude.{◌≡◌, List, [], ◌∷◌, ◌++◌, map, ℕ, zero, suc, ◌+◌, ◌-◌, ◌*◌, ◌≤◌, ◌<◌, length, get_or, take}
 use Rattle.node.specs.Nodes.{kbwg, tile, arc}
 use Rattle.endian.specs.Bytes.{big_endian}
 use Rattle.graph.specs.Runs.{Graph}
@@ -23,11 +23,11 @@ block_nodes_from g labels ranks w j zero = []
 block_nodes_from g labels ranks w j (suc k) =
     block_in ranks w (get_or w (2 * length g + j) 0) (arcs_of g labels (get_or w (length g + j) 0)) ++ block_nodes_from g labels ranks w (suc j) k
 
--- the file, with its magic as one number, the letters in rank order and the counts that the walk made
+-- the file, with its magic as one number, the first letters of a list and the counts that the walk made
 unfoldable pub file_in : ℕ → List ℕ → Graph → List ℕ → List ℕ → List ℕ → List ℕ → SectionCounts → List ℕ
 file_in magic name g labels letters ranks w c =
     big_endian 4 magic ++ (length name ∷ name)
-    ++ (section 4 (map (λ t. get_or labels t 0) letters)
+    ++ (section 4 (map (λ t. get_or labels t 0) (take (length labels - 1) letters))
     ++ (section 8 (sets_in (length g) w c.sets) ++ section 4 (block_nodes_from g labels ranks w 0 c.blocks)))
 
 -- each number is one that the relation allows for the entry

@@ -9,7 +9,7 @@ pub struct SectionCounts {
     pub nodes: u32,
 }
 
-// What a file is written from: the letters in rank order, the letter of each tile, and the work list with the blocks and the sets.
+// What a file is written from: a list that begins with the letters in rank order, the letter of each tile, and the work list with the blocks and the sets.
 #[derive(Clone, Copy)]
 pub struct Tables<'a> {
     pub letters: &'a [u32],

@@ -59,7 +59,10 @@ write_file-requires-clause-tables_filled c =
     (omega (arith, c.requires.macondo_checked.work, c.number_sets.auto.work)) c.if-tally-gt16777216.false
 
 pub write_file-requires-clause-by_index : goal.write_file-requires-clause-by_index
-write_file-requires-clause-by_index c = letter-entries-below c.args.g.labels.now _ c.letters-list.ensures.1
+write_file-requires-clause-by_index c =
+    let most = c.args.g.ready.fifty in
+    let n = c.letters-list.ensures.0 in
+    letter-entries-below c.args.g.labels.now _ c.letters-list.ensures.1 (omega arith)
 
 pub returns : goal.returns
 returns c =
