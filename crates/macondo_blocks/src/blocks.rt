@@ -4,7 +4,7 @@ ghost use Rattle.std.specs.Prelude.{◌≡◌, ◌*◌, ◌≤◌, ◌<◌, leng
 ghost use Rattle.block_record.specs.Depths.{Below};
 ghost use Rattle.macondo_blocks.specs.Blocks.{BlocksRecorded, NumberingIs, NumberingFrom};
 
-use crate::arcs::arcs_of;
+use crate::arcs::arcs_in;
 use crate::ready::ReadyGraph;
 use block_record::{BlockTally, Place, depth_of, keep_depth, place_of, push_block};
 use node::Node24;
@@ -63,7 +63,7 @@ fn number_run(
         return Err(TooDeep);
     }
     let mut list = [0u32; 64];
-    let arcs = arcs_of(*g, p, &mut list);
+    let arcs = arcs_in(*g, p, &mut list);
     let mut sum = push_block(g.nodes.len(), work, p, t, arcs.len() as u32 + 1);
     keep_depth(g.nodes.len(), work, p, 0);
     let mut runs: u32 = 0;

@@ -9,6 +9,6 @@ mod ready;
 mod sorting;
 
 pub use alphabet::{letters, ranks};
-pub use arcs::arcs_of;
+pub use arcs::{arcs_in, arcs_of};
 pub use blocks::{Reached, TooDeep, number_blocks};
 pub use ready::ReadyGraph;

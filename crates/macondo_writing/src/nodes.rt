@@ -11,7 +11,7 @@ use crate::sections::write_each;
 use crate::tables::Tables;
 use block_record::{Place, place_of};
 use endian::write_be_u32;
-use macondo_blocks::{ReadyGraph, arcs_of};
+use macondo_blocks::{ReadyGraph, arcs_in};
 use node::Node24;
 
 // "arc: letter × 2^24 + child block"; the child must be a node, and each number fit its bits.
@@ -51,7 +51,7 @@ pub(crate) fn write_nodes(g: ReadyGraph, t: Tables, file: &mut [u8], at: usize)
     let mut list = [0u32; 64];
     let mut w = at + 4;
     for j in 0..t.counts.blocks as usize {
-        let arcs = arcs_of(g, t.work[n + j] as usize, &mut list);
+        let arcs = arcs_in(g, t.work[n + j] as usize, &mut list);
         write_block(arcs, t.work[2 * n + j], t, file, w);
         w += 4 + 4 * arcs.len();
     }

@@ -48,26 +48,26 @@ number_arc-returns t c = reaches (goal.at.number_arc-returns t c).After-depth_of
 module _ {t : ℕ} (c : number_run-After-keep_depth t) where
   opened : BlockOpened c.args.g.now.nodes.now c.args.g.now.labels.now c.args.work.now c.args.t c.args.p c.keep_depth.new.work c.push_block-sum.result
   opened =
-      let m = ap length c.arcs_of-arcs.ensures.1 in
+      let m = ap length c.arcs_in-arcs.ensures.1 in
       opens c.requires.blocks_recorded c.args.p c.requires.p_in_bounds.0 c.requires.p_value c.push_block-sum.new.work c.keep_depth.new.work c.push_block-sum.result
-      (length c.arcs_of-arcs.result.now + 1) (omega arith) c.push_block-sum.ensures c.keep_depth.ensures
+      (length c.arcs_in-arcs.result.now + 1) (omega arith) c.push_block-sum.ensures c.keep_depth.ensures
 
 -- a turn of the loop: the arc is one of the block's
 module _ {t : ℕ} (c : number_run-After-arc_index-child t) where
   turn-arc : Memᴰ c.arc_index-child.result (arcs_from c.args.g.now.nodes.now c.args.p)
   turn-arc =
       subst (λ (q : ℕ). Memᴰ q (arcs_from c.args.g.now.nodes.now c.args.p)) (sym c.arc_index-child.ensures)
-      (child-held c.args.g.now.nodes.now c.args.g.now.labels.now c.args.p _ c.arcs_of-arcs.ensures.1 c.loop-arc.arc-index c.loop-arc-test.true)
+      (child-held c.args.g.now.nodes.now c.args.g.now.labels.now c.args.p _ c.arcs_in-arcs.ensures.1 c.loop-arc.arc-index c.loop-arc-test.true)
 
 pub number_run-returns-then-chain_left-eq0 : goal.number_run-returns-then-chain_left-eq0
 number_run-returns-then-chain_left-eq0 t c = deep-at-once c.args.g.now.nodes.now c.args.p c.args.chain_left c.if-chain_left-eq0.true
 
 pub number_run-push_block-sum-requires : goal.number_run-push_block-sum-requires
 number_run-push_block-sum-requires t c =
-    push-fits c.requires.blocks_recorded c.args.p c.requires.p_in_bounds.0 c.requires.p_value c.args.g.now.ready (length c.arcs_of-arcs.result.now + 1) (omega (arith, c.arcs_of-arcs.ensures.0))
+    push-fits c.requires.blocks_recorded c.args.p c.requires.p_in_bounds.0 c.requires.p_value c.args.g.now.ready (length c.arcs_in-arcs.result.now + 1) (omega (arith, c.arcs_in-arcs.ensures.0))
 
 pub number_run-loop-arc-init : goal.number_run-loop-arc-init
-number_run-loop-arc-init t c = arc-walk-start (opened (goal.at.number_run-loop-arc-init t c).After-keep_depth) c.arcs_of-arcs.ensures.1
+number_run-loop-arc-init t c = arc-walk-start (opened (goal.at.number_run-loop-arc-init t c).After-keep_depth) c.arcs_in-arcs.ensures.1
 
 pub number_run-number_arc-requires : goal.number_run-number_arc-requires
 number_run-number_arc-requires t c =
@@ -98,4 +98,4 @@ pub number_run-returns : goal.number_run-returns
 number_run-returns t c =
     -- all are walked, and the block's depth is kept
     walk-done c.loop-arc.invariant (opened (goal.at.number_run-returns t c).After-keep_depth) c.requires.blocks_recorded c.requires.p_in_bounds.0 c.requires.p_value
-    c.if-chain_left-eq0.false c.arcs_of-arcs.ensures.1 c.loop-arc-test.false c.keep_depth-2.new.work c.keep_depth-2.ensures
+    c.if-chain_left-eq0.false c.arcs_in-arcs.ensures.1 c.loop-arc-test.false c.keep_depth-2.new.work c.keep_depth-2.ensures
