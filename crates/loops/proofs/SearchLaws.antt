@@ -35,6 +35,10 @@ module _ (g : Graph) (c w : List ℕ) (s : LoopSearch) (K : Fit g) (five_nodes :
   pub size_le : s.size ≤ n
   size_le = five_nodes.stack.few
 
+  -- so the stack's places stand in the lists
+  pub stack_fits : (s.top ≤ s.size) × (s.size ≤ n)
+  stack_fits = (top_le, size_le)
+
   -- ---- a new node goes on the stack
   module _ (q : ℕ) (q< : q < n) (new : mark w q ≡ 0) where
     pub stack-room : s.size < n

@@ -7,25 +7,13 @@ use Rattle.loops.proofs.search.search_step.Goals as goal
 use Rattle.loops.proofs.search.search_step.Goals.{Then-mark-eq0}
 
 pub overflow_add-p : goal.overflow_add-p
-overflow_add-p c =
-    let K = fit-holds _ c.args.g.fit in
-    let t = laws.top_le _ _ _ _ K c.requires.search_state in
-    let l = laws.size_le _ _ _ _ K c.requires.search_state in
-    omega arith
+overflow_add-p c = let f = laws.stack_fits _ _ _ _ (fit-holds _ c.args.g.fit) c.requires.search_state in omega (arith, f.0, f.1)
 
 pub offset_bounds-work-n : goal.offset_bounds-work-n
-offset_bounds-work-n c =
-    let K = fit-holds _ c.args.g.fit in
-    let t = laws.top_le _ _ _ _ K c.requires.search_state in
-    let l = laws.size_le _ _ _ _ K c.requires.search_state in
-    omega arith
+offset_bounds-work-n c = let f = laws.stack_fits _ _ _ _ (fit-holds _ c.args.g.fit) c.requires.search_state in omega (arith, f.0, f.1)
 
 pub bounds-work-n : goal.bounds-work-n
-bounds-work-n c =
-    let K = fit-holds _ c.args.g.fit in
-    let t = laws.top_le _ _ _ _ K c.requires.search_state in
-    let l = laws.size_le _ _ _ _ K c.requires.search_state in
-    omega arith
+bounds-work-n c = let f = laws.stack_fits _ _ _ _ (fit-holds _ c.args.g.fit) c.requires.search_state in omega (arith, f.0, f.1)
 
 -- a node that is not met
 module _ (c : Then-mark-eq0) where
