@@ -57,7 +57,10 @@ pub fn write_bytes(bytes: &mut [u8], p: usize, text: &[u8])
     requires { p + length text.now ≤ length bytes.old }
     ensures { bytes.new ≡ sets bytes.old p text.now }
 {
-    bytes[p..p + text.len()].copy_from_slice(text);
+    // Byte by byte: `copy_from_slice` is a call of C's `memmove`, a name that the static library would need from outside.
+    for (i, &byte) in text.iter().enumerate() {
+        bytes[p + i] = byte;
+    }
 }
 
 // Puts a byte at a place, which must be there, and answers the place after it.

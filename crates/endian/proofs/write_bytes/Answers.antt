@@ -1,7 +1,10 @@
--- `write_bytes` meets its contract.
-use Rattle.std.proofs.Common.{arith}
-use Rattle.endian.proofs.PartStores.{part-stored}
+-- `write_bytes` meets its contract: the bytes that are left, put behind those that are in, give what all give.
+use Rattle.std.proofs.Common.{sym, ◌∙◌, ◌+◌, arith}
+use Rattle.laws.specs.ListWrites.{sets-next, sets-done}
 use Rattle.endian.proofs.write_bytes.Goals as goal
 
+pub loop-i-preserved : goal.loop-i-preserved
+loop-i-preserved c = let a = c.args in let i = c.loop-i in sym (sets-next i.bytes a.text.now a.p i.i (omega arith)) ∙ i.invariant
+
 pub returns : goal.returns
-returns c = let a = c.args in part-stored a.bytes.now a.p _ _ a.text.now c.copy_from_slice.ensures.after (omega arith) (omega arith)
+returns c = let a = c.args in let i = c.loop-i in sym (sets-done i.bytes a.text.now (a.p + i.i) i.i (omega arith)) ∙ i.invariant
