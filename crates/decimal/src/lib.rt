@@ -39,6 +39,11 @@ pub fn put_number(number: u32, out: &mut [u8], at: usize) -> usize
     requires { at + length (decimal number) ≤ length out.old }
     ensures { Puts (decimal number) out.old at out.new result }
 {
+    // Many tiles of a list of words are below 10: their digit is put without a count and a division.
+    if number < 10 {
+        out[at] = b'0' + number as u8;
+        return at + 1;
+    }
     let end = at + digit_count(number);
     write_digits(number, &mut out[at..end]);
     end

@@ -159,13 +159,13 @@ fn print_line<W: Write>(output: &mut Output<W>, name: &[u8], numbers: &[u32]) {
     output.print(b"\n");
 }
 
+// A blank and eight digits, printed at once: an output writes each part that it is given by itself.
 fn print_hex<W: Write>(output: &mut Output<W>, number: u32) {
     let digits = b"0123456789ABCDEF";
-    output.print(b" ");
-    for byte in number.to_be_bytes() {
-        output.print(&[
-            digits[usize::from(byte / 16)],
-            digits[usize::from(byte % 16)],
-        ]);
+    let mut text = [b' '; 9];
+    for (i, byte) in number.to_be_bytes().into_iter().enumerate() {
+        text[2 * i + 1] = digits[usize::from(byte / 16)];
+        text[2 * i + 2] = digits[usize::from(byte % 16)];
     }
+    output.print(&text);
 }
