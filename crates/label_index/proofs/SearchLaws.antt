@@ -24,6 +24,14 @@ starts-is [] s = refl
 starts-is (a ∷ label) [] = refl
 starts-is (a ∷ label) (b ∷ s) = ap (eqb a b &&◌) (starts-is label s)
 
+-- a label of one byte is compared by that byte
+pub one-byte : (label s : List ℕ) → length label ≡ 1 → 0 < length s → eqb (get_or label 0 0) (get_or s 0 0) ≡ starts_with label s
+unfolding starts_with
+one-byte [] s e h = absurd (omega arith)
+one-byte (a ∷ []) [] e h = absurd (omega arith)
+one-byte (a ∷ []) (b ∷ s) e h = split (eqb a b) (λ t. rw t) (λ t. rw t)
+one-byte (a ∷ b ∷ label) s e h = absurd (omega arith)
+
 -- ---- what the code reads at a place of the order: where the line's label stands, how long it is, and its bytes
 abbrev pub start_at : (starts order : List ℕ) → ℕ → ℕ
 start_at starts order i = get_or starts (get_or order i 0 % 256) 0

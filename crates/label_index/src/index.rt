@@ -2,7 +2,7 @@
 ghost use Rattle.std.specs.Prelude.{◌≡◌, ℕ, ◌<◌, ◌≤◌, length, get_or, drop};
 ghost use Rattle.label_index.specs.Labels.{labels_in};
 ghost use Rattle.label_index.specs.Index.{IndexReady};
-ghost use Rattle.label_index.specs.Matches.{match_in};
+ghost use Rattle.label_index.specs.Matches.{starts_with, match_in};
 ghost use Rattle.label_index.specs.Said.{FileIndexed, matched};
 
 use crate::refusal::BadLabelLine;
@@ -27,6 +27,19 @@ pub fn index_labels(
     Ok(lines)
 }
 
+// Whether a text, which must not be empty, begins with a label. Most labels are one byte: for them no call compares.
+#[inline(always)]
+fn label_matches(label: &[u8], text: &[u8]) -> bool
+    requires { 0 < length text.now }
+    ensures { result ≡ starts_with label.now text.now }
+{
+    if label.len() == 1 {
+        label[0] == text[0]
+    } else {
+        text.starts_with(label)
+    }
+}
+
 // The label taken at place i of a line, which must have that place, by the index of the whole label file: its tile, and how many bytes it has.
 #[inline(always)]
 pub fn match_at(
@@ -47,7 +60,7 @@ pub fn match_at(
         let key = order[k];
         let start = starts[(key % 256) as usize];
         let size = (15 - key / 16384 % 16) as usize;
-        if text.starts_with(&file[start..start + size]) {
+        if label_matches(&file[start..start + size], text) {
             return Some(((key / 256 % 64) as u8, size));
         }
     }
@@ -106,6 +119,7 @@ impl<'a> LabelIndex<'a> {
     }
 
     // The label taken at place i of a line, which must have that place: its tile, and how many bytes it has.
+    #[inline(always)]
     pub fn match_at(&self, line: &[u8], i: usize) -> Option<(u8, usize)>
         requires { i < length line.now }
         ensures { matched result ≡ match_in (labels_in self.now.file.now) (drop i line.now) }

@@ -35,6 +35,7 @@ pub(crate) fn line_start(text: &[u8], at: usize) -> usize
 }
 
 // The word of the line at a place, which the text must have.
+#[inline(always)]
 fn word_of_line(
     index: &LabelIndex,
     text: &[u8],
@@ -56,7 +57,8 @@ fn word_of_line(
     })
 }
 
-// The next word from a place.
+// The next word from a place. Inlined, as are `word_of_line` and `read_word`, since `read_words` asks it for each line.
+#[inline(always)]
 pub(crate) fn word_from_place(
     index: &LabelIndex,
     text: &[u8],

@@ -22,6 +22,7 @@ fn at_no_label(b: u8, start: usize, i: usize, n: usize) -> Result<usize, TypedRe
 }
 
 // Puts the tiles of a line that begins at place start of the text, and answers how many. The line's places must be below 2^64.
+#[inline(always)]
 pub(crate) fn read_word(
     index: &LabelIndex,
     line: &[u8],

@@ -5,9 +5,9 @@ use Rattle.label_index.specs.Labels.{labels_in}
 use Rattle.label_index.specs.Index.{IndexReady, FirstByteRange}
 use Rattle.label_index.specs.Matches.{starts_with}
 use Rattle.label_index.proofs.RangeLaws.{first_of, range_of}
-use Rattle.label_index.proofs.SearchLaws.{start_at, size_at, bytes_at, IndexEntry, entry, starts-is, none_more, search-found, search_absent}
+use Rattle.label_index.proofs.SearchLaws.{start_at, size_at, bytes_at, IndexEntry, entry, none_more, search-found, search_absent}
 use Rattle.label_index.proofs.index.match_at.Goals as goal
-use Rattle.label_index.proofs.index.match_at.Goals.{After-starts_with, In-loop-k, Start}
+use Rattle.label_index.proofs.index.match_at.Goals.{After-label_matches, In-loop-k, Start}
 
 -- the index, and what is left of the line
 module _ (s : Start) where
@@ -44,17 +44,17 @@ module _ (c : In-loop-k) where
   here = entry (ready start).index c.loop-k.k there
 
 -- the label there is compared
-module _ (c : After-starts_with) where
+module _ (c : After-label_matches) where
   abbrev turn : In-loop-k
-  turn = (goal.at.After-starts_with c).In-loop-k
+  turn = (goal.at.After-label_matches c).In-loop-k
 
-  compared : c.starts_with.result ≡ starts_with (bytes_at (file (start turn)) (starts (start turn)) (order (start turn)) turn.loop-k.k) (text (start turn))
+  compared : c.label_matches.result ≡ starts_with (bytes_at (file (start turn)) (starts (start turn)) (order (start turn)) turn.loop-k.k) (text (start turn))
   compared =
       let s = start turn in
       let from = start_at (starts s) (order s) turn.loop-k.k in
       let size = size_at (order s) turn.loop-k.k in
       let e : from + size - from ≡ size = omega arith in
-      rw (e, take_rest) at c.starts_with.ensures.value ∙ starts-is (bytes_at (file s) (starts s) (order s) turn.loop-k.k) (text s)
+      rw (e, take_rest) at c.label_matches.ensures
 
 pub bounds-starts-key : goal.bounds-starts-key
 bounds-starts-key c =
@@ -65,20 +65,20 @@ bounds-starts-key c =
 pub overflow_add-start : goal.overflow_add-start
 overflow_add-start c = omega (arith, (here (goal.at.overflow_add-start c).In-loop-k).inside)
 
-pub slice_bounds-starts_with-end : goal.slice_bounds-starts_with-end
-slice_bounds-starts_with-end c = omega (arith, (here (goal.at.slice_bounds-starts_with-end c).In-loop-k).inside)
+pub slice_bounds-label_matches-end : goal.slice_bounds-label_matches-end
+slice_bounds-label_matches-end c = omega (arith, (here (goal.at.slice_bounds-label_matches-end c).In-loop-k).inside)
 
-pub returns-then-starts_with : goal.returns-then-starts_with
-returns-then-starts_with c =
-    let s = (goal.at.returns-then-starts_with c).After-starts_with in
+pub returns-then-label_matches : goal.returns-then-label_matches
+returns-then-label_matches c =
+    let s = (goal.at.returns-then-label_matches c).After-label_matches in
     let t = turn s in
-    sym (search-found (ready (start t)).index (text (start t)) (range (start t)) t.loop-k.k (there t) t.loop-k.invariant (sym (compared s) ∙ c.if-starts_with.true))
+    sym (search-found (ready (start t)).index (text (start t)) (range (start t)) t.loop-k.k (there t) t.loop-k.invariant (sym (compared s) ∙ c.if-label_matches.true))
 
 pub loop-k-preserved : goal.loop-k-preserved
 loop-k-preserved c =
-    let s = (goal.at.loop-k-preserved c).After-starts_with in
+    let s = (goal.at.loop-k-preserved c).After-label_matches in
     let t = turn s in
-    none_more (file (start t)) (starts (start t)) (order (start t)) (text (start t)) _ t.loop-k.k t.loop-k.invariant (sym (compared s) ∙ c.if-starts_with.false)
+    none_more (file (start t)) (starts (start t)) (order (start t)) (text (start t)) _ t.loop-k.k t.loop-k.invariant (sym (compared s) ∙ c.if-label_matches.false)
 
 pub returns : goal.returns
 returns c =
