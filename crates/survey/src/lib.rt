@@ -132,15 +132,15 @@ fn if_shallow(run: Findings, chain_left: u32) -> Result<Findings, ChainTooDeep>
 // What a node's arc leads to: no run, or one that is looked up in the tables before it is surveyed.
 #[cycle(survey_arc_survey_run)]
 fn survey_arc(
-    g: Labelled<'_>,
+    g: &Labelled<'_>,
     work: &mut [u32],
     node: u32,
     chain_left: u32,
 ) -> Result<Findings, ChainTooDeep>
-    requires survey_tables { SurveyTables g.graph.nodes.now g.labels.now work.old }
-    requires node_in_bounds { arc kbwg node < length g.graph.nodes.now }
-    ensures run { SurveyAnswers g.entry.graph.nodes.now g.entry.labels.now (has_arc node) (arc kbwg node) chain_left result }
-    ensures tables { SurveyTables g.entry.graph.nodes.now g.entry.labels.now work.new }
+    requires survey_tables { SurveyTables g.now.graph.nodes.now g.now.labels.now work.old }
+    requires node_in_bounds { arc kbwg node < length g.now.graph.nodes.now }
+    ensures run { SurveyAnswers g.now.graph.nodes.now g.now.labels.now (has_arc node) (arc kbwg node) chain_left result }
+    ensures tables { SurveyTables g.now.graph.nodes.now g.now.labels.now work.new }
 {
     let arc = Node24(node).arc_index() as usize;
     if arc == 0 {
@@ -152,18 +152,18 @@ fn survey_arc(
     if_shallow(read_findings(work, g.graph.nodes.len(), arc), chain_left)
 }
 
-// The run from node p, with so many runs left in the chain.
+// The run from node p, with so many runs left in the chain. What it goes over is lent by reference, since each run in the chain has its place on the stack.
 #[cycle(survey_arc_survey_run)]
 fn survey_run(
-    g: Labelled<'_>,
+    g: &Labelled<'_>,
     work: &mut [u32],
     p: usize,
     chain_left: u32,
 ) -> Result<Findings, ChainTooDeep>
-    requires survey_tables { SurveyTables g.graph.nodes.now g.labels.now work.old }
-    requires p_in_bounds { p < length g.graph.nodes.now }
-    ensures run { SurveyAnswers g.entry.graph.nodes.now g.entry.labels.now true p chain_left result }
-    ensures tables { SurveyTables g.entry.graph.nodes.now g.entry.labels.now work.new }
+    requires survey_tables { SurveyTables g.now.graph.nodes.now g.now.labels.now work.old }
+    requires p_in_bounds { p < length g.now.graph.nodes.now }
+    ensures run { SurveyAnswers g.now.graph.nodes.now g.now.labels.now true p chain_left result }
+    ensures tables { SurveyTables g.now.graph.nodes.now g.now.labels.now work.new }
 {
     if chain_left == 0 {
         return Err(ChainTooDeep);
@@ -186,5 +186,5 @@ pub fn survey(g: Labelled<'_>, work: &mut [u32], s: usize) -> Result<Findings, C
     ensures { SurveyIs g.entry.graph.nodes.now g.entry.labels.now 64 s result }
 {
     work[..g.graph.nodes.len()].fill(0);
-    survey_run(g, work, s, 64)
+    survey_run(&g, work, s, 64)
 }

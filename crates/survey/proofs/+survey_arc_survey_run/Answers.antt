@@ -14,13 +14,13 @@ survey_run-returns-then-chain_left-eq0-clause-run t c = deep-at-once _ _ _ c.if-
 
 pub survey_run-loop-at-init : goal.survey_run-loop-at-init
 survey_run-loop-at-init t c =
-    rw c.findings_after-run.ensures (fill_start (fit-holds _ c.args.g.graph.fit) c.requires.survey_tables c.last_unknown-last.ensures)
+    rw c.findings_after-run.ensures (fill_start (fit-holds _ c.args.g.now.graph.fit) c.requires.survey_tables c.last_unknown-last.ensures)
 
 pub survey_run-survey_arc-requires : goal.survey_run-survey_arc-requires
 survey_run-survey_arc-requires t c =
     let f = c.loop-at.invariant in
-    let inside : c.loop-at.at - 1 < length c.args.g.graph.nodes.now = omega arith in
-    (omega arith, (f.tables, (fit-holds _ c.args.g.graph.fit).steps.arcs (c.loop-at.at - 1) inside))
+    let inside : c.loop-at.at - 1 < length c.args.g.now.graph.nodes.now = omega arith in
+    (omega arith, (f.tables, (fit-holds _ c.args.g.now.graph.fit).steps.arcs (c.loop-at.at - 1) inside))
 
 pub survey_run-returns-in_err-child-clause-run : goal.survey_run-returns-in_err-child-clause-run
 survey_run-returns-in_err-child-clause-run t c =
@@ -31,9 +31,9 @@ pub survey_run-loop-at-preserved : goal.survey_run-loop-at-preserved
 survey_run-loop-at-preserved t c =
     let f = c.loop-at.invariant in
     let child = c.in_ok-child.ensures in
-    let inside : c.loop-at.at - 1 < length c.args.g.graph.nodes.now = omega arith in
-    let run = subst (FindingsOf c.args.g.graph.nodes.now c.args.g.labels.now true (c.loop-at.at - 1)) (sym c.join_node-run.ensures)
+    let inside : c.loop-at.at - 1 < length c.args.g.now.graph.nodes.now = omega arith in
+    let run = subst (FindingsOf c.args.g.now.graph.nodes.now c.args.g.now.labels.now true (c.loop-at.at - 1)) (sym c.join_node-run.ensures)
     (fill-node f (omega arith) child.run.0) in
     fill-back f (omega arith)
-    (subst (SurveyTables c.args.g.graph.nodes.now c.args.g.labels.now) (sym c.keep_findings.ensures) (tables-kept child.tables inside run))
+    (subst (SurveyTables c.args.g.now.graph.nodes.now c.args.g.now.labels.now) (sym c.keep_findings.ensures) (tables-kept child.tables inside run))
     (omega arith) run
