@@ -50,7 +50,7 @@ module _ (bits : List ℕ) (total : ℕ) where
 
       told : (k : ℕ) → k < 64 → out (64 * g + k) ≡ has_bit clear k
       told k l = let e : 64 * g + k ≡ 8 * (g * 8) + k = omega arith in
-          ap out e ∙ clear-bit bits bytes (g * 8) (g * 8 + 8) (omega arith) k (omega arith) (omega arith)
+          ap out e ∙ clear-bit bits bytes (g * 8) (g * 8 + 8) (omega arith) k (omega arith)
 
       small : clear < 2 ^ 64
       small = clear-below (joined (slice (g * 8) (g * 8 + 8) bits))
@@ -88,7 +88,7 @@ module _ (bits : List ℕ) (total : ℕ) where
     last-told k h =
         let e : 64 * (total / 64) + k ≡ 8 * (total / 64 * 8) + k = omega arith in
         ap out e
-        ∙ clear-bit bits bytes (total / 64 * 8) ((total + 7) / 8) (omega arith) k (omega arith) (omega arith)
+        ∙ clear-bit bits bytes (total / 64 * 8) ((total + 7) / 8) (omega arith) k (omega arith)
         ∙ low_bits (clear_bits (joined (slice (total / 64 * 8) ((total + 7) / 8) bits))) (total % 64) k h
 
     last-left : left_from (total / 64) ≡ filtered out (up_from (64 * (total / 64)) (total % 64))
