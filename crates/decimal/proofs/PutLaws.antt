@@ -1,7 +1,6 @@
--- Digits written from the right, the last first; and the one digit of a number below 10.
-use Rattle.std.proofs.Common.{◌≡◌, refl, List, [], ◌∷◌, ◌++◌, ℕ, zero, suc, ◌+◌, ◌/◌, ◌%◌, ◌<◌, length, set, drop, arith, add-one, append_assoc, append-nil, drop_of_length-le, le_refl}
+-- Digits written from the right, the last first.
+use Rattle.std.proofs.Common.{◌≡◌, List, [], ◌∷◌, ◌++◌, ℕ, zero, suc, ◌+◌, ◌/◌, ◌%◌, ◌<◌, length, set, drop, arith, add-one, append_assoc, append-nil, drop_of_length-le, le_refl}
 use Rattle.std.proofs.lemmas.List.{drop-set}
-use Rattle.endian.specs.Puts.{Puts}
 use Rattle.decimal.specs.Decimal.{decimal}
 use Rattle.decimal.specs.DecimalLaws.{decimal-one, decimal-more, length-one, length_more, by_tenths}
 
@@ -25,7 +24,3 @@ none_written ds n e = rw (drop_of_length-le ds (le_refl (length ds)), e, append-
 pub digit-written : (ds : List ℕ) (k n j : ℕ) → j ≡ suc k → k < length ds
     → last_digits k (n / 10) ++ drop k (set ds k (0x30 + n % 10)) ≡ last_digits j n ++ drop j ds
 digit-written ds k n j e h = rw (e, last_digits, append_assoc, drop-set ds k (0x30 + n % 10) h, add-one)
-
--- a number below 10 is put by one byte
-pub digit-put : (out : List ℕ) (at n : ℕ) → n < 10 → Puts (decimal n) out at (set out at (0x30 + n)) (at + 1)
-digit-put out at n h = rw (decimal-one n h) (record { place = refl; stored = refl })

@@ -41,8 +41,7 @@ pub fn put_number(number: u32, out: &mut [u8], at: usize) -> usize
 {
     // Many tiles of a list of words are below 10: their digit is put without a count and a division.
     if number < 10 {
-        out[at] = b'0' + number as u8;
-        return at + 1;
+        return endian::put_byte(b'0' + number as u8, out, at);
     }
     let end = at + digit_count(number);
     write_digits(number, &mut out[at..end]);

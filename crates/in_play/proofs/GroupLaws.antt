@@ -101,20 +101,17 @@ module _ (bits : List ℕ) (bytes : Bytes bits) where
       ∙ ap (λ b. has_bit b (k % 8)) (get_or-drop i (take end bits) (k / 8) 0 ∙ get_or-take end bits (i + k / 8) 0 (omega arith))
       ∙ sym (ap₂ (λ n m. has_bit (get_or bits n 0) m) q r)
 
-  pub part-within : (i end m : ℕ) → end ≤ i + m → joined (slice i end bits) < 2 ^ (8 * m)
-  part-within i end m h =
+  pub part-below : (i end m : ℕ) → end ≤ i + m → joined (slice i end bits) < 2 ^ (8 * m)
+  part-below i end m h =
       let taken = length-take end bits in
       let size = length-drop i (take end bits) in
       le_trans (joined-below (slice i end bits) (part_bytes i end)) (pow_mono {j = 8 * m} (omega arith))
-
-  pub part-below : (i end m : ℕ) → end ≤ length bits → end ≤ i + m → joined (slice i end bits) < 2 ^ (8 * m)
-  part-below i end m lent h = part-within i end m h
 
   -- the clear bits of at most eight bytes tell which numbers are not in play
   module _ (i end : ℕ) (few : end ≤ i + 8) where
     pub clear-bit : (k : ℕ) → 8 * i + k < 8 * end → not (in_play bits (8 * i + k)) ≡ has_bit (clear_bits (joined (slice i end bits))) k
     clear-bit k h =
-        let small = part-within i end 8 few in
+        let small = part-below i end 8 few in
         let other = bit_at_not w64 (joined (slice i end bits)) k small (omega arith) in
         ap not (sym (group-bit i end k h)) ∙ not-bit (joined (slice i end bits)) k ∙ ap (λ n. eqb n 1) (sym other)
 

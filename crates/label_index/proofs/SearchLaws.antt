@@ -9,6 +9,7 @@ use borrow.Author.Tests.{ltb-true, ltb-false}
 use lib.Dec.{eqb, ltb}
 use lib.ListN.{length, get_or, take, drop}
 use Rattle.std.specs.List.{starts_with as begins_with}
+use Rattle.std.proofs.Math.Bool.{and-true}
 use Rattle.laws.specs.Cases.{split}
 use Rattle.laws.specs.Members.{at_in, mem_at}
 use Rattle.label_index.specs.Labels.{Label, GoodLabel}
@@ -29,7 +30,7 @@ pub one-byte : (label s : List ℕ) → length label ≡ 1 → 0 < length s → 
 unfolding starts_with
 one-byte [] s e h = absurd (omega arith)
 one-byte (a ∷ []) [] e h = absurd (omega arith)
-one-byte (a ∷ []) (b ∷ s) e h = split (eqb a b) (λ t. rw t) (λ t. rw t)
+one-byte (a ∷ []) (b ∷ s) e h = sym (and-true (eqb a b))
 one-byte (a ∷ b ∷ label) s e h = absurd (omega arith)
 
 -- ---- what the code reads at a place of the order: where the line's label stands, how long it is, and its bytes

@@ -2,15 +2,14 @@
 use Rattle.std.proofs.Common.{arith}
 use Rattle.endian.proofs.PartStores.{part-stored}
 use Rattle.decimal.specs.Decimal.{decimal}
-use Rattle.decimal.specs.DecimalLaws.{length-one}
-use Rattle.decimal.proofs.PutLaws.{digit-put}
+use Rattle.decimal.specs.DecimalLaws.{decimal-one, length-one}
 use Rattle.decimal.proofs.put_number.Goals as goal
 
-pub bounds-out-at : goal.bounds-out-at
-bounds-out-at c = omega (arith, c.requires, length-one c.args.number c.if-number-lt10.true)
+pub put_byte-requires : goal.put_byte-requires
+put_byte-requires c = omega (arith, c.requires, length-one c.args.number c.if-number-lt10.true)
 
 pub returns-then-number-lt10 : goal.returns-then-number-lt10
-returns-then-number-lt10 c = digit-put c.args.out.now c.args.at c.args.number c.if-number-lt10.true
+returns-then-number-lt10 c = rw (decimal-one c.args.number c.if-number-lt10.true) c.put_byte.ensures
 
 pub returns : goal.returns
 returns c = let a = c.args in
